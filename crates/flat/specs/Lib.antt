@@ -1,0 +1,9 @@
+pub mod Bytes
+pub mod State
+pub mod Start
+pub mod Causes
+pub mod Effects
+pub mod Steps
+pub mod Reasons
+pub mod Isolation
+pub mod Attempts

@@ -1,0 +1,10 @@
+pub mod Alone
+pub mod Apart
+pub mod Found
+pub mod Laws
+pub mod Loaded
+pub mod Loading
+pub mod Passed
+pub mod Reading
+pub mod Rising
+pub mod Table

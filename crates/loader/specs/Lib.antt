@@ -1,0 +1,5 @@
+pub mod Checks
+pub mod Elf
+pub mod Faults
+pub mod Headers
+pub mod Programs

@@ -1,0 +1,5 @@
+pub mod Numerals
+pub mod Values
+pub mod Commands
+pub mod Filled
+pub mod Taken

@@ -1,0 +1,35 @@
+-- The program's command, as clap knows it.
+use Rattle.std.specs.Prelude.{Some, [], ◌∷◌, true, false, codes}
+use Rattle.clap.specs.Words.{App, Rule, Shape, Text, new_rule}
+use Rattle.clap.specs.Simple.{new_shape}
+use Rattle.clap.specs.declared.builder.ArgAction.TheVariants.{Append}
+
+-- the argument FILE, which has to be there
+abbrev pub file : Rule
+file = record (new_rule (codes "file")) { required = true; value_names = 1 }
+
+-- an option with one value
+abbrev pub option_named : Text → Rule
+option_named name = record (new_rule name) { long = Some name; value_names = 1 }
+
+-- the arguments WORD, as many as the user likes
+abbrev pub words : Rule
+words = record (new_rule (codes "words")) { action = Some Append; value_names = 1 }
+
+-- the subcommand `run`
+abbrev pub run : Shape
+run = record (new_shape (codes "run")) {
+  rules = file ∷ option_named (codes "harts") ∷ option_named (codes "memory")
+      ∷ option_named (codes "steps") ∷ words ∷ [];
+}
+
+-- the program, which has to be given a subcommand
+abbrev pub logtm : App
+logtm = record {
+  top = record (new_shape (codes "logtm")) {
+    is_leaf = false;
+    disable_help_subcommand = true;
+    subcommand_required = true;
+  };
+  subs = run ∷ [];
+}

@@ -1,0 +1,8 @@
+pub mod Blanks
+pub mod Noted
+pub mod Fitting
+pub mod Moved
+pub mod Planned
+pub mod Runs
+pub mod Checked
+pub mod Booted

@@ -1,0 +1,7 @@
+use Rattle.reference.proofs.Noted.{noted}
+use Rattle.reference.proofs.hart.Transaction.access.Goals as goal
+
+pub returns-clause-ok : goal.returns-clause-ok
+returns-clause-ok c size fits =
+    noted size c.args.self.now c.note.new.self c.args.m.now c.args.value c.counted-self.result
+    c.in_ok-note.ensures.reads c.in_ok-note.ensures.writes c.in_ok-note.ensures.bytes c.counted-self.ensures fits

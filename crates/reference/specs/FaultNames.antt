@@ -1,0 +1,16 @@
+-- The numbers and names of the faults of boot.
+use Rattle.std.specs.Prelude.{ℕ, List, codes}
+use Rattle.reference.specs.declared.boot.BootFault.{BootFault}
+use Rattle.reference.specs.declared.boot.BootFault.TheVariants.{BadSize, BadHarts, DoesNotFit, NoMemory}
+
+abbrev pub boot_fault_number : BootFault → ℕ
+boot_fault_number BadSize = 1
+boot_fault_number BadHarts = 2
+boot_fault_number DoesNotFit = 3
+boot_fault_number NoMemory = 4
+
+abbrev pub boot_fault_name : BootFault → List ℕ
+boot_fault_name BadSize = codes "BadSize"
+boot_fault_name BadHarts = codes "BadHarts"
+boot_fault_name DoesNotFit = codes "DoesNotFit"
+boot_fault_name NoMemory = codes "NoMemory"

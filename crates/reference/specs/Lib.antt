@@ -1,0 +1,8 @@
+pub mod Memory
+pub mod Overlays
+pub mod States
+pub mod Machines
+pub mod Reads
+pub mod Ends
+pub mod Boots
+pub mod FaultNames

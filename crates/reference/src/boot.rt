@@ -1,0 +1,213 @@
+ghost use Rattle.std.specs.Prelude.{◌≡◌, ◌<◌, ◌≤◌, ◌+◌, ◌-◌, ◌*◌, ◌^◌, ℕ, Some, None, Ok, Err, IfOk, MatchResult, cond, nat_lt, true, length, vec_len, slice_get};
+ghost use Rattle.std.specs.Option.{option_map_or};
+ghost use Rattle.std.specs.List.{list_all};
+ghost use Rattle.table.specs.Program.{holds, byte_in, image_at};
+ghost use Rattle.flat.specs.State.{Setting, idle};
+ghost use Rattle.flat.specs.Start.{first_hart};
+ghost use Rattle.reference.specs.Memory.{mem_of};
+ghost use Rattle.reference.specs.States.{hart_of};
+ghost use Rattle.reference.specs.Ends.{ends_by};
+ghost use Rattle.reference.specs.Boots.{is_size, fits_below};
+ghost use Rattle.reference.specs.declared.boot.BootFault.{BootFault};
+ghost use Rattle.reference.specs.declared.boot.BootFault.TheVariants.{NoMemory};
+ghost use Rattle.reference.specs.FaultNames.{boot_fault_number, boot_fault_name};
+
+use crate::hart::Hart;
+use crate::machine::{LOG_BYTES, Machine};
+use loader::Program;
+use std::alloc::{AllocError, Global};
+use std::error::Error;
+use std::fmt;
+use table::Segment;
+use words::{Addr, Status};
+
+/// Why a program isn't booted.
+#[derive(Clone, Copy, Debug, PartialEq, Eq)]
+pub enum BootFault {
+    /// The size of memory isn't a multiple of 4,096 from 65,536 to 4,194,304.
+    BadSize,
+    /// The number of harts isn't 1 to 8.
+    BadHarts,
+    /// A segment reaches into the stacks or the undo logs.
+    DoesNotFit,
+    NoMemory,
+}
+
+impl BootFault {
+    /// The number that is printed, 1 to 4.
+    pub fn number(self) -> u32
+        ensures { result ≡ boot_fault_number self }
+    {
+        match self {
+            BootFault::BadSize => 1,
+            BootFault::BadHarts => 2,
+            BootFault::DoesNotFit => 3,
+            BootFault::NoMemory => 4,
+        }
+    }
+
+    /// The name that is printed.
+    pub fn name(self) -> &'static str
+        ensures { result.now ≡ boot_fault_name self }
+    {
+        match self {
+            BootFault::BadSize => "BadSize",
+            BootFault::BadHarts => "BadHarts",
+            BootFault::DoesNotFit => "DoesNotFit",
+            BootFault::NoMemory => "NoMemory",
+        }
+    }
+}
+
+impl fmt::Display for BootFault {
+    fn fmt<W: fmt::Write>(&self, f: &mut fmt::Formatter<W>) -> fmt::Result {
+        write!(f, "{} {}", self.number(), self.name())
+    }
+}
+
+impl Error for BootFault {}
+
+/// Lays a segment's bytes into memory.
+fn lay_segment(memory: &mut [u8], segment: &Segment)
+    requires { segment.now.addr + segment.now.size ≤ length memory.old }
+    ensures { (a : ℕ) → mem_of memory.new a ≡ cond (holds segment.now a 1) (byte_in segment.now a) (mem_of memory.old a) }
+{
+    let start = segment.addr as usize;
+    for k in 0..segment.size as usize {
+        memory[start + k] = match segment.bytes.get(k) {
+            Some(byte) => *byte,
+            None => 0,
+        };
+    }
+}
+
+/// Lays a program's segments into memory that is all zeros, the first of them on top.
+fn lay_image(memory: &mut [u8], segments: &[Segment])
+    requires zeros { (a : ℕ) → mem_of memory.old a ≡ 0 }
+    requires fits { list_all (ends_by (length memory.old)) segments.now ≡ true }
+    ensures { (a : ℕ) → mem_of memory.new a ≡ image_at segments.now a }
+{
+    for k in 0..segments.len() {
+        lay_segment(memory, &segments[segments.len() - 1 - k]);
+    }
+}
+
+/// Hart i as it begins, in a memory of a size with a number of harts.
+fn first_hart(alloc: Global, i: usize, count: usize, size: usize, entry: Addr) -> Hart
+    requires size { size < 2 ^ 32 }
+    requires count { count ≤ 8 }
+    requires room { 8192 * count ≤ size }
+    requires hart { i < count }
+    ensures { (s : Setting) → s.size ≡ size → s.count ≡ count → hart_of size result ≡ first_hart s entry i }
+{
+    let mut regs = [0; 32];
+    regs[2] = (size - count * LOG_BYTES - i * LOG_BYTES) as u32;
+    regs[10] = i as u32;
+    regs[11] = count as u32;
+    Hart {
+        regs,
+        pc: entry,
+        output: Vec::new(alloc),
+        status: Status::Running,
+        tx: None,
+    }
+}
+
+/// All harts as they begin.
+fn first_harts(
+    alloc: Global,
+    count: usize,
+    size: usize,
+    entry: Addr,
+) -> Result<Vec<Hart>, AllocError>
+    requires size { size < 2 ^ 32 }
+    requires count { count ≤ 8 }
+    requires room { 8192 * count ≤ size }
+    ensures count { IfOk result (λ v. vec_len v ≡ count) }
+    ensures harts { IfOk result (λ v. (s : Setting) (j : ℕ) → s.size ≡ size → s.count ≡ count → option_map_or (hart_of size) (slice_get v.items j) idle ≡ cond (nat_lt j count) (first_hart s entry j) idle) }
+{
+    let mut harts = Vec::with_capacity(alloc, count)?;
+    for i in 0..count {
+        harts.push(first_hart(alloc, i, count, size, entry))?;
+    }
+    Ok(harts)
+}
+
+fn is_size(size: u32) -> bool
+    ensures { result ≡ is_size size }
+{
+    size % 4096 == 0 && size >= 65536 && size <= 4194304
+}
+
+fn fits_below(program: &Program, harts: usize, size: usize) -> bool
+    requires { 8192 * harts ≤ size }
+    ensures { result ≡ fits_below size harts program.now.segments }
+{
+    let limit = size - 8192 * harts;
+    program
+        .segments()
+        .iter()
+        .all(|s| s.addr as usize + s.size as usize <= limit)
+}
+
+impl Machine {
+    ghost use Rattle.reference.specs.Machines.{Belongs};
+    ghost use Rattle.reference.specs.Boots.{boot_fault, booted};
+
+    /// The machine that a program begins in, with a number of harts and of bytes of memory. The program is given up where it
+    /// isn't booted.
+    pub fn boot(
+        alloc: Global,
+        program: Program,
+        harts: u32,
+        size: u32,
+    ) -> Result<Machine, BootFault>
+        // The tests come in their order, before memory is asked for.
+        ensures refused { (e : BootFault) → boot_fault program harts size ≡ Some e → result ≡ Err e }
+        ensures accepted { boot_fault program harts size ≡ None → MatchResult result (λ m. Belongs (booted program harts size) m) (λ e. e ≡ BootFault.NoMemory) }
+    {
+        if !is_size(size) {
+            return Err(BootFault::BadSize);
+        }
+        if harts < 1 || harts > 8 {
+            return Err(BootFault::BadHarts);
+        }
+        let count = harts as usize;
+        let bytes = size as usize;
+        if !fits_below(&program, count, bytes) {
+            return Err(BootFault::DoesNotFit);
+        }
+        Machine::first(alloc, program, count, bytes)
+    }
+
+    /// The same, of what can be booted. The only error is want of memory.
+    fn first(
+        alloc: Global,
+        program: Program,
+        harts: usize,
+        size: usize,
+    ) -> Result<Machine, BootFault>
+        requires size { size < 2 ^ 32 }
+        requires count { harts ≤ 8 }
+        requires room { 8192 * harts ≤ size }
+        requires fits { fits_below size harts program.segments ≡ true }
+        ensures { MatchResult result (λ m. Belongs (booted program harts size) m) (λ e. e ≡ BootFault.NoMemory) }
+    {
+        let mut memory = vec![in alloc; 0; size]?;
+        lay_image(&mut memory, program.segments());
+        let harts = first_harts(alloc, harts, size, program.entry())?;
+        Ok(Machine {
+            program,
+            memory,
+            harts,
+        })
+    }
+}
+
+impl From<AllocError> for BootFault {
+    ghost from_gives = { λ _ e. e ≡ NoMemory };
+
+    fn from(_: AllocError) -> BootFault {
+        BootFault::NoMemory
+    }
+}

@@ -1,0 +1,25 @@
+//! The plain machine: one memory, and harts whose transactions keep what they did to themselves until they commit.
+//!
+//! It makes steps of the flat machine (`step`, `run`), and it checks entries (`check`, `check_all`): it accepts just those that
+//! carry the flat state on. It has no caches, keeps no logs and sends no messages.
+#![tactic(auto)]
+
+mod boot;
+mod bytes;
+mod changes;
+mod check;
+mod conflicts;
+mod hart;
+mod machine;
+mod overlay;
+mod reads;
+mod room;
+mod step;
+
+pub use boot::BootFault;
+pub use hart::{Hart, Transaction};
+pub use machine::{Machine, Turn};
+pub use overlay::{Footprint, Overlay};
+
+#[cfg(test)]
+mod tests;

@@ -1,0 +1,6 @@
+pub mod Fields
+pub mod Numbers
+pub mod Effects
+pub mod Table
+pub mod Program
+pub mod ByInstr

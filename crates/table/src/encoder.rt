@@ -1,0 +1,252 @@
+ghost use Rattle.std.specs.Prelude.{◌≡◌, ◌<◌, ◌*◌, ◌/◌, ◌%◌, ℕ, bit_and, Some};
+ghost use Rattle.table.specs.Fields.{opcode_of, rd_of, funct3_of, rs1_of, rs2_of, funct7_of, imm_i_of, imm_s_of, imm_b_of, imm_u_of, imm_j_of, fence_bits_of};
+ghost use Rattle.table.specs.Table.{decoded};
+
+use crate::instr::{AluOp, BranchOp, ImmOp, Instr, LoadOp, ShiftOp, StoreOp};
+use crate::operand::{AbortOffset, BranchOffset, FenceBits, Imm12, JumpOffset, Shamt, UpperImm};
+use words::Reg;
+
+/// The word of an instruction: the only one that is decoded to it.
+#[tactic(auto, using(crate::proofs::OneWord::one_word))]
+pub fn encode(instr: Instr) -> u32
+    ensures again { decoded result ≡ Some instr }
+    ensures back { (w : ℕ) → w < 4294967296 → decoded w ≡ Some instr → result ≡ w }
+{
+    word_of(instr)
+}
+
+#[tactic(auto, unfolding(crate::specs::Table::decoded))]
+fn word_of(instr: Instr) -> u32
+    ensures { decoded result ≡ Some instr }
+{
+    match instr {
+        Instr::Lui { rd, imm } => u_word(0x37, rd, imm),
+        Instr::Auipc { rd, imm } => u_word(0x17, rd, imm),
+        Instr::Jal { rd, offset } => j_word(rd, offset),
+        Instr::Jalr { rd, rs1, imm } => i_word(0x67, rd, 0, rs1, imm),
+        Instr::Branch {
+            op,
+            rs1,
+            rs2,
+            offset,
+        } => encode_branch(op, rs1, rs2, offset),
+        Instr::Load { op, rd, rs1, imm } => encode_load(op, rd, rs1, imm),
+        Instr::Store { op, rs1, rs2, imm } => encode_store(op, rs1, rs2, imm),
+        Instr::OpImm { op, rd, rs1, imm } => encode_op_imm(op, rd, rs1, imm),
+        Instr::ShiftImm {
+            op,
+            rd,
+            rs1,
+            amount,
+        } => encode_shift_imm(op, rd, rs1, amount),
+        Instr::Op { op, rd, rs1, rs2 } => encode_op(op, rd, rs1, rs2),
+        Instr::Fence { bits } => fence_word(bits),
+        Instr::Ecall => 0x0000_0073,
+        Instr::Ebreak => 0x0010_0073,
+        Instr::TBegin { offset } => begin_word(offset),
+        Instr::TCommit => 0x0000_100b,
+        Instr::TAbort => 0x0000_200b,
+    }
+}
+
+#[tactic(auto, unfolding(crate::specs::Table::decoded))]
+fn encode_branch(op: BranchOp, rs1: Reg, rs2: Reg, offset: BranchOffset) -> u32
+    ensures { decoded result ≡ Some (Instr.Branch op rs1 rs2 offset) }
+{
+    let funct3 = match op {
+        BranchOp::Eq => 0,
+        BranchOp::Ne => 1,
+        BranchOp::Lt => 4,
+        BranchOp::Ge => 5,
+        BranchOp::Ltu => 6,
+        BranchOp::Geu => 7,
+    };
+    b_word(0x63, funct3, rs1, rs2, offset)
+}
+
+#[tactic(auto, unfolding(crate::specs::Table::decoded))]
+fn encode_load(op: LoadOp, rd: Reg, rs1: Reg, imm: Imm12) -> u32
+    ensures { decoded result ≡ Some (Instr.Load op rd rs1 imm) }
+{
+    let funct3 = match op {
+        LoadOp::Byte => 0,
+        LoadOp::Half => 1,
+        LoadOp::Word => 2,
+        LoadOp::ByteUnsigned => 4,
+        LoadOp::HalfUnsigned => 5,
+    };
+    i_word(0x03, rd, funct3, rs1, imm)
+}
+
+#[tactic(auto, unfolding(crate::specs::Table::decoded))]
+fn encode_store(op: StoreOp, rs1: Reg, rs2: Reg, imm: Imm12) -> u32
+    ensures { decoded result ≡ Some (Instr.Store op rs1 rs2 imm) }
+{
+    let funct3 = match op {
+        StoreOp::Byte => 0,
+        StoreOp::Half => 1,
+        StoreOp::Word => 2,
+    };
+    s_word(funct3, rs1, rs2, imm)
+}
+
+#[tactic(auto, unfolding(crate::specs::Table::decoded))]
+fn encode_op_imm(op: ImmOp, rd: Reg, rs1: Reg, imm: Imm12) -> u32
+    ensures { decoded result ≡ Some (Instr.OpImm op rd rs1 imm) }
+{
+    let funct3 = match op {
+        ImmOp::Add => 0,
+        ImmOp::Slt => 2,
+        ImmOp::Sltu => 3,
+        ImmOp::Xor => 4,
+        ImmOp::Or => 6,
+        ImmOp::And => 7,
+    };
+    i_word(0x13, rd, funct3, rs1, imm)
+}
+
+#[tactic(auto, unfolding(crate::specs::Table::decoded))]
+fn encode_shift_imm(op: ShiftOp, rd: Reg, rs1: Reg, amount: Shamt) -> u32
+    ensures { decoded result ≡ Some (Instr.ShiftImm op rd rs1 amount) }
+{
+    let (funct3, funct7) = match op {
+        ShiftOp::Sll => (1, 0),
+        ShiftOp::Srl => (5, 0),
+        ShiftOp::Sra => (5, 32),
+    };
+    r_word(0x13, rd, funct3, rs1, amount.value(), funct7)
+}
+
+#[tactic(auto, unfolding(crate::specs::Table::decoded))]
+fn encode_op(op: AluOp, rd: Reg, rs1: Reg, rs2: Reg) -> u32
+    ensures { decoded result ≡ Some (Instr.Op op rd rs1 rs2) }
+{
+    let (funct3, funct7) = match op {
+        AluOp::Add => (0, 0),
+        AluOp::Sub => (0, 32),
+        AluOp::Sll => (1, 0),
+        AluOp::Slt => (2, 0),
+        AluOp::Sltu => (3, 0),
+        AluOp::Xor => (4, 0),
+        AluOp::Srl => (5, 0),
+        AluOp::Sra => (5, 32),
+        AluOp::Or => (6, 0),
+        AluOp::And => (7, 0),
+    };
+    r_word(0x33, rd, funct3, rs1, place(rs2), funct7)
+}
+
+/// The number of a register as it stands in a field.
+fn place(r: Reg) -> u32
+    ensures value { result ≡ r }
+    ensures bound { result < 32 }
+{
+    r.index() as u32
+}
+
+/// The word of the R format with these fields. Where rs2 stands, the shifts have their amount.
+fn r_word(opcode: u32, rd: Reg, funct3: u32, rs1: Reg, rs2: u32, funct7: u32) -> u32
+    requires opcode { opcode < 128 }
+    requires funct3 { funct3 < 8 }
+    requires rs2 { rs2 < 32 }
+    requires funct7 { funct7 < 128 }
+    ensures opcode { opcode_of result ≡ opcode }
+    ensures rd { rd_of result ≡ rd }
+    ensures funct3 { funct3_of result ≡ funct3 }
+    ensures rs1 { rs1_of result ≡ rs1 }
+    ensures rs2 { rs2_of result ≡ rs2 }
+    ensures funct7 { funct7_of result ≡ funct7 }
+{
+    (funct7 << 25) + (rs2 << 20) + (place(rs1) << 15) + (funct3 << 12) + (place(rd) << 7) + opcode
+}
+
+fn i_word(opcode: u32, rd: Reg, funct3: u32, rs1: Reg, imm: Imm12) -> u32
+    requires opcode { opcode < 128 }
+    requires funct3 { funct3 < 8 }
+    ensures opcode { opcode_of result ≡ opcode }
+    ensures rd { rd_of result ≡ rd }
+    ensures funct3 { funct3_of result ≡ funct3 }
+    ensures rs1 { rs1_of result ≡ rs1 }
+    ensures imm { imm_i_of result ≡ imm }
+{
+    ((imm.value() & 0xfff) << 20) + (place(rs1) << 15) + (funct3 << 12) + (place(rd) << 7) + opcode
+}
+
+fn s_word(funct3: u32, rs1: Reg, rs2: Reg, imm: Imm12) -> u32
+    requires { funct3 < 8 }
+    ensures opcode { opcode_of result ≡ 35 }
+    ensures funct3 { funct3_of result ≡ funct3 }
+    ensures rs1 { rs1_of result ≡ rs1 }
+    ensures rs2 { rs2_of result ≡ rs2 }
+    ensures imm { imm_s_of result ≡ imm }
+{
+    let bits = imm.value();
+    (((bits >> 5) & 0x7f) << 25)
+        + (place(rs2) << 20)
+        + (place(rs1) << 15)
+        + (funct3 << 12)
+        + ((bits & 0x1f) << 7)
+        + 0x23
+}
+
+fn b_word(opcode: u32, funct3: u32, rs1: Reg, rs2: Reg, offset: BranchOffset) -> u32
+    requires opcode { opcode < 128 }
+    requires funct3 { funct3 < 8 }
+    ensures opcode { opcode_of result ≡ opcode }
+    ensures funct3 { funct3_of result ≡ funct3 }
+    ensures rs1 { rs1_of result ≡ rs1 }
+    ensures rs2 { rs2_of result ≡ rs2 }
+    ensures imm { imm_b_of result ≡ offset }
+{
+    let bits = offset.value();
+    (((bits >> 12) & 1) << 31)
+        + (((bits >> 5) & 0x3f) << 25)
+        + (place(rs2) << 20)
+        + (place(rs1) << 15)
+        + (funct3 << 12)
+        + (((bits >> 1) & 0xf) << 8)
+        + (((bits >> 11) & 1) << 7)
+        + opcode
+}
+
+fn u_word(opcode: u32, rd: Reg, imm: UpperImm) -> u32
+    requires { opcode < 128 }
+    ensures opcode { opcode_of result ≡ opcode }
+    ensures rd { rd_of result ≡ rd }
+    ensures imm { imm_u_of result ≡ imm }
+{
+    imm.value() + (place(rd) << 7) + opcode
+}
+
+fn j_word(rd: Reg, offset: JumpOffset) -> u32
+    ensures opcode { opcode_of result ≡ 111 }
+    ensures rd { rd_of result ≡ rd }
+    ensures imm { imm_j_of result ≡ offset }
+{
+    let bits = offset.value();
+    (((bits >> 20) & 1) << 31)
+        + (((bits >> 1) & 0x3ff) << 21)
+        + (((bits >> 11) & 1) << 20)
+        + (((bits >> 12) & 0xff) << 12)
+        + (place(rd) << 7)
+        + 0x6f
+}
+
+fn fence_word(bits: FenceBits) -> u32
+    ensures opcode { opcode_of result ≡ 15 }
+    ensures funct3 { funct3_of result ≡ 0 }
+    ensures bits { fence_bits_of result ≡ bits }
+{
+    ((bits.value() >> 5) << 15) + ((bits.value() & 0x1f) << 7) + 0x0f
+}
+
+/// A word of the B format in custom-0, with funct3 0 and x0 for both registers.
+#[tactic(auto, using(crate::proofs::Begin::passes_mask))]
+fn begin_word(offset: AbortOffset) -> u32
+    ensures opcode { opcode_of result ≡ 11 }
+    ensures masked { bit_and result 33550719 ≡ 11 }
+    ensures imm { imm_b_of result ≡ offset }
+{
+    let zero = Reg::new(0);
+    b_word(0x0b, 0, zero, zero, BranchOffset::new(offset.value()))
+}

@@ -1,0 +1,27 @@
+//! The instruction table: words, instructions, what they do, and where a program has them.
+#![tactic(auto)]
+
+mod alu_unit;
+mod decoder;
+mod effect;
+mod encoder;
+mod executor;
+mod fields;
+mod instr;
+mod laws;
+mod operand;
+#[cfg(test)]
+mod tests;
+mod text;
+
+pub use decoder::decode;
+pub use effect::{Act, Effect, Load, MemoryAct, Store};
+pub use encoder::encode;
+pub use executor::{
+    byte_count, effect_at, execute, extend_load, finish_load, finish_store, register,
+    write_register, write_to,
+};
+pub use instr::{AluOp, BranchOp, ImmOp, Instr, LoadOp, ShiftOp, StoreOp};
+pub use laws::one_row;
+pub use operand::{AbortOffset, BranchOffset, FenceBits, Imm12, JumpOffset, Shamt, UpperImm};
+pub use text::{Segment, Text};

@@ -1,0 +1,3 @@
+pub mod Causes
+pub mod Harts
+pub mod Taken
