@@ -3,6 +3,7 @@ use Rattle.std.specs.Prelude.{ℕ, ◌≡◌, ◌+◌, ◌-◌, ◌/◌, min, Bo
 use Rattle.words.specs.declared.entry.Entry.{Entry}
 use Rattle.words.specs.declared.entry.Entry.TheVariants.{Retire, Abort, Trap, Refuse, Spill}
 use Rattle.words.specs.declared.stamp.Stamp.{Stamp}
+use Rattle.words.specs.Stamps.{is_earlier}
 use Rattle.table.specs.declared.instr.Instr.{Instr}
 use Rattle.table.specs.declared.instr.Instr.TheVariants as instr
 use Rattle.table.specs.declared.effect.Act.{Act}
@@ -28,10 +29,6 @@ pub record Past : Type 0 where
 pub record History : Type 0 where
   pub taken : ℕ
   pub past : ℕ → Past
-
--- of two stamps, the smaller count is earlier, or at one count the smaller hart
-abbrev pub is_earlier : Stamp → Stamp → Bool
-is_earlier a b = nat_lt a.count b.count || ((a.count == b.count) && nat_lt a.hart b.hart)
 
 -- both run transactions, and the first one's stamp is the earlier
 abbrev pub is_older : Past → Past → Bool

@@ -1,4 +1,3 @@
-pub mod Blanks
 pub mod Noted
 pub mod Fitting
 pub mod Moved

@@ -1,5 +1,6 @@
--- The numbers and names of the faults of boot.
-use Rattle.std.specs.Prelude.{ℕ, List, codes}
+-- The numbers, names and texts of the faults of boot.
+use Rattle.std.specs.Prelude.{ℕ, ◌++◌, List, codes}
+use Rattle.std.specs.Fmt.{decimal}
 use Rattle.reference.specs.declared.boot.BootFault.{BootFault}
 use Rattle.reference.specs.declared.boot.BootFault.TheVariants.{BadSize, BadHarts, DoesNotFit, NoMemory}
 
@@ -14,3 +15,7 @@ boot_fault_name BadSize = codes "BadSize"
 boot_fault_name BadHarts = codes "BadHarts"
 boot_fault_name DoesNotFit = codes "DoesNotFit"
 boot_fault_name NoMemory = codes "NoMemory"
+
+-- the number, a space, and the name
+abbrev pub boot_fault_text : BootFault → List ℕ
+boot_fault_text fault = decimal (boot_fault_number fault) ++ codes " " ++ boot_fault_name fault

@@ -1,5 +1,3 @@
-pub mod Memory
-pub mod Overlays
 pub mod States
 pub mod Machines
 pub mod Reads

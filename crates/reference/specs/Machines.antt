@@ -18,7 +18,7 @@ use Rattle.flat.specs.Steps.{IsRunning, Retires, retired, MayAbort, CarriesSome,
 use Rattle.reference.specs.declared.machine.Machine.{Machine}
 use Rattle.reference.specs.declared.machine.Turn.{Turn}
 use Rattle.reference.specs.declared.machine.Turn.TheVariants.{Idle, Stops, Goes}
-use Rattle.reference.specs.Memory.{mem_of}
+use Rattle.overlay.specs.Memory.{mem_of}
 use Rattle.reference.specs.States.{hart_of}
 
 abbrev pub setting_of : Machine → Setting

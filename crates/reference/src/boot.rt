@@ -4,13 +4,13 @@ ghost use Rattle.std.specs.List.{list_all};
 ghost use Rattle.table.specs.Program.{holds, byte_in, image_at};
 ghost use Rattle.flat.specs.State.{Setting, idle};
 ghost use Rattle.flat.specs.Start.{first_hart};
-ghost use Rattle.reference.specs.Memory.{mem_of};
+ghost use Rattle.overlay.specs.Memory.{mem_of};
 ghost use Rattle.reference.specs.States.{hart_of};
 ghost use Rattle.reference.specs.Ends.{ends_by};
 ghost use Rattle.reference.specs.Boots.{is_size, fits_below};
 ghost use Rattle.reference.specs.declared.boot.BootFault.{BootFault};
 ghost use Rattle.reference.specs.declared.boot.BootFault.TheVariants.{NoMemory};
-ghost use Rattle.reference.specs.FaultNames.{boot_fault_number, boot_fault_name};
+ghost use Rattle.reference.specs.FaultNames.{boot_fault_number, boot_fault_name, boot_fault_text};
 
 use crate::hart::Hart;
 use crate::machine::{LOG_BYTES, Machine};
@@ -60,6 +60,8 @@ impl BootFault {
 }
 
 impl fmt::Display for BootFault {
+    ghost output = { λ fault. Some (boot_fault_text fault) };
+
     fn fmt<W: fmt::Write>(&self, f: &mut fmt::Formatter<W>) -> fmt::Result {
         write!(f, "{} {}", self.number(), self.name())
     }

@@ -5,21 +5,17 @@
 #![tactic(auto)]
 
 mod boot;
-mod bytes;
 mod changes;
 mod check;
 mod conflicts;
 mod hart;
 mod machine;
-mod overlay;
 mod reads;
 mod room;
 mod step;
 
 pub use boot::BootFault;
-pub use hart::{Hart, Transaction};
-pub use machine::{Machine, Turn};
-pub use overlay::{Footprint, Overlay};
+pub use machine::Machine;
 
 #[cfg(test)]
 mod tests;

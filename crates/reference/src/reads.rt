@@ -6,8 +6,8 @@ ghost use Rattle.flat.specs.Steps.{IsRunning};
 ghost use Rattle.reference.specs.Machines.{setting_of, flat_of, hart_count, Belongs};
 ghost use Rattle.reference.specs.Reads.{is_readable, word_if, word_seen, NoneWrote, IsInPlace, shown, NoneRuns, IsNextTurn};
 
-use crate::bytes::word_at;
 use crate::machine::Machine;
+use overlay::word_at;
 use words::{Addr, HartId, Regs, Status, Step, Width};
 
 impl Machine {

@@ -1,3 +1,4 @@
 pub mod Causes
 pub mod Harts
+pub mod Stamps
 pub mod Taken

@@ -1,6 +1,6 @@
 use Rattle.std.proofs.Common.{◌≡◌, ◌-◌, ℕ, drop, length}
 use Rattle.table.specs.Program.{image_at}
-use Rattle.reference.specs.Memory.{mem_of}
+use Rattle.overlay.specs.Memory.{mem_of}
 use Rattle.reference.proofs.boot.lay_image.Given as goal
 
 -- the last k segments stand

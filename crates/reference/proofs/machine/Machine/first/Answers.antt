@@ -5,7 +5,7 @@ use Rattle.flat.specs.Start.{first_hart}
 use Rattle.std.specs.Vec.{with_items}
 use Rattle.table.specs.Program.{image_at}
 use Rattle.reference.specs.declared.machine.Machine.{Machine}
-use Rattle.reference.specs.Memory.{mem_of}
+use Rattle.overlay.specs.Memory.{mem_of}
 use Rattle.reference.proofs.Booted.{all_end_by, whole_slice, begins}
 use Rattle.reference.proofs.machine.Machine.first.Goals as goal
 

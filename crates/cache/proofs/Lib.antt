@@ -1,0 +1,9 @@
+pub mod Found
+pub mod OneWay
+pub mod Sound
+pub mod Changes
+pub mod Victims
+pub mod Fresh
+pub mod Cleared
+pub mod Equal
+pub mod StoredBytes

@@ -1,0 +1,4 @@
+pub mod Line
+pub mod Ways
+pub mod Sets
+pub mod Bytes

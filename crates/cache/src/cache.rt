@@ -1,0 +1,214 @@
+ghost use Rattle.std.specs.Prelude.{◌≡◌, ◌≢◌, ◌<◌, ◌*◌, ◌/◌, ◌%◌, ◌^◌, ◌↔◌, ℕ, List, Option, Some, None, map, replicate, IsTrue, IsFalse, IsSome, IfSome, IsSomeAnd};
+ghost use Rattle.std.specs.Option.{option_map};
+ghost use Rattle.cache.specs.declared.line.Line.{Line};
+ghost use Rattle.words.specs.declared.message.LineState.TheVariants.{Shared, Modified};
+ghost use Rattle.cache.specs.Bytes.{bytes_in, word_at};
+ghost use Rattle.cache.specs.Line.{filled, marked_read, marked_written, in_state, stored, without_marks};
+ghost use Rattle.cache.specs.Ways.{holds, is_free};
+ghost use Rattle.cache.specs.Sets.{line_at, HasRoom, GoesFor, victim_at, SetsLine, FillsLine, ChangesLine, RemovesLine, StoresBytes};
+
+use crate::bytes::with_bytes;
+use crate::line::Line;
+use crate::ways::{Victim, clear_sets, free_way, line_of, victim_of, way_of};
+use std::array;
+use std::marker::Model;
+use words::{Addr, Block, BlockNo, LineState, Width};
+
+/// A cache of SETS sets of WAYS ways each. The set of a block is its number modulo SETS.
+#[derive(Clone, Copy, Debug, PartialEq, Eq)]
+pub struct Cache<const SETS: usize, const WAYS: usize> {
+    sets: [[Option<Line>; WAYS]; SETS],
+}
+
+impl<const SETS: usize, const WAYS: usize> Model for Cache<SETS, WAYS> {
+    ghost use Rattle.std.specs.Prelude.{List, Option};
+    ghost use Rattle.cache.specs.declared.line.Line.{Line};
+    ghost use Rattle.cache.specs.Sets.{IsSound};
+
+    ghost Value = { List (List (Option Line)) };
+
+    ghost view = { λ c. c.sets };
+
+    ghost invariant = { λ c. IsSound SETS WAYS c.sets };
+
+    ghost inverse = { λ v. record { sets = v } };
+}
+
+impl<const SETS: usize, const WAYS: usize> Cache<SETS, WAYS> {
+    /// An empty cache.
+    pub fn new() -> Self
+        requires sets { 0 < SETS }
+        requires ways { 0 < WAYS }
+        requires size { SETS * WAYS < 2 ^ 32 }
+        ensures ways { result ≡ replicate SETS (replicate WAYS None) }
+        ensures empty { (b : ℕ) → line_at SETS result b ≡ None }
+        ensures room { (b : ℕ) → HasRoom SETS result b }
+    {
+        Cache {
+            sets: array::from_fn(
+                |_| -> [Option<Line>; WAYS]
+                    ensures { result ≡ replicate WAYS None }
+                { [None; WAYS] },
+            ),
+        }
+    }
+
+    /// The line of a block, if there is one.
+    #[tactic(auto, unfolding(crate::specs::Sets::line_at))]
+    pub fn look(&self, block: BlockNo) -> Option<Line>
+        ensures value { result ≡ line_at SETS self.now block }
+        ensures block { IfSome result (λ line. line.block ≡ block) }
+        ensures owned { IfSome result (λ line. IsTrue line.written → line.state ≡ Modified) }
+    {
+        let sets = &self.sets[..];
+        line_of(&sets[block.index() % SETS], block)
+    }
+
+    /// The word at an address, which is rounded down to a multiple of 4, if its block has a line.
+    pub fn read_word(&self, addr: Addr) -> Option<u32>
+        ensures { result ≡ option_map (λ line. word_at line.content addr) (line_at SETS self.now (addr / 32)) }
+    {
+        let line = self.look(addr.block())?;
+        Some(line.content[addr.index() / 4 % 8])
+    }
+
+    /// Writes as many low bytes of `value` as the width has, lowest first. The other bytes of `value` don't count.
+    pub fn write_bytes(&mut self, addr: Addr, width: Width, value: u32)
+        requires modified { IsSomeAnd (line_at SETS self.old (addr / 32)) (λ line. line.state ≡ Modified) }
+        requires aligned { addr % bytes_in width ≡ 0 }
+        ensures line { ChangesLine SETS self.old self.new (addr / 32) (stored addr width value) }
+        ensures bytes { StoresBytes SETS self.old self.new addr width value }
+    {
+        if let Some(line) = self.look(addr.block()) {
+            let mut content = line.content;
+            let word = addr.index() / 4 % 8;
+            content[word] = with_bytes(content[word], addr.index() % 4, width, value);
+            self.replace(Line { content, ..line });
+        }
+    }
+
+    /// Marks a block's line as read by the running transaction.
+    pub fn mark_read(&mut self, block: BlockNo)
+        requires { IsSome (line_at SETS self.old block) }
+        ensures { ChangesLine SETS self.old self.new block marked_read }
+    {
+        if let Some(line) = self.look(block) {
+            self.replace(Line { read: true, ..line });
+        }
+    }
+
+    /// Marks a block's line as written by the running transaction.
+    pub fn mark_written(&mut self, block: BlockNo)
+        requires { IsSomeAnd (line_at SETS self.old block) (λ line. line.state ≡ Modified) }
+        ensures { ChangesLine SETS self.old self.new block marked_written }
+    {
+        if let Some(line) = self.look(block) {
+            self.replace(Line {
+                written: true,
+                ..line
+            });
+        }
+    }
+
+    /// Makes a block's line modified, so that it may be stored to.
+    pub fn promote(&mut self, block: BlockNo)
+        requires { IsSome (line_at SETS self.old block) }
+        ensures { ChangesLine SETS self.old self.new block (in_state Modified) }
+    {
+        if let Some(line) = self.look(block) {
+            self.replace(Line {
+                state: LineState::Modified,
+                ..line
+            });
+        }
+    }
+
+    /// Makes a block's line shared, so that it is only read. Its marks stay.
+    pub fn downgrade(&mut self, block: BlockNo)
+        requires { IsSomeAnd (line_at SETS self.old block) (λ line. IsFalse line.written) }
+        ensures { ChangesLine SETS self.old self.new block (in_state Shared) }
+    {
+        if let Some(line) = self.look(block) {
+            self.replace(Line {
+                state: LineState::Shared,
+                ..line
+            });
+        }
+    }
+
+    /// Puts a line in the place of the one that its block has.
+    #[tactic(auto, unfolding(crate::specs::Sets::line_at))]
+    fn replace(&mut self, line: Line)
+        requires present { IsSome (line_at SETS self.old line.block) }
+        requires owned { IsTrue line.written → line.state ≡ Modified }
+        ensures { SetsLine (holds line.block) SETS self.old self.new line.block (Some line) }
+    {
+        let sets = &mut self.sets[..];
+        let ways = &mut sets[line.block.index() % SETS];
+        if let Some(way) = way_of(ways, line.block) {
+            ways[way] = Some(line);
+        }
+    }
+
+    /// Gives a block, which has no line, a line that is neither read nor written. `overflowed` says
+    /// whether the running transaction has overflowed.
+    #[tactic(auto, unfolding(crate::specs::Sets::HasRoom))]
+    pub fn fill(&mut self, block: BlockNo, content: Block, state: LineState, overflowed: bool)
+        requires absent { line_at SETS self.old block ≡ None }
+        requires room { HasRoom SETS self.old block }
+        ensures { FillsLine SETS self.old self.new block (filled block content state overflowed) }
+    {
+        let sets = &mut self.sets[..];
+        let ways = &mut sets[block.index() % SETS];
+        if let Some(way) = free_way(ways) {
+            ways[way] = Some(Line::filled(block, content, state, overflowed));
+        }
+    }
+
+    /// Takes a block's line out, if there is one.
+    #[tactic(auto, unfolding(crate::specs::Sets::line_at, crate::specs::Sets::with_first))]
+    pub fn invalidate(&mut self, block: BlockNo)
+        ensures line { RemovesLine SETS self.old self.new block }
+        ensures room { IsSome (line_at SETS self.old block) → (b : ℕ) → b % SETS ≡ block % SETS → HasRoom SETS self.new b }
+    {
+        let sets = &mut self.sets[..];
+        let ways = &mut sets[block.index() % SETS];
+        if let Some(way) = way_of(ways, block) {
+            ways[way] = None;
+        }
+    }
+
+    /// Whether the block's set has a free way.
+    #[tactic(auto, unfolding(crate::specs::Sets::HasRoom))]
+    pub fn room(&self, block: BlockNo) -> bool
+        ensures { IsTrue result ↔ HasRoom SETS self.now block }
+    {
+        let sets = &self.sets[..];
+        free_way(&sets[block.index() % SETS]).is_some()
+    }
+
+    /// What has to go before the block can be filled.
+    #[tactic(auto, unfolding(crate::specs::Sets::victim_at))]
+    pub fn victim(&self, block: BlockNo) -> Victim
+        ensures value { result ≡ victim_at SETS self.now block }
+        ensures goes { GoesFor SETS self.now block result }
+    {
+        let sets = &self.sets[..];
+        victim_of(&sets[block.index() % SETS])
+    }
+
+    /// Takes all marks away, as at the end of a transaction.
+    pub fn clear_marks(&mut self)
+        ensures ways { self.new ≡ map (map (option_map without_marks)) self.old }
+        ensures lines { (b : ℕ) → line_at SETS self.new b ≡ option_map without_marks (line_at SETS self.old b) }
+    {
+        clear_sets(&mut self.sets[..]);
+    }
+
+    /// Whether two caches have the same lines in the same ways.
+    pub fn same(&self, other: &Self) -> bool
+        ensures { IsTrue result ↔ (self.now ≡ other.now) }
+    {
+        *self == *other
+    }
+}

@@ -1,0 +1,118 @@
+ghost use Rattle.std.specs.Prelude.{◌≡◌, ◌<◌, position, length, is_some, map, replicate, None};
+ghost use Rattle.std.specs.Option.{option_map};
+ghost use Rattle.cache.specs.Line.{without_marks, put_out_by};
+ghost use Rattle.cache.specs.Ways.{holds, is_free, is_unmarked, line_in, victim_in};
+
+use crate::line::Line;
+use words::{BlockNo, LineState};
+
+/// What has to go before a block can be filled.
+#[derive(Clone, Copy, Debug, PartialEq, Eq)]
+pub enum Victim {
+    /// Nothing: the block's set has a free way.
+    Free,
+    /// This shared line, whose content memory has.
+    Drop(Line),
+    /// This exclusive or modified line, which the directory takes back.
+    WriteBack(Line),
+}
+
+/// The way that holds a block.
+pub fn way_of(ways: &[Option<Line>], block: BlockNo) -> Option<usize>
+    ensures { result ≡ position (holds block) ways.now }
+{
+    ways.iter().position(|way| is_line_of(way, block))
+}
+
+fn is_line_of(way: &Option<Line>, block: BlockNo) -> bool
+    ensures { result ≡ holds block way.now }
+{
+    match way {
+        Some(line) => line.block == block,
+        None => false,
+    }
+}
+
+/// The lowest free way.
+pub fn free_way(ways: &[Option<Line>]) -> Option<usize>
+    ensures { result ≡ position is_free ways.now }
+{
+    ways.iter().position(|way| way.is_none())
+}
+
+/// The lowest way that holds a line without marks.
+fn unmarked_way(ways: &[Option<Line>]) -> Option<usize>
+    ensures { result ≡ position is_unmarked ways.now }
+{
+    ways.iter().position(|way| has_no_mark(way))
+}
+
+fn has_no_mark(way: &Option<Line>) -> bool
+    ensures { result ≡ is_unmarked way.now }
+{
+    match way {
+        Some(line) => !line.read && !line.written && !line.overflowed,
+        None => false,
+    }
+}
+
+/// The line of a block.
+pub fn line_of(ways: &[Option<Line>], block: BlockNo) -> Option<Line>
+    ensures { result ≡ line_in block ways.now }
+{
+    match way_of(ways, block) {
+        Some(way) => ways[way],
+        None => None,
+    }
+}
+
+/// What has to go before a line comes into these ways.
+pub fn victim_of(ways: &[Option<Line>]) -> Victim
+    requires { 0 < length ways.now }
+    ensures { result ≡ victim_in ways.now }
+{
+    if free_way(ways).is_some() {
+        return Victim::Free;
+    }
+    let way = unmarked_way(ways).unwrap_or(0);
+    match ways[way] {
+        Some(line) => put_out(line),
+        None => Victim::Free,
+    }
+}
+
+fn put_out(line: Line) -> Victim
+    ensures { result ≡ put_out_by line.state line }
+{
+    match line.state {
+        LineState::Shared => Victim::Drop(line),
+        LineState::Exclusive | LineState::Modified => Victim::WriteBack(line),
+    }
+}
+
+/// Takes the marks of every line in these sets away.
+pub fn clear_sets<const WAYS: usize>(sets: &mut [[Option<Line>; WAYS]])
+    ensures { sets.new ≡ map (map (option_map without_marks)) sets.old }
+{
+    for ways in sets.iter_mut() {
+        clear_ways(ways);
+    }
+}
+
+fn clear_ways(ways: &mut [Option<Line>])
+    ensures { ways.new ≡ map (option_map without_marks) ways.old }
+{
+    for way in ways.iter_mut() {
+        clear(way);
+    }
+}
+
+fn clear(way: &mut Option<Line>)
+    ensures { way.new ≡ option_map without_marks way.old }
+{
+    if let Some(line) = way {
+        line.read = false;
+        line.written = false;
+        line.overflowed = false;
+    }
+}

@@ -1,0 +1,111 @@
+use Rattle.std.proofs.Common.{◌≡◌, ℕ, ◌<◌, ◌≤◌, ◌+◌, ◌⊎◌, inl, inr, Bool, true, false, List, Option, Some, None, get_or, length, arith, refl, ap, sym, ◌∙◌, leb, subst, Bor}
+use Rattle.std.proofs.lemmas.Bool.{cases_lt, cases_eq}
+use Rattle.std.proofs.lemmas.Bool.Decides.{nat_tests}
+use Rattle.std.proofs.lemmas.List.{get_or_past}
+use Rattle.std.proofs.lemmas.Option.{same_Some, none-some}
+use Rattle.std.specs.Fn.{FnReturnsAt, Shared}
+use Rattle.words.specs.declared.message.Message.{Message}
+use Rattle.network.specs.declared.net.Flight.{Flight}
+use Rattle.network.specs.Flights.{Flights, IsOldest, first_of}
+
+-- what a call by reference gave
+pub told : {F T R : Type 0} (g : Shared F (Bor T × Unit {0}) R) (f : F) (p : Bor T) (r s : R) → g.post f (p, tt) r → r ≡ s → FnReturnsAt g f p.now s
+told {F} {T} {R} g f p r s h e = let P : R → Type 0 = λ x. g.post f (p, tt) x in record { shown = p; shows = refl; says = record { met = subst P e h } }
+
+module _ (answers : Message → Bool → Type 0) (slots : List (Option Flight)) where
+  -- a message before a key does not pass, or comes later than this one
+  abbrev pub Later : ℕ → ℕ → ℕ → Flight → Type 0
+  Later key number other f = answers f.message false ⊎ ((number < f.number) ⊎ ((number ≡ f.number) × (key ≤ other)))
+
+  pub record BestAt (n key number : ℕ) : Type 0 where
+    pub flight : Flight
+    pub here : get_or slots key None ≡ Some flight
+    pub numbered : flight.number ≡ number
+    pub below : key < n
+    pub passes : answers flight.message true
+    pub first : (other : ℕ) (f : Flight) → other < n → get_or slots other None ≡ Some f → Later key number other f
+
+  -- what the best of the first n keys is
+  abbrev pub IsBest : ℕ → Option (ℕ × ℕ) → Type 0
+  IsBest n None = (other : ℕ) (f : Flight) → other < n → get_or slots other None ≡ Some f → answers f.message false
+  IsBest n (Some best) = BestAt n best.0 best.1
+
+  -- a key with no message that passes changes nothing
+  pub IsBest-skip : (n : ℕ) (best : Option (ℕ × ℕ)) → IsBest n best → ((f : Flight) → get_or slots n None ≡ Some f → answers f.message false) → IsBest (n + 1) best
+  IsBest-skip n None h skip = λ other f below at. elim (cases_eq other n) [
+    | inl e ↦ skip f (rw e at at)
+    | inr ne ↦ h other f (omega arith) at
+  ]
+  IsBest-skip n (Some best) h skip = record {
+    flight = h.flight;
+    here = h.here;
+    numbered = h.numbered;
+    below = omega arith;
+    passes = h.passes;
+    first = λ other f below at. elim (cases_eq other n) [
+      | inl e ↦ inl (skip f (rw e at at))
+      | inr ne ↦ h.first other f (omega arith) at
+    ];
+  }
+
+  -- a key with a message that passes
+  pub IsBest-take : (n : ℕ) (best : Option (ℕ × ℕ)) (g : Flight) → IsBest n best → get_or slots n None ≡ Some g → answers g.message true → IsBest (n + 1) (first_of best n g.number)
+  IsBest-take n None g h at good = record {
+    flight = g;
+    here = at;
+    numbered = refl;
+    below = omega arith;
+    passes = good;
+    first = λ other f below there. elim (cases_eq other n) [
+      | inl e ↦ let same : g ≡ f = same_Some g f (sym at ∙ (rw e at there)) in inr (inr (ap (λ (x : Flight). x.number) same, omega arith))
+      | inr ne ↦ inl (h other f (omega arith) there)
+    ];
+  }
+  IsBest-take n (Some best) g h at good = elim (cases_lt g.number best.1) [
+    | inl lower ↦
+        let t : leb best.1 g.number ≡ false = grind (arith, nat_tests) in
+        rw t (record {
+          flight = g;
+          here = at;
+          numbered = refl;
+          below = omega arith;
+          passes = good;
+          first = λ other f below there. elim (cases_eq other n) [
+            | inl e ↦ let same : g ≡ f = same_Some g f (sym at ∙ (rw e at there)) in inr (inr (ap (λ (x : Flight). x.number) same, omega arith))
+            | inr ne ↦ elim (h.first other f (omega arith) there) [
+              | inl bad ↦ inl bad
+              | inr later ↦ inr (inl (elim later [ inl a ↦ omega arith | inr b ↦ omega arith ]))
+            ]
+          ];
+        })
+    | inr higher ↦
+        let t : leb best.1 g.number ≡ true = grind (arith, nat_tests) in
+        rw t (record {
+          flight = h.flight;
+          here = h.here;
+          numbered = h.numbered;
+          below = omega arith;
+          passes = h.passes;
+          first = λ other f below there. elim (cases_eq other n) [
+            | inl e ↦
+                let same : g ≡ f = same_Some g f (sym at ∙ (rw e at there)) in
+                let k : g.number ≡ f.number = ap (λ (x : Flight). x.number) same in
+                inr (elim (cases_eq best.1 f.number) [ inl eq ↦ inr (eq, omega arith) | inr ne ↦ inl (omega arith) ])
+            | inr ne ↦ h.first other f (omega arith) there
+          ];
+        })
+  ]
+
+-- the best of all keys is the oldest
+pub IsOldest-best : (answers : Message → Bool → Type 0) (net : Flights) (n key number : ℕ) → length net.slots ≤ n → BestAt answers net.slots n key number → IsOldest answers net key
+IsOldest-best answers net n key number all h = record {
+  flight = h.flight;
+  here = h.here;
+  passes = h.passes;
+  first = λ other f at.
+      let inside : other < n = elim (cases_lt other n) [
+        | inl k ↦ k
+        | inr k ↦ absurd (none-some f (sym (get_or_past net.slots other None (omega arith)) ∙ at))
+      ] in
+      rw h.numbered (h.first other f inside at);
+}

@@ -1,0 +1,9 @@
+//! The messages in flight between harts and the directory.
+#![tactic(auto)]
+
+mod net;
+
+pub use net::{Flight, Net};
+
+#[cfg(test)]
+mod tests;

@@ -1,0 +1,144 @@
+ghost use Rattle.std.specs.Prelude.{◌≡◌, ◌≢◌, ◌+◌, ◌<◌, ◌≤◌, ℕ, Some, None, min, OnOk, OnErr, IfSome, IfNone};
+ghost use Rattle.std.specs.Fn.{FnReturnsAt};
+ghost use Rattle.network.specs.Flights.{message_at, flight_at, IsOldest, NonePasses, first_of};
+ghost use Rattle.slab.specs.Slab.{HasRoomFor, Updates, get, slab_len};
+
+use slab::Slab;
+use std::alloc::{AllocError, Global};
+use std::marker::Model;
+use words::Message;
+
+/// A message that was sent, with its number: how many were sent before, up to the greatest u64.
+#[derive(Clone, Copy, Debug, PartialEq, Eq)]
+pub struct Flight {
+    pub message: Message,
+    pub number: u64,
+}
+
+/// The messages in flight, each under a key.
+#[derive(Drop)]
+pub struct Net {
+    slab: Slab<Flight>,
+    next: u64,
+}
+
+impl Model for Net {
+    ghost use Rattle.std.specs.Prelude.{◌-◌, ◌≤◌};
+    ghost use Rattle.slab.specs.Slab.{slab_len};
+    ghost use Rattle.network.specs.Flights.{Flights};
+
+    ghost Value = { Flights };
+
+    ghost view = { λ n. record { slots = n.slab.slots; next = n.next; room = n.slab.capacity - slab_len n.slab } };
+
+    ghost invariant = { λ n. slab_len n.slab ≤ n.slab.capacity };
+}
+
+impl Net {
+    /// No messages, and no memory taken.
+    pub fn new(alloc: Global) -> Self
+        ensures empty { (key : ℕ) → flight_at result key ≡ None }
+        ensures first { result.next ≡ 0 }
+    {
+        Net {
+            slab: Slab::new(alloc),
+            next: 0,
+        }
+    }
+
+    /// How many messages can be sent with no further memory.
+    pub fn room(&self) -> usize
+        ensures { result ≡ self.now.room }
+    {
+        self.slab.capacity() - self.slab.len()
+    }
+
+    /// Makes room for so many messages. The only error is want of memory; what is in flight stays in either outcome.
+    pub fn reserve(&mut self, count: usize) -> Result<(), AllocError>
+        ensures ok { OnOk result (count ≤ self.new.room) }
+        ensures same { self.new.slots ≡ self.old.slots }
+        ensures number { self.new.next ≡ self.old.next }
+        ensures grows { self.old.room ≤ self.new.room }
+    {
+        self.slab.reserve(count)
+    }
+
+    /// Sends a message under a free key, which it answers.
+    pub fn send(&mut self, message: Message) -> usize
+        requires { 0 < self.old.room }
+        ensures free { flight_at self.old result ≡ None }
+        ensures sent { flight_at self.new result ≡ Some (record { message = message; number = self.old.next }) }
+        ensures others { (key : ℕ) → key ≢ result → flight_at self.new key ≡ flight_at self.old key }
+        ensures number { self.new.next ≡ min (self.old.next + 1) 18446744073709551615 }
+        ensures room { self.new.room + 1 ≡ self.old.room }
+    {
+        let number = self.next;
+        self.next = self.next.saturating_add(1);
+        put(&mut self.slab, Flight { message, number })
+    }
+
+    /// The message under a key.
+    pub fn get(&self, key: usize) -> Option<Message>
+        ensures { result ≡ message_at self.now key }
+    {
+        match self.slab.get(key) {
+            Some(flight) => Some(flight.message),
+            None => None,
+        }
+    }
+
+    /// Takes the message under a key out.
+    pub fn take(&mut self, key: usize) -> Option<Message>
+        ensures value { result ≡ message_at self.old key }
+        ensures taken { flight_at self.new key ≡ None }
+        ensures others { (other : ℕ) → other ≢ key → flight_at self.new other ≡ flight_at self.old other }
+        ensures number { self.new.next ≡ self.old.next }
+        ensures room { self.old.room ≤ self.new.room }
+    {
+        match self.slab.try_remove(key) {
+            Some(flight) => Some(flight.message),
+            None => None,
+        }
+    }
+
+    /// The key of the message that was sent first among those that pass: the lowest number, and at one number the lowest key.
+    pub fn oldest<F: Fn(&Message) -> bool>(&self, passes: F) -> Option<usize>
+        requires { F.IsAlwaysCallable passes }
+        ensures none { IfNone result (NonePasses (FnReturnsAt F.Fn passes) self.now) }
+        ensures some { IfSome result (λ key. IsOldest (FnReturnsAt F.Fn passes) self.now key) }
+    {
+        let mut best = None;
+        for key in 0..self.slab.capacity() {
+            if let Some(flight) = self.slab.get(key) {
+                if passes(&flight.message) {
+                    best = first_of(best, key, flight.number);
+                }
+            }
+        }
+        match best {
+            Some((key, _)) => Some(key),
+            None => None,
+        }
+    }
+}
+
+/// Puts an item under a free key. Generic, since the check can't follow a message through the slab's own method.
+fn put<T: Copy>(slab: &mut Slab<T>, item: T) -> usize
+    requires { HasRoomFor slab.old 1 }
+    ensures free { get slab.old result ≡ None }
+    ensures updates { Updates slab.old slab.new result (Some item) }
+    ensures len { slab_len slab.new ≡ slab_len slab.old + 1 }
+    ensures capacity { slab.new.capacity ≡ slab.old.capacity }
+{
+    slab.insert_reserved(item)
+}
+
+/// Of the best so far and one at a greater key, that which comes first.
+fn first_of(best: Option<(usize, u64)>, key: usize, number: u64) -> Option<(usize, u64)>
+    ensures { result ≡ first_of best key number }
+{
+    match best {
+        Some((_, lowest)) if lowest <= number => best,
+        _ => Some((key, number)),
+    }
+}

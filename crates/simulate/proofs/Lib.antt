@@ -1,0 +1,7 @@
+pub mod Putting
+pub mod Pieces
+pub mod Reading
+pub mod Turning
+pub mod Reported
+pub mod Starting
+pub mod Refusing

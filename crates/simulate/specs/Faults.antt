@@ -1,0 +1,73 @@
+-- What the user is told of a fault, and the status that it ends the program with.
+use Rattle.std.specs.Prelude.{ℕ, List, [], ◌∷◌, codes, decimal, string_bytes}
+use Rattle.std.specs.List.{concat}
+use Rattle.order.specs.declared.fault.OrderFault.{OrderFault}
+use Rattle.order.specs.declared.fault.OrderFault.TheVariants as order
+use Rattle.loader.specs.declared.fault.LoadFault.{LoadFault}
+use Rattle.loader.specs.declared.fault.LoadFault.TheVariants as load
+use Rattle.loader.specs.Faults.{fault_number, fault_name}
+use Rattle.reference.specs.declared.boot.BootFault.{BootFault}
+use Rattle.reference.specs.declared.boot.BootFault.TheVariants as boot
+use Rattle.reference.specs.FaultNames.{boot_fault_number, boot_fault_name}
+use Rattle.simulate.specs.Reports.{line_end}
+use Rattle.simulate.specs.declared.fault.Fault.{Fault}
+use Rattle.simulate.specs.declared.fault.Fault.TheVariants.{NotText, Refused, Value, Unread, Load, Boot, Word, Unwritten, NoMemory}
+
+-- 2 for the command line, 3 for a file, 4 for what is in the file and for the machine that is asked for, 6 for want of memory
+abbrev pub fault_status : Fault → ℕ
+fault_status NotText = 2
+fault_status (Refused text) = 2
+fault_status (Value text) = 2
+fault_status (Unread file) = 3
+fault_status (Load fault) = 4
+fault_status (Boot fault) = 4
+fault_status (Word text) = 2
+fault_status Unwritten = 3
+fault_status NoMemory = 6
+
+-- a line that the user is told
+abbrev pub line : List ℕ → List ℕ → List ℕ
+line what name = concat (codes "logtm: " ∷ what ∷ name ∷ line_end ∷ [])
+
+-- the line on something that is refused: the number and the name of its fault
+abbrev pub refusal_line : List ℕ → ℕ → List ℕ → List ℕ
+refusal_line what number name = concat (codes "logtm: " ∷ what ∷ decimal number ∷ codes " " ∷ name ∷ line_end ∷ [])
+
+-- what the user is told of a fault
+abbrev pub fault_text : Fault → List ℕ
+fault_text NotText = line (codes "an argument is not text") []
+fault_text (Refused text) = concat (string_bytes text ∷ [])
+fault_text (Value text) = line (codes "value ") text.now
+fault_text (Unread file) = line (codes "cannot read ") file.now
+fault_text (Load fault) = refusal_line (codes "load ") (fault_number fault) (fault_name fault)
+fault_text (Boot fault) = refusal_line (codes "boot ") (boot_fault_number fault) (boot_fault_name fault)
+fault_text (Word text) = line (codes "word ") text.now
+fault_text Unwritten = line (codes "cannot write standard output") []
+fault_text NoMemory = line (codes "no memory") []
+
+-- the fault of a command line
+abbrev pub of_order : OrderFault → Fault
+of_order (order.Refused text) = Refused text
+of_order (order.Value text) = Value text
+of_order order.NoMemory = NoMemory
+
+-- the fault of a file, where want of memory is no fault of the file's
+abbrev pub of_load : LoadFault → Fault
+of_load load.Truncated = Load load.Truncated
+of_load load.NotElf32 = Load load.NotElf32
+of_load load.NotRiscv = Load load.NotRiscv
+of_load load.NotExec = Load load.NotExec
+of_load load.Compressed = Load load.Compressed
+of_load load.BadHeaderSize = Load load.BadHeaderSize
+of_load load.SegmentOutside = Load load.SegmentOutside
+of_load load.SegmentOverlap = Load load.SegmentOverlap
+of_load load.WritableText = Load load.WritableText
+of_load load.BadEntry = Load load.BadEntry
+of_load load.NoMemory = NoMemory
+
+-- the fault of a boot, likewise
+abbrev pub of_boot : BootFault → Fault
+of_boot boot.BadSize = Boot boot.BadSize
+of_boot boot.BadHarts = Boot boot.BadHarts
+of_boot boot.DoesNotFit = Boot boot.DoesNotFit
+of_boot boot.NoMemory = NoMemory

@@ -1,0 +1,11 @@
+pub mod Sinks
+pub mod Numerals
+pub mod Reports
+pub mod Faults
+pub mod Statuses
+pub mod Turns
+pub mod Runs
+pub mod Unreadable
+pub mod Starts
+pub mod Orders
+pub mod Refusals

@@ -1,0 +1,147 @@
+ghost use Rattle.std.specs.Prelude.{◌≡◌};
+ghost use Rattle.simulate.specs.Faults.{fault_status, fault_text, line, refusal_line, of_order, of_load, of_boot};
+ghost use Rattle.simulate.specs.Sinks.{Puts};
+ghost use Rattle.simulate.specs.declared.fault.Fault.TheVariants.{NoMemory, Unwritten};
+
+use crate::lines::put_all;
+use itoa::Buffer;
+use loader::LoadFault;
+use order::OrderFault;
+use reference::BootFault;
+use std::alloc::{AllocError, AllocFailed};
+use words::{Sink, SinkFault};
+
+/// Why the program didn't do what it was asked for.
+#[derive(Debug, Drop)]
+pub enum Fault<'a> {
+    /// A word of the command line isn't text.
+    NotText,
+    /// What clap has to say to the user, with its line ends.
+    Refused(String),
+    /// A value that is no number, as the user wrote it.
+    Value(&'a str),
+    /// The path of a file that can't be read.
+    Unread(&'a str),
+    /// The file is no program.
+    Load(LoadFault),
+    /// The program can't be booted.
+    Boot(BootFault),
+    /// A WORD where nothing can be read, as the user wrote it.
+    Word(&'a str),
+    /// Standard output failed.
+    Unwritten,
+    NoMemory,
+}
+
+impl<'a> Fault<'a> {
+    /// The status that the program ends with: 2 for the command line, 3 for a file, 4 for what is in the file and for
+    /// the machine that is asked for, 6 for want of memory.
+    pub fn status(&self) -> u8
+        ensures { result ≡ fault_status self.now }
+    {
+        match self {
+            Fault::NotText | Fault::Refused(_) | Fault::Value(_) | Fault::Word(_) => 2,
+            Fault::Unread(_) | Fault::Unwritten => 3,
+            Fault::Load(_) | Fault::Boot(_) => 4,
+            Fault::NoMemory => 6,
+        }
+    }
+
+    /// Puts what the user is told.
+    pub fn put<S: Sink>(&self, sink: &mut S) -> Result<(), SinkFault>
+        ensures { Puts (S.taken sink.old) (S.taken sink.new) (S.failed sink.old) (S.failed sink.new) (fault_text self.now) result }
+    {
+        match self {
+            Fault::NotText => put_line(sink, b"an argument is not text", ""),
+            Fault::Refused(text) => put_all(sink, &[text.as_bytes()]),
+            Fault::Value(text) => put_line(sink, b"value ", text),
+            Fault::Unread(file) => put_line(sink, b"cannot read ", file),
+            Fault::Load(fault) => put_refusal(sink, b"load ", fault.number(), fault.name()),
+            Fault::Boot(fault) => put_refusal(sink, b"boot ", fault.number(), fault.name()),
+            Fault::Word(text) => put_line(sink, b"word ", text),
+            Fault::Unwritten => put_line(sink, b"cannot write standard output", ""),
+            Fault::NoMemory => put_line(sink, b"no memory", ""),
+        }
+    }
+}
+
+fn put_line<S: Sink>(sink: &mut S, what: &[u8], name: &str) -> Result<(), SinkFault>
+    ensures { Puts (S.taken sink.old) (S.taken sink.new) (S.failed sink.old) (S.failed sink.new) (line what.now name.now) result }
+{
+    put_all(sink, &[b"logtm: ", what, name.as_bytes(), b"\n"])
+}
+
+fn put_refusal<S: Sink>(sink: &mut S, what: &[u8], number: u32, name: &str) -> Result<(), SinkFault>
+    ensures { Puts (S.taken sink.old) (S.taken sink.new) (S.failed sink.old) (S.failed sink.new) (refusal_line what.now number name.now) result }
+{
+    let mut digits = Buffer::new();
+    put_all(
+        sink,
+        &[
+            b"logtm: ",
+            what,
+            digits.format(number).as_bytes(),
+            b" ",
+            name.as_bytes(),
+            b"\n",
+        ],
+    )
+}
+
+impl<'a> From<OrderFault<'a>> for Fault<'a> {
+    ghost from_gives = { λ x e. e ≡ of_order x };
+
+    fn from(fault: OrderFault<'a>) -> Fault<'a> {
+        match fault {
+            OrderFault::Refused(text) => Fault::Refused(text),
+            OrderFault::Value(text) => Fault::Value(text),
+            OrderFault::NoMemory => Fault::NoMemory,
+        }
+    }
+}
+
+impl<'a> From<LoadFault> for Fault<'a> {
+    ghost from_gives = { λ x e. e ≡ of_load x };
+
+    fn from(fault: LoadFault) -> Fault<'a> {
+        match fault {
+            LoadFault::NoMemory => Fault::NoMemory,
+            other => Fault::Load(other),
+        }
+    }
+}
+
+impl<'a> From<BootFault> for Fault<'a> {
+    ghost from_gives = { λ x e. e ≡ of_boot x };
+
+    fn from(fault: BootFault) -> Fault<'a> {
+        match fault {
+            BootFault::NoMemory => Fault::NoMemory,
+            other => Fault::Boot(other),
+        }
+    }
+}
+
+impl<'a> From<SinkFault> for Fault<'a> {
+    ghost from_gives = { λ _ e. e ≡ Unwritten };
+
+    fn from(_fault: SinkFault) -> Fault<'a> {
+        Fault::Unwritten
+    }
+}
+
+impl<'a> From<AllocError> for Fault<'a> {
+    ghost from_gives = { λ _ e. e ≡ NoMemory };
+
+    fn from(_error: AllocError) -> Fault<'a> {
+        Fault::NoMemory
+    }
+}
+
+impl<'a, T: Drop> From<AllocFailed<T>> for Fault<'a> {
+    ghost from_gives = { λ _ e. e ≡ NoMemory };
+
+    fn from(_error: AllocFailed<T>) -> Fault<'a> {
+        Fault::NoMemory
+    }
+}

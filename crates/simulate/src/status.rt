@@ -1,0 +1,39 @@
+ghost use Rattle.std.specs.Prelude.{◌≡◌, ◌<◌};
+ghost use Rattle.flat.specs.State.{Flat};
+ghost use Rattle.reference.specs.Machines.{flat_of, Belongs};
+ghost use Rattle.simulate.specs.Statuses.{status_for, IsStatusOf, IsReported};
+
+use reference::Machine;
+use words::{HartId, Status};
+
+/// Whether a hart runs, or how it ended.
+pub(crate) fn status_of(machine: &Machine, id: HartId) -> Status
+    requires { id < (flat_of machine.now).setting.count }
+    ensures { result ≡ ((flat_of machine.now).hart id).status }
+{
+    machine.regs(id).unwrap().2
+}
+
+/// The status that a hart asks for: 5 if it runs, 0 if it exited with 0, else 1.
+fn status_for(status: Status) -> u8
+    ensures { result ≡ status_for status }
+{
+    match status {
+        Status::Running => 5,
+        Status::Exited(0) => 0,
+        Status::Exited(_) | Status::Stopped(..) => 1,
+    }
+}
+
+/// The status that the program ends with after a report: the greatest that a hart asks for.
+pub fn status(machine: &Machine) -> u8
+    ensures greatest { (f : Flat) → Belongs f machine.now → IsStatusOf f result }
+    ensures reported { IsReported result }
+{
+    let mut greatest = 0;
+    for number in 0..machine.harts() {
+        let id = HartId::new(number as u8);
+        greatest = status_for(status_of(machine, id)).max(greatest);
+    }
+    greatest
+}

@@ -1,0 +1,462 @@
+//! Programs that are run, with the texts and statuses that they have to give.
+ghost use Rattle.std.specs.Prelude.{Some};
+
+use crate::perform::perform;
+use order::order;
+use std::alloc::{AllocError, Global};
+use std::process::Abort;
+use std::test::Fail;
+use words::{Sink, SinkFault, Taken};
+
+// The headers of a file with one executable segment at 0x1000, where it begins.
+static HEADERS: [u8; 84] = [
+    0x7f, 0x45, 0x4c, 0x46, 0x01, 0x01, 0x01, 0x00, 0x00, 0x00, 0x00, 0x00, 0x00, 0x00, 0x00, 0x00,
+    0x02, 0x00, 0xf3, 0x00, 0x01, 0x00, 0x00, 0x00, 0x00, 0x10, 0x00, 0x00, 0x34, 0x00, 0x00, 0x00,
+    0x00, 0x00, 0x00, 0x00, 0x00, 0x00, 0x00, 0x00, 0x34, 0x00, 0x20, 0x00, 0x01, 0x00, 0x00, 0x00,
+    0x00, 0x00, 0x00, 0x00, 0x01, 0x00, 0x00, 0x00, 0x54, 0x00, 0x00, 0x00, 0x00, 0x10, 0x00, 0x00,
+    0x00, 0x10, 0x00, 0x00, 0x0c, 0x00, 0x00, 0x00, 0x0c, 0x00, 0x00, 0x00, 0x05, 0x00, 0x00, 0x00,
+    0x01, 0x00, 0x00, 0x00,
+];
+
+// Where in them the size of the segment stands: how much of it is in the file, and then how much in memory.
+const SIZES: usize = 68;
+
+// li a7, 93 and li a0, 0 and ecall
+const EXIT: [u32; 3] = [0x05d0_0893, 0x0000_0513, 0x0000_0073];
+
+// Two instructions a line: li s0, 100 and lui s1, 2; again: tbegin again and lw t0, 0(s1); addi t0, t0, 1 and
+// sw t0, 0(s1); tcommit and addi s0, s0, -1; bnez s0, again; and then EXIT.
+static COUNTER: [u32; 12] = [
+    0x0640_0413,
+    0x0000_24b7,
+    0x0000_000b,
+    0x0004_a283,
+    0x0012_8293,
+    0x0054_a023,
+    0x0000_100b,
+    0xfff4_0413,
+    0xfe04_14e3,
+    0x05d0_0893,
+    0x0000_0513,
+    0x0000_0073,
+];
+
+// A file whose text these words are.
+fn elf(alloc: Global, words: &[u32]) -> Result<Vec<u8>, AllocError> {
+    let mut size: u32 = 0;
+    for _ in words {
+        size = size.saturating_add(4);
+    }
+    let mut bytes = Vec::from_slice(alloc, &HEADERS[..SIZES])?;
+    bytes.extend_from_slice(&size.to_le_bytes())?;
+    bytes.extend_from_slice(&size.to_le_bytes())?;
+    bytes.extend_from_slice(&HEADERS[SIZES + 8..])?;
+    for word in words {
+        bytes.extend_from_slice(&word.to_le_bytes())?;
+    }
+    Ok(bytes)
+}
+
+fn taken(alloc: Global) -> Taken {
+    Taken {
+        bytes: Vec::new(alloc),
+        failed: 0,
+    }
+}
+
+// That a command line, carried out on a file, gives this status and these texts.
+fn check(
+    rt: &(impl Abort + AllocGlobal),
+    words: &[&str],
+    file: &[u8],
+    status: u8,
+    out: &str,
+    error: &str,
+) -> Result<(), Fail> {
+    let mut given = taken(rt.alloc());
+    let mut told = taken(rt.alloc());
+    let order = order(rt.alloc(), words).ok().ok_or("an order")?;
+    let outcome = perform(rt.alloc(), &order, file, &mut given, &mut told);
+    assert_eq!(rt; outcome.status, status, "{out}{error}");
+    assert_eq!(rt; given.bytes.as_slice(), out.as_bytes());
+    assert_eq!(rt; told.bytes.as_slice(), error.as_bytes());
+    Ok(())
+}
+
+#[test]
+fn runs_to_the_end(rt: HostRuntime) -> Result<(), Fail> {
+    let run = ["logtm", "run", "f"];
+    let first = elf(rt.alloc(), &EXIT)?;
+    check(&rt, &run, &first, 0, "hart 0: exit 0\n", "")?;
+    // li a0, 3 and li a0, -1
+    for (word, status, out) in [
+        (0x0030_0513, 1, "hart 0: exit 3\n"),
+        (0xfff0_0513, 1, "hart 0: exit 4294967295\n"),
+    ] {
+        let file = elf(rt.alloc(), &[0x05d0_0893, word, 0x0000_0073])?;
+        check(&rt, &run, &file, status, out, "")?;
+    }
+    Ok(())
+}
+
+#[test]
+fn reports_traps(rt: HostRuntime) -> Result<(), Fail> {
+    let cases: [(&[u32], &str); 8] = [
+        (
+            &[0, 0x0000_0513, 0x0000_0073],
+            "hart 0: trap 1 Illegal at 0x00001000\n",
+        ),
+        // li t0, 0x1002 and jalr ra, 0(t0)
+        (
+            &[0x0000_12b7, 0x0022_8293, 0x0002_80e7],
+            "hart 0: trap 3 JumpMisaligned at 0x00001008\n",
+        ),
+        // lui t0, 1 and sw t0, 0(t0)
+        (
+            &[0x0000_12b7, 0x0052_a023],
+            "hart 0: trap 8 StoreText at 0x00001004\n",
+        ),
+        // lui t0, 0x100 and lw t1, -4(t0)
+        (
+            &[0x0010_02b7, 0xffc2_a303],
+            "hart 0: trap 9 LogRegion at 0x00001004\n",
+        ),
+        // lui t0, 0x100 and lw t1, 0(t0)
+        (
+            &[0x0010_02b7, 0x0002_a303],
+            "hart 0: trap 6 LoadOutside at 0x00001004\n",
+        ),
+        // lui t0, 2 and lw t1, 2(t0)
+        (
+            &[0x0000_22b7, 0x0022_a303],
+            "hart 0: trap 4 LoadMisaligned at 0x00001004\n",
+        ),
+        // tcommit
+        (
+            &[0x0000_100b],
+            "hart 0: trap 14 OutsideTransaction at 0x00001000\n",
+        ),
+        // tbegin 0, 256 times
+        (
+            &[0x0000_000b; 256],
+            "hart 0: trap 13 TooDeep at 0x000013fc\n",
+        ),
+    ];
+    for (words, out) in cases {
+        let file = elf(rt.alloc(), words)?;
+        check(&rt, &["logtm", "run", "f"], &file, 1, out, "")?;
+    }
+    Ok(())
+}
+
+#[test]
+fn refuses_files(rt: HostRuntime) -> Result<(), Fail> {
+    let run = ["logtm", "run", "f"];
+    let first = elf(rt.alloc(), &EXIT)?;
+    check(&rt, &run, &[], 4, "", "logtm: load 1 Truncated\n")?;
+    let cut = first.get(..95).ok_or("the file has 96 bytes")?;
+    check(&rt, &run, cut, 4, "", "logtm: load 1 Truncated\n")?;
+    for (at, byte, error) in [
+        (0, 0, "logtm: load 2 NotElf32\n"),
+        (36, 1, "logtm: load 5 Compressed\n"),
+        (76, 7, "logtm: load 9 WritableText\n"),
+        (24, 2, "logtm: load 10 BadEntry\n"),
+        (72, 11, "logtm: load 7 SegmentOutside\n"),
+    ] {
+        let mut file = elf(rt.alloc(), &EXIT)?;
+        if let Some(place) = file.get_mut(at) {
+            *place = byte;
+        }
+        check(&rt, &run, &file, 4, "", error)?;
+    }
+    Ok(())
+}
+
+#[test]
+fn refuses_machines_and_words(rt: HostRuntime) -> Result<(), Fail> {
+    let first = elf(rt.alloc(), &EXIT)?;
+    let cases: [(&[&str], u8, &str); 9] = [
+        (
+            &["logtm", "run", "f", "--memory", "65537"],
+            4,
+            "logtm: boot 1 BadSize\n",
+        ),
+        (
+            &["logtm", "run", "f", "--harts", "9"],
+            4,
+            "logtm: boot 2 BadHarts\n",
+        ),
+        (
+            &["logtm", "run", "f", "--harts", "0"],
+            4,
+            "logtm: boot 2 BadHarts\n",
+        ),
+        (
+            &["logtm", "run", "f", "--memory", "65536", "--harts", "8"],
+            4,
+            "logtm: boot 3 DoesNotFit\n",
+        ),
+        (
+            &["logtm", "run", "f", "--memory=0", "--harts=0"],
+            4,
+            "logtm: boot 1 BadSize\n",
+        ),
+        // The undo log of one hart begins at 1,048,576 - 4,096.
+        (
+            &["logtm", "run", "f", "0x2000", "1044480"],
+            2,
+            "logtm: word 1044480\n",
+        ),
+        (
+            &["logtm", "run", "f", "0xFFFFFFFC"],
+            2,
+            "logtm: word 0xFFFFFFFC\n",
+        ),
+        (
+            &["logtm", "run", "f", "0x2001", "0x2002"],
+            2,
+            "logtm: word 0x2001\n",
+        ),
+        (
+            &["logtm", "run", "f", "--harts", "2", "0xfe000"],
+            2,
+            "logtm: word 0xfe000\n",
+        ),
+    ];
+    for (words, status, error) in cases {
+        check(&rt, words, &first, status, "", error)?;
+    }
+    Ok(())
+}
+
+#[test]
+fn shows_words(rt: HostRuntime) -> Result<(), Fail> {
+    let first = elf(rt.alloc(), &EXIT)?;
+    check(
+        &rt,
+        &["logtm", "run", "f", "4096", "0x1008", "0xfeffc"],
+        &first,
+        0,
+        "hart 0: exit 0\nword 0x00001000 = 0x05d00893\nword 0x00001008 = 0x00000073\nword 0x000feffc = 0x00000000\n",
+        "",
+    )?;
+    let counter = elf(rt.alloc(), &COUNTER)?;
+    check(
+        &rt,
+        &["logtm", "run", "f", "0x2000"],
+        &counter,
+        0,
+        "hart 0: exit 0\nword 0x00002000 = 0x00000064\n",
+        "",
+    )
+}
+
+// li a7, 1; li a0, 'H'; ecall; li a0, '\n'; ecall; and then EXIT
+static PRINTS: [u32; 8] = [
+    0x0010_0893,
+    0x0480_0513,
+    0x0000_0073,
+    0x00a0_0513,
+    0x0000_0073,
+    0x05d0_0893,
+    0x0000_0513,
+    0x0000_0073,
+];
+
+#[test]
+fn shows_output_and_the_limit(rt: HostRuntime) -> Result<(), Fail> {
+    let file = elf(rt.alloc(), &PRINTS)?;
+    check(
+        &rt,
+        &["logtm", "run", "f"],
+        &file,
+        0,
+        "hart 0 output 2 bytes\nH\n\nhart 0: exit 0\n",
+        "",
+    )?;
+    // Each hart has a turn before one has its second.
+    check(
+        &rt,
+        &["logtm", "run", "f", "--harts", "2", "--steps", "7"],
+        &file,
+        5,
+        "hart 0 output 1 bytes\nH\nhart 0: running\nhart 1 output 1 bytes\nH\nhart 1: running\n",
+        "",
+    )?;
+    check(
+        &rt,
+        &["logtm", "run", "f", "--steps", "0"],
+        &file,
+        5,
+        "hart 0: running\n",
+        "",
+    )?;
+    // j 0
+    let file = elf(rt.alloc(), &[0x0000_006f])?;
+    check(
+        &rt,
+        &["logtm", "run", "f", "--steps", "1000"],
+        &file,
+        5,
+        "hart 0: running\n",
+        "",
+    )
+}
+
+// Hart 0 stops at an illegal word, hart 1 exits with 0, and hart 2 goes round: li t0, 1; beq a0, t0, +12; blt t0, a0, 0;
+// an illegal word; and then EXIT.
+static THREE_ENDS: [u32; 7] = [
+    0x0010_0293,
+    0x0055_0663,
+    0x00a2_c063,
+    0x0000_0000,
+    0x05d0_0893,
+    0x0000_0513,
+    0x0000_0073,
+];
+
+#[test]
+fn gives_the_greatest_status(rt: HostRuntime) -> Result<(), Fail> {
+    let file = elf(rt.alloc(), &THREE_ENDS)?;
+    check(
+        &rt,
+        &["logtm", "run", "f", "--harts", "2"],
+        &file,
+        1,
+        "hart 0: trap 1 Illegal at 0x0000100c\nhart 1: exit 0\n",
+        "",
+    )?;
+    check(
+        &rt,
+        &["logtm", "run", "f", "--harts", "3", "--steps", "100"],
+        &file,
+        5,
+        "hart 0: trap 1 Illegal at 0x0000100c\nhart 1: exit 0\nhart 2: running\n",
+        "",
+    )
+}
+
+// A sink that takes so many puts, and half of the next.
+#[derive(Drop)]
+struct Breaking {
+    bytes: Vec<u8>,
+    left: u32,
+    failed: u64,
+}
+
+impl Sink for Breaking {
+    ghost failed = { λ b. b.failed };
+
+    ghost taken = { λ b. Some b.bytes.items };
+
+    fn put(&mut self, bytes: &[u8]) -> Result<(), SinkFault> {
+        if self.left == 0 {
+            let _ = self.bytes.extend_from_slice(&bytes[..bytes.len() / 2]);
+            self.failed = self.failed.saturating_add(1);
+            return Err(SinkFault);
+        }
+        self.left -= 1;
+        match self.bytes.extend_from_slice(bytes) {
+            Ok(()) => Ok(()),
+            Err(_) => {
+                self.failed = self.failed.saturating_add(1);
+                Err(SinkFault)
+            }
+        }
+    }
+}
+
+const REPORT: &str =
+    "hart 0 output 2 bytes\nH\n\nhart 0: exit 0\nhart 1 output 2 bytes\nH\n\nhart 1: exit 0\nword 0x00001000 = 0x00100893\n";
+
+#[test]
+fn a_failed_put_cuts_the_report(rt: HostRuntime) -> Result<(), Fail> {
+    let file = elf(rt.alloc(), &PRINTS)?;
+    let words = ["logtm", "run", "f", "--harts=2", "0x1000"];
+    let order = order(rt.alloc(), &words).ok().ok_or("an order")?;
+    let mut whole = false;
+    let mut longest = 0;
+    for left in 0..100 {
+        let mut out = Breaking {
+            bytes: Vec::new(rt.alloc()),
+            left,
+            failed: 0,
+        };
+        let mut error = taken(rt.alloc());
+        let outcome = perform(rt.alloc(), &order, &file, &mut out, &mut error);
+        let (bytes, failed) = (out.bytes.as_slice(), out.failed);
+        assert!(rt; REPORT.as_bytes().starts_with(bytes));
+        assert!(rt; longest <= bytes.len());
+        longest = bytes.len();
+        if outcome.status == 0 {
+            whole = true;
+            assert_eq!(rt; (failed, longest), (0, REPORT.len()));
+            assert_eq!(rt; error.bytes.len(), 0);
+        } else {
+            assert_eq!(rt; (outcome.status, failed), (3, 1));
+            assert_eq!(rt;
+                error.bytes.as_slice(),
+                b"logtm: cannot write standard output\n".as_slice()
+            );
+        }
+    }
+    assert!(rt; whole);
+    Ok(())
+}
+
+#[test]
+fn a_fault_that_is_not_told_stays(rt: HostRuntime) -> Result<(), Fail> {
+    let words = ["logtm", "run", "f"];
+    let order = order(rt.alloc(), &words).ok().ok_or("an order")?;
+    for left in 0..5 {
+        let mut error = Breaking {
+            bytes: Vec::new(rt.alloc()),
+            left,
+            failed: 0,
+        };
+        let mut out = taken(rt.alloc());
+        let outcome = perform(rt.alloc(), &order, &[], &mut out, &mut error);
+        let (bytes, failed) = (error.bytes.as_slice(), error.failed);
+        assert_eq!(rt; (outcome.status, failed), (4, 1));
+        assert!(rt; b"logtm: load 1 Truncated\n".starts_with(bytes));
+        assert_eq!(rt; out.bytes.len(), 0);
+    }
+    Ok(())
+}
+
+// For `rt try --test --fail-alloc N`: either nothing is missed, or memory ran out and only that is told.
+#[test]
+fn runs_or_wants_memory(rt: HostRuntime) -> Result<(), Fail> {
+    let Ok(file) = elf(rt.alloc(), &PRINTS) else {
+        return Ok(());
+    };
+    let words = ["logtm", "run", "f", "--harts=2", "0x1000"];
+    let Ok(order) = order(rt.alloc(), &words) else {
+        return Ok(());
+    };
+    // Sinks with all the room that they need, which take no memory later.
+    let (Ok(room), Ok(more)) = (
+        Vec::with_capacity(rt.alloc(), 256),
+        Vec::with_capacity(rt.alloc(), 256),
+    ) else {
+        return Ok(());
+    };
+    let mut out = Taken {
+        bytes: room,
+        failed: 0,
+    };
+    let mut error = Taken {
+        bytes: more,
+        failed: 0,
+    };
+    let outcome = perform(rt.alloc(), &order, &file, &mut out, &mut error);
+    if outcome.status == 6 {
+        assert_eq!(rt; out.bytes.as_slice(), b"".as_slice());
+        assert_eq!(rt; error.bytes.as_slice(), b"logtm: no memory\n".as_slice());
+    } else {
+        assert_eq!(rt; outcome.status, 0);
+        assert_eq!(rt; out.bytes.as_slice(), REPORT.as_bytes());
+        assert_eq!(rt; error.bytes.as_slice(), b"".as_slice());
+    }
+    Ok(())
+}

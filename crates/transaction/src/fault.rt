@@ -1,0 +1,43 @@
+ghost use Rattle.std.specs.Prelude.{Some};
+
+use std::error::Error;
+use std::fmt;
+
+/// Why a hart's transaction could not do what was asked.
+#[derive(Clone, Copy, Debug, PartialEq, Eq)]
+pub enum TxFault {
+    /// A transaction was to begin at the greatest depth.
+    TooDeep,
+    /// No transaction runs.
+    Outside,
+}
+
+impl fmt::Display for TxFault {
+    ghost use Rattle.transaction.specs.Faults.{fault_text};
+
+    ghost output = { λ fault. Some (fault_text fault) };
+
+    fn fmt<W: fmt::Write>(&self, f: &mut fmt::Formatter<W>) -> fmt::Result {
+        f.write_str(match self {
+            TxFault::TooDeep => "1 TooDeep",
+            TxFault::Outside => "2 Outside",
+        })
+    }
+}
+
+impl Error for TxFault {}
+
+#[cfg(test)]
+mod tests {
+    use super::*;
+    use std::test::Fail;
+
+    #[test]
+    fn texts(rt: HostRuntime) -> Result<(), Fail> {
+        let deep = TxFault::TooDeep.to_string(rt.alloc())?;
+        let outside = TxFault::Outside.to_string(rt.alloc())?;
+        assert_eq!(rt; deep.as_str(), "1 TooDeep");
+        assert_eq!(rt; outside.as_str(), "2 Outside");
+        Ok(())
+    }
+}

@@ -1,0 +1,4 @@
+pub mod Restoring
+pub mod Words
+pub mod Listed
+pub mod Equal

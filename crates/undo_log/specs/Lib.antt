@@ -1,0 +1,4 @@
+pub mod Value
+pub mod Bytes
+pub mod Log
+pub mod Undo
