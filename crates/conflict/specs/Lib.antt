@@ -1,2 +1,1 @@
 pub mod Refusals
-pub mod Requests

@@ -1,6 +1,5 @@
 ghost use Rattle.std.specs.Prelude.{◌≡◌, ◌&&◌};
-ghost use Rattle.words.specs.Stamps.{is_earlier};
-ghost use Rattle.conflict.specs.Requests.{earlier};
+ghost use Rattle.words.specs.Stamps.{is_earlier, earlier};
 
 use words::Stamp;
 

@@ -1,7 +1,7 @@
 ghost use Rattle.std.specs.Prelude.{◌≡◌, ◌↔◌, ◌<◌, ◌^◌, ◌*◌, ◌||◌, ◌&&◌, ◌++◌, ◌∷◌, [], true, Some, None, IsTrue, IsSome, IsOk, OnOk, OnErr, IfOk, IfErr};
 ghost use Rattle.undo_log.specs.declared.record.Record.{Record};
 ghost use Rattle.undo_log.specs.Log.{records, appended, newest_of, popped};
-ghost use Rattle.conflict.specs.Requests.{earlier};
+ghost use Rattle.words.specs.Stamps.{earlier};
 ghost use Rattle.transaction.specs.Transactions.{idle, begun, takes_stamp, committed, aborted, running_stamp, kept_stamp};
 
 use crate::fault::TxFault;

@@ -1,0 +1,5 @@
+pub mod Played
+pub mod Traces
+pub mod Settings
+pub mod Keys
+pub mod Chosen

@@ -1,0 +1,14 @@
+pub mod Messages
+pub mod Lines
+pub mod Hart
+pub mod Caches
+pub mod Requests
+pub mod Evict
+pub mod Core
+pub mod HartMessages
+pub mod Directory
+pub mod Network
+pub mod Machine
+pub mod Start
+pub mod Values
+pub mod Examples
