@@ -1,5 +1,6 @@
 pub mod Played
 pub mod Traces
+pub mod MoreTraces
 pub mod Settings
 pub mod Keys
 pub mod Chosen

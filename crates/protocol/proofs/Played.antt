@@ -12,7 +12,7 @@ use Rattle.protocol.specs.Core.{Move as CoreMove, Rests, Makes, Lacks, core_move
 use Rattle.protocol.specs.Hart.{Hart}
 use Rattle.protocol.specs.Lines.{Line}
 use Rattle.protocol.specs.Start.{start}
-use Rattle.protocol.specs.Examples.{one_set_of, with_text, is_of_note, Reaches}
+use Rattle.protocol.specs.Examples.{one_set_of, with_text, is_of_note, Leads, Reaches}
 
 -- a step, the keys of the messages that it sends, and the block whose line makes way, if one has to
 pub record Move : Type 0 where
@@ -148,6 +148,10 @@ full_of d b lines there = (d ∷ [], refl, apart, within)
     within zero x below = (omega arith, there)
     within (suc k) x below = absurd (omega (arith, below))
 
--- what the moves of an example reach
+-- what the moves of an example lead to
+pub led : (ways : ℕ) (v : Machine) (ps : List Move) (noted : List Entry) (P : Machine → Type 0) → are_all_free v ps ≡ true → HaveRoom (one_set_of ways) v ps → filter is_of_note (entries_of v ps) ≡ noted → P (last_of v ps) → Leads ways v (steps_of ps) noted P
+led ways v ps noted P free room noted_so holds = (last_of v ps, entries_of v ps, played (one_set_of ways) v ps free room, noted_so, holds)
+
+-- and reach from the start
 pub reached : (ways count : ℕ) (text : List ℕ) (ps : List Move) (noted : List Entry) (P : Machine → Type 0) → are_all_free (start (with_text count text) 4096) ps ≡ true → HaveRoom (one_set_of ways) (start (with_text count text) 4096) ps → filter is_of_note (entries_of (start (with_text count text) 4096) ps) ≡ noted → P (last_of (start (with_text count text) 4096) ps) → Reaches ways count text (steps_of ps) noted P
-reached ways count text ps noted P free room noted_so holds = (last_of (start (with_text count text) 4096) ps, entries_of (start (with_text count text) 4096) ps, played (one_set_of ways) (start (with_text count text) 4096) ps free room, noted_so, holds)
+reached ways count text ps noted P free room noted_so holds = led ways (start (with_text count text) 4096) ps noted P free room noted_so holds

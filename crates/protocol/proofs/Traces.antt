@@ -7,24 +7,24 @@ use Rattle.protocol.specs.Start.{start}
 use Rattle.protocol.specs.Examples.{with_text, one_set_of, load_and_store, store_and_commit, store_and_abort, store_again_and_abort, store_and_load, store_number, store_crosswise, load_then_store}
 use Rattle.protocol.proofs.Played.{Move, last_of, HaveRoom, room_empty, only_none, only_put, room_beside, full_of}
 
-abbrev move : ℕ → List ℕ → Move
+abbrev pub move : ℕ → List ℕ → Move
 move i keys = record { step = Core i; keys = keys; victim = None }
 
-abbrev deliver : ℕ → List ℕ → Move
+abbrev pub deliver : ℕ → List ℕ → Move
 deliver key keys = record { step = Deliver key; keys = keys; victim = None }
 
-abbrev evict : ℕ → ℕ → List ℕ → Move
+abbrev pub evict : ℕ → ℕ → List ℕ → Move
 evict i b keys = record { step = Evict i b; keys = keys; victim = None }
 
 -- a step of the core that sends nothing
-abbrev core : ℕ → Move
+abbrev pub core : ℕ → Move
 core i = move i []
 
 -- hart i asks for a block of nobody, or of another hart
-abbrev alone : ℕ → List Move
+abbrev pub alone : ℕ → List Move
 alone i = move i (0 ∷ []) ∷ deliver 0 (0 ∷ []) ∷ deliver 0 (0 ∷ []) ∷ deliver 0 [] ∷ []
 
-abbrev another : ℕ → List Move
+abbrev pub another : ℕ → List Move
 another i = move i (0 ∷ []) ∷ deliver 0 (0 ∷ 1 ∷ []) ∷ deliver 1 (1 ∷ []) ∷ deliver 1 [] ∷ deliver 0 (0 ∷ []) ∷ deliver 0 [] ∷ []
 
 abbrev pub exit_moves : List Move
@@ -52,7 +52,7 @@ abbrev pub outdated_moves : List Move
 outdated_moves = core 0 ∷ alone 0 ++ core 0 ∷ evict 0 256 (0 ∷ []) ∷ core 1 ∷ move 1 (1 ∷ []) ∷ deliver 1 (1 ∷ 2 ∷ []) ∷ deliver 2 (2 ∷ []) ∷ deliver 2 [] ∷ deliver 1 (1 ∷ []) ∷ deliver 1 [] ∷ core 1 ∷ evict 1 256 (1 ∷ []) ∷ deliver 1 (1 ∷ []) ∷ deliver 1 [] ∷ deliver 0 (0 ∷ []) ∷ deliver 0 [] ∷ []
 
 -- a Put, and its end
-abbrev gives_up_moves : List Move
+abbrev pub gives_up_moves : List Move
 gives_up_moves = evict 0 256 (0 ∷ []) ∷ deliver 0 (0 ∷ []) ∷ deliver 0 [] ∷ []
 
 abbrev store_moves : ℕ → List Move
@@ -97,7 +97,7 @@ crossed_moves = own_store_moves 0 ++ own_store_moves 1 ++ core 0 ∷ core 0 ∷ 
 abbrev pub resolved_moves : List Move
 resolved_moves = crossed_moves ++ another 0 ++ core 0 ∷ core 0 ∷ core 1 ∷ []
 
-abbrev load_moves : ℕ → List Move
+abbrev pub load_moves : ℕ → List Move
 load_moves i = core i ∷ alone i ++ core i ∷ []
 
 abbrev pub sharers_moves : List Move

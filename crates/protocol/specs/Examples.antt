@@ -224,8 +224,12 @@ a_line state content marks = Some (record { state = state; content = content; ma
 abbrev pub one_set_of : ℕ → Geometry
 one_set_of ways = record { sets = 1; ways = ways }
 
--- harts with caches of so many ways and this text: the steps, from the start, give these entries of note, and lead to a machine
--- with a property
+-- harts with caches of so many ways: the steps, from this machine, give these entries of note, and lead to a machine with a
+-- property
+abbrev pub Leads : ℕ → Machine → List Step → List Entry → (Machine → Type 0) → Type 0
+Leads ways v steps noted P =
+    (w : Machine) × (es : List Entry) × Runs (one_set_of ways) v steps es w × (filter is_of_note es ≡ noted) × P w
+
+-- from the start, with so many harts and this text
 abbrev pub Reaches : ℕ → ℕ → List ℕ → List Step → List Entry → (Machine → Type 0) → Type 0
-Reaches ways count text steps noted P =
-    (w : Machine) × (es : List Entry) × Runs (one_set_of ways) (start (with_text count text) 4096) steps es w × (filter is_of_note es ≡ noted) × P w
+Reaches ways count text steps noted P = Leads ways (start (with_text count text) 4096) steps noted P

@@ -12,3 +12,4 @@ pub mod Machine
 pub mod Start
 pub mod Values
 pub mod Examples
+pub mod MoreExamples

@@ -7,6 +7,7 @@
 
 mod examples;
 mod laws;
+mod more_examples;
 
 pub use examples::{
     a_line_makes_way, a_put_is_overtaken, a_spilled_store_is_kept_and_undone,
@@ -19,4 +20,9 @@ pub use examples::{
 pub use laws::{
     held_messages_stay, more_keys_change_no_value, nothing_is_on_its_way_at_the_start,
     settings_stay, stopped_harts_rest,
+};
+pub use more_examples::{
+    a_dropped_line_still_refuses, a_full_log_starts_an_abort, a_second_put_waits,
+    an_inner_abort_goes_back_to_the_outermost_begin, an_inner_commit_ends_nothing,
+    an_upgrade_keeps_the_line,
 };

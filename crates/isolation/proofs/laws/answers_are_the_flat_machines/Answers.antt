@@ -1,0 +1,5 @@
+use Rattle.isolation.proofs.Belonging.{answers_after}
+use Rattle.isolation.proofs.laws.answers_are_the_flat_machines.Goals as goal
+
+pub returns : goal.returns
+returns c = answers_after

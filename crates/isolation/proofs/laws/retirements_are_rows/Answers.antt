@@ -1,0 +1,5 @@
+use Rattle.isolation.proofs.RetiredWords.{row_of}
+use Rattle.isolation.proofs.laws.retirements_are_rows.Goals as goal
+
+pub returns : goal.returns
+returns c = row_of

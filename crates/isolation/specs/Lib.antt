@@ -1,0 +1,3 @@
+pub mod Belongs
+pub mod Answers
+pub mod Facts

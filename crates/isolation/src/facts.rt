@@ -1,0 +1,43 @@
+ghost use Rattle.std.specs.Prelude.{ℕ};
+ghost use Rattle.flat.specs.State.{Flat};
+ghost use Rattle.protocol.specs.Caches.{Geometry};
+ghost use Rattle.protocol.specs.Machine.{Machine};
+ghost use Rattle.protocol.specs.Network.{LiesBelow};
+ghost use Rattle.isolation.specs.Belongs.{Belongs};
+ghost use Rattle.isolation.specs.Facts.{OneRequest, LinesAgree, Acknowledged, IsCovered, LogsUndo, UndosGoThrough, IsAwaited};
+
+/// A hart has at most one request and one Put out, for different blocks, and the messages about a busy block are those of its one
+/// request.
+pub fn requests_are_one()
+    ensures { (g : Geometry) (f : Flat) (w : Machine) → Belongs g f w → OneRequest w }
+{}
+
+/// An E or M line is the owner's and its block's only line, each line's hart is named, and all copies have one value.
+pub fn lines_agree()
+    ensures { (g : Geometry) (f : Flat) (w : Machine) (keys : ℕ) → Belongs g f w → LiesBelow keys w.net → LinesAgree keys w }
+{}
+
+/// Who acknowledged a write has no line and no claim to the block any more, and who acknowledged a read can't write it.
+pub fn who_acknowledged_has_given_up()
+    ensures { (g : Geometry) (f : Flat) (w : Machine) → Belongs g f w → Acknowledged w f }
+{}
+
+/// What a transaction has read or written is marked, or stands under the overflow bit, and the directory names its hart.
+pub fn sets_are_covered()
+    ensures { (g : Geometry) (f : Flat) (w : Machine) (keys : ℕ) → Belongs g f w → LiesBelow keys w.net → IsCovered keys w f }
+{}
+
+/// No two logs have a record of one block, and undoing all of them over what is in place gives flat memory.
+pub fn logs_undo_to_memory()
+    ensures { (g : Geometry) (f : Flat) (w : Machine) (keys : ℕ) → Belongs g f w → LiesBelow keys w.net → LogsUndo keys w f }
+{}
+
+/// An undo's request is forwarded to nobody and never refused.
+pub fn undos_go_through()
+    ensures { (g : Geometry) (f : Flat) (w : Machine) → Belongs g f w → UndosGoThrough w }
+{}
+
+/// No message comes where it isn't awaited, and of one sort, block and hart there is at most one.
+pub fn each_message_is_awaited()
+    ensures { (g : Geometry) (f : Flat) (w : Machine) → Belongs g f w → IsAwaited w }
+{}

@@ -1,0 +1,54 @@
+ghost use Rattle.std.specs.Prelude.{◌≡◌, ℕ, List, [], Option, Some, None};
+ghost use Rattle.words.specs.declared.entry.Entry.{Entry};
+ghost use Rattle.words.specs.declared.entry.Entry.TheVariants.{Retire, Abort, Refuse};
+ghost use Rattle.words.specs.declared.entry.Access.{Access};
+ghost use Rattle.words.specs.declared.entry.Step.{Step};
+ghost use Rattle.words.specs.declared.cause.AbortCause.TheVariants.{Conflict};
+ghost use Rattle.table.specs.declared.effect.Effect.{Effect};
+ghost use Rattle.flat.specs.State.{Setting, Flat};
+ghost use Rattle.flat.specs.Start.{first_state};
+ghost use Rattle.flat.specs.Steps.{CarriesSome, IsRun};
+ghost use Rattle.flat.specs.Reasons.{no_history, history_of, RefusalHasReason, ConflictHasReason};
+ghost use Rattle.protocol.specs.Caches.{Geometry};
+ghost use Rattle.protocol.specs.Machine.{Machine, Steps, Runs};
+ghost use Rattle.protocol.specs.Network.{LiesBelow};
+ghost use Rattle.protocol.specs.Start.{start};
+ghost use Rattle.isolation.specs.Belongs.{AreBytes, Belongs};
+ghost use Rattle.isolation.specs.Answers.{AnswersAs, IsRow};
+
+/// Isolation: for every program, number of harts and size of memory, and for every list of core, eviction and delivery steps, the
+/// entries are a run of the flat machine. Each step carries a flat state that belongs to the machine, by the entry that it
+/// gives, to one that belongs to the machine after it.
+pub fn entries_are_a_flat_run()
+    ensures start { (g : Geometry) (s : Setting) (entry : ℕ) → AreBytes s.segments → Belongs g (first_state s entry) (start s entry) }
+    ensures step { (g : Geometry) (f : Flat) (v w : Machine) (s : Step) (e : Option Entry) → Belongs g f v → Steps g v s e w → (h : Flat) × CarriesSome f e h × Belongs g h w }
+    ensures run { (g : Geometry) (s : Setting) (entry : ℕ) (steps : List Step) (es : List Entry) (w : Machine) → AreBytes s.segments → Runs g (start s entry) steps es w → (f : Flat) × IsRun (first_state s entry) es f × Belongs g f w }
+{}
+
+/// What the machine answers is what the flat state that belongs to it has: registers, pc, status and output of each hart, memory
+/// with all logs undone, memory as a hart sees it, and memory in place. All messages lie under the first so many keys.
+pub fn answers_are_the_flat_machines()
+    ensures { (g : Geometry) (f : Flat) (w : Machine) (keys : ℕ) → Belongs g f w → LiesBelow keys w.net → AnswersAs keys w f }
+{}
+
+/// Each word that is retired is the text's at the hart's pc, and has the effect that the instruction table gives it.
+pub fn retirements_are_rows()
+    ensures { (g : Geometry) (f : Flat) (v w : Machine) (s : Step) (i pc word : ℕ) (write : Option (ℕ × ℕ)) (load store : Option Access) →
+        Belongs g f v → Steps g v s (Some (Retire i pc word write load store)) w → (does : Effect) × IsRow v w f i pc word write load store does }
+{}
+
+/// Each refusal has its reason, in the flat state and the entries at its place: the word at the requester's pc wants the block,
+/// and the refuser's transaction stands against it, or has given up a marked line and can't tell.
+pub fn refusals_have_reasons()
+    ensures { (g : Geometry) (s : Setting) (entry : ℕ) (steps : List Step) (es : List Entry) (f : Flat) (v w : Machine) (next : Step) (j i b : ℕ) →
+        AreBytes s.segments → Runs g (start s entry) steps es v → IsRun (first_state s entry) es f →
+        Steps g v next (Some (Refuse j i b)) w → RefusalHasReason f (history_of no_history es) j i b }
+{}
+
+/// A transaction that gives way to a conflict has refused an earlier one since its begin, and was refused by an earlier one since
+/// its hart last retired a word.
+pub fn conflicts_have_reasons()
+    ensures { (g : Geometry) (s : Setting) (entry : ℕ) (steps : List Step) (es : List Entry) (v w : Machine) (next : Step) (i : ℕ) →
+        AreBytes s.segments → Runs g (start s entry) steps es v →
+        Steps g v next (Some (Abort i Conflict)) w → ConflictHasReason (history_of no_history es) i }
+{}

@@ -1,0 +1,17 @@
+//! Isolation: the machine of crate `protocol` is the flat machine, whatever the steps and their order.
+//!
+//! There is no state of the simulator here: the definitions stand in `specs/`, and each function below is a law, whose
+//! contract is the statement and whose body is empty. docs/ISOLATION.md tells the argument.
+#![tactic(auto)]
+
+mod facts;
+mod laws;
+
+pub use facts::{
+    each_message_is_awaited, lines_agree, logs_undo_to_memory, requests_are_one, sets_are_covered,
+    undos_go_through, who_acknowledged_has_given_up,
+};
+pub use laws::{
+    answers_are_the_flat_machines, conflicts_have_reasons, entries_are_a_flat_run,
+    refusals_have_reasons, retirements_are_rows,
+};

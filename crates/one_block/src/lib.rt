@@ -1,0 +1,2 @@
+//! The protocol at one block.
+#![tactic(auto)]
