@@ -21,7 +21,7 @@ other-line : (a : ℕ) (l : Line) → a ≢ l.block → holds a (Some l) ≡ fal
 other-line a l ne = holds-other a (Some l) (λ m is same. ne (sym same ∙ sym (ap (λ (n : Line). n.block) (same_Some l m is))))
 
 -- an absent block comes into a free way
-pub fill-changes : (count size : ℕ) (sets : Sets) (w : ℕ) (l : Line) → IsSound count size sets → length sets ≡ count → line_at count sets l.block ≡ None → position is_free (get_or sets (l.block % count) []) ≡ Some w → l.written ≡ false → Changed is_free count size sets l.block w (Some l)
+pub fill-changes : (count size : ℕ) (sets : Sets) (w : ℕ) (l : Line) → IsSound count size sets → length sets ≡ count → line_at count sets l.block ≡ None → position is_free (get_or sets (l.block % count) []) ≡ Some w → l.marks.written ≡ false → Changed is_free count size sets l.block w (Some l)
 unfolding line_at with_first
 fill-changes count size sets w l sound len absent found clean =
     let s : ℕ = l.block % count in
@@ -76,7 +76,7 @@ stands-other count sets b w a here ne =
     holds-other a (at sets (b % count) w) (λ m is same. ne (sym same ∙ ap (λ (n : Line). n.block) (same_Some m here.line (sym is ∙ here.here)) ∙ here.of_block))
 
 -- a line comes into the way of its block's line
-pub replace-changes : (count size : ℕ) (sets : Sets) (w : ℕ) (l : Line) → IsSound count size sets → length sets ≡ count → position (holds l.block) (get_or sets (l.block % count) []) ≡ Some w → (IsTrue l.written → l.state ≡ Modified) → Changed (holds l.block) count size sets l.block w (Some l)
+pub replace-changes : (count size : ℕ) (sets : Sets) (w : ℕ) (l : Line) → IsSound count size sets → length sets ≡ count → position (holds l.block) (get_or sets (l.block % count) []) ≡ Some w → (IsTrue l.marks.written → l.state ≡ Modified) → Changed (holds l.block) count size sets l.block w (Some l)
 unfolding with_first
 replace-changes count size sets w l sound len found owned =
     let s : ℕ = l.block % count in

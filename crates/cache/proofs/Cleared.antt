@@ -67,7 +67,7 @@ unmarked_is_sound count size sets sound = record {
       let old : (m : Line) × (at sets s w ≡ Some m) × (without_marks m ≡ l) = was-marked (at sets s w) l (sym (at-unmarked sets s w) ∙ here) in
       let k : CanStand count sets s w old.0 = sound.lines s w old.0 old.1 in
       let block : old.0.block ≡ l.block = ap (λ (n : Line). n.block) old.2 in
-      let clean : false ≡ l.written = ap (λ (n : Line). n.written) old.2 in
+      let clean : false ≡ l.marks.written = ap (λ (n : Line). n.marks.written) old.2 in
       record {
         placed = rw (← block) k.placed;
         alone = λ v m ne there same.

@@ -9,12 +9,17 @@ use Rattle.std.proofs.lemmas.Bool.Decides.{Decides-eqb, Decides-and, Decides-lik
 use Rattle.cache.specs.declared.line.Line.{Line}
 use Rattle.cache.specs.Sets.{Sets}
 use Rattle.words.specs.declared.message.LineState.{LineState}
+use Rattle.words.specs.declared.marks.Marks.{Marks}
 use Rattle.words.specs.contracts.message.LineStatePartialEq.TheImpl as state
+use Rattle.words.specs.contracts.marks.MarksPartialEq.TheImpl as marks
 use Rattle.cache.specs.contracts.line.LinePartialEq.TheImpl as line
 
--- `==` of two states, and of two lines
+-- `==` of two states, of two lines' marks, and of two lines
 abbrev pub state_eq : LineState → LineState → Bool
 state_eq = (state.ghosts).eq
+
+abbrev pub marks_eq : Marks → Marks → Bool
+marks_eq = (marks.ghosts).eq
 
 abbrev pub line_eq : Line → Line → Bool
 line_eq = (line.ghosts).eq
@@ -22,15 +27,20 @@ line_eq = (line.ghosts).eq
 pub state-decides : (a b : LineState) → Decides (state_eq a b) (a ≡ b)
 state-decides a b = search rules
 
+pub marks-decides : (a b : Marks) → Decides (marks_eq a b) (a ≡ b)
+marks-decides a b =
+    Decides-like _ (λ h. search rules) (λ e. search rules)
+    (Decides-and _ _ (booleans_Decides a.read b.read)
+    (Decides-and _ _ (booleans_Decides a.written b.written)
+    (booleans_Decides a.overflowed b.overflowed)))
+
 pub line-decides : (a b : Line) → Decides (line_eq a b) (a ≡ b)
 line-decides a b =
     Decides-like _ (λ h. search rules) (λ e. search rules)
     (Decides-and _ _ (Decides-eqb a.block b.block)
     (Decides-and _ _ (pointwise_decides Decides-eqb a.content b.content)
     (Decides-and _ _ (state-decides a.state b.state)
-    (Decides-and _ _ (booleans_Decides a.read b.read)
-    (Decides-and _ _ (booleans_Decides a.written b.written)
-    (booleans_Decides a.overflowed b.overflowed))))))
+    (marks-decides a.marks b.marks))))
 
 -- `==` of two ways, by that of what may stand in them
 pub option-decides : {A : Type 0} {E : A → A → Bool} → ((a b : A) → Decides (E a b) (a ≡ b)) → (x y : Option A) → Decides (option_eq E x y) (x ≡ y)

@@ -5,7 +5,8 @@ use Rattle.std.proofs.lemmas.Bool.{cases_eq}
 use Rattle.cache.specs.declared.line.Line.{Line}
 use Rattle.words.specs.declared.entry.Width.{Width}
 use Rattle.words.specs.declared.entry.Width.TheVariants.{Byte, Half, Word}
-use Rattle.cache.specs.Bytes.{bytes_in, byte_of, word_with, block_with, PutsBytes}
+use Rattle.words.specs.Bytes.{bytes_in, byte_of}
+use Rattle.cache.specs.Bytes.{word_with, block_with, PutsBytes}
 
 -- two bytes put into a word's bytes, side by side
 pub halves : (word p v : ℕ) → word < 2 ^ 32 → p < 3 → from_le_bytes w32 (slice_set (slice_set (to_le_bytes w32 word) p (v % 256)) (p + 1) (v / 256 % 256)) ≡ word_with word p 2 v

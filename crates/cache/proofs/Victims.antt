@@ -19,7 +19,7 @@ looked_block count size sets b None sound is = tt
 looked_block count size sets b (Some l) sound is = (is_found b (get_or sets (b % count) []) l (sym is)).of_block
 
 -- and marked as written only if it is modified
-pub looked_owned : (count size : ℕ) (sets : Sets) (b : ℕ) (o : Option Line) → IsSound count size sets → o ≡ line_at count sets b → IfSome o (λ l. IsTrue l.written → l.state ≡ Modified)
+pub looked_owned : (count size : ℕ) (sets : Sets) (b : ℕ) (o : Option Line) → IsSound count size sets → o ≡ line_at count sets b → IfSome o (λ l. IsTrue l.marks.written → l.state ≡ Modified)
 unfolding line_at
 looked_owned count size sets b None sound is = tt
 looked_owned count size sets b (Some l) sound is =

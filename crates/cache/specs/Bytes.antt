@@ -1,16 +1,8 @@
 -- The bytes of words and blocks, lowest first.
 use Rattle.std.specs.Prelude.{ℕ, ◌≡◌, ◌<◌, ◌≤◌, ◌+◌, ◌*◌, ◌/◌, ◌%◌, ◌^◌, List, slice_index, slice_set}
 use Rattle.words.specs.declared.entry.Width.{Width}
-use Rattle.words.specs.declared.entry.Width.TheVariants.{Byte, Half, Word}
-
-abbrev pub bytes_in : Width → ℕ
-bytes_in Byte = 1
-bytes_in Half = 2
-bytes_in Word = 4
-
--- byte k of a number, counted from the lowest
-abbrev pub byte_of : ℕ → ℕ → ℕ
-byte_of v k = v / 256 ^ k % 256
+use Rattle.words.specs.Bytes.{bytes_in, byte_of}
+use Rattle.words.specs.Limits.{block_words}
 
 -- a word with n of its bytes, from byte p on, replaced by the low bytes of a value
 abbrev pub word_with : ℕ → ℕ → ℕ → ℕ → ℕ
@@ -18,7 +10,7 @@ word_with word p n v = word % 256 ^ p + v % 256 ^ n * 256 ^ p + word / 256 ^ (p 
 
 -- the word of a block at an address
 abbrev pub word_at : List ℕ → ℕ → ℕ
-word_at content addr = slice_index content (addr / 4 % 8)
+word_at content addr = slice_index content (addr / 4 % block_words)
 
 -- byte i of a block
 abbrev pub byte_at : List ℕ → ℕ → ℕ
@@ -26,7 +18,7 @@ byte_at content i = byte_of (slice_index content (i / 4)) (i % 4)
 
 -- a block with the low bytes of a value at an address
 abbrev pub block_with : List ℕ → ℕ → Width → ℕ → List ℕ
-block_with content addr width v = slice_set content (addr / 4 % 8) (word_with (word_at content addr) (addr % 4) (bytes_in width) v)
+block_with content addr width v = slice_set content (addr / 4 % block_words) (word_with (word_at content addr) (addr % 4) (bytes_in width) v)
 
 -- the n bytes from byte p on are the low bytes of the value, and every other byte is as it was
 pub record PutsBytes (old new : List ℕ) (p n v : ℕ) : Type 0 where

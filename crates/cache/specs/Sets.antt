@@ -6,7 +6,8 @@ use Rattle.cache.specs.declared.line.Line.{Line}
 use Rattle.words.specs.declared.message.LineState.TheVariants.{Shared, Modified}
 use Rattle.cache.specs.declared.ways.Victim.{Victim}
 use Rattle.cache.specs.declared.ways.Victim.TheVariants.{Free, Drop, WriteBack}
-use Rattle.cache.specs.Bytes.{bytes_in, PutsBytes}
+use Rattle.words.specs.Bytes.{bytes_in}
+use Rattle.cache.specs.Bytes.{PutsBytes}
 use Rattle.cache.specs.Ways.{holds, is_free, line_in, victim_in}
 
 -- what a cache has: for each set the line in each way, if there is one
@@ -81,7 +82,7 @@ GoesFor count sets b (WriteBack l) = IsInSet count sets b l × (l.state ≢ Shar
 pub record CanStand (count : ℕ) (sets : Sets) (s w : ℕ) (l : Line) : Type 0 where
   pub placed : l.block % count ≡ s
   pub alone : (v : ℕ) (m : Line) → v ≢ w → at sets s v ≡ Some m → m.block ≢ l.block
-  pub owned : IsTrue l.written → l.state ≡ Modified
+  pub owned : IsTrue l.marks.written → l.state ≡ Modified
 
 -- what a cache of so many sets, of so many ways each, keeps
 pub record IsSound (count size : ℕ) (sets : Sets) : Type 0 where

@@ -1,5 +1,6 @@
 -- The ways of one set, each free or with a line.
-use Rattle.std.specs.Prelude.{ℕ, Bool, true, false, not, ◌&&◌, ◌==◌, Option, Some, None, List, position, is_some, cond, option_and_then, unwrap_or, get_or}
+use Rattle.std.specs.Prelude.{ℕ, Bool, true, false, not, ◌==◌, Option, Some, None, List, position, is_some, cond, option_and_then, unwrap_or, get_or}
+use Rattle.words.specs.Marks.{is_marked}
 use Rattle.cache.specs.declared.line.Line.{Line}
 use Rattle.cache.specs.declared.ways.Victim.{Victim}
 use Rattle.cache.specs.declared.ways.Victim.TheVariants.{Free}
@@ -18,7 +19,7 @@ is_free (Some l) = false
 -- whether a way has a line without marks
 abbrev pub is_unmarked : Option Line → Bool
 is_unmarked None = false
-is_unmarked (Some l) = not l.read && (not l.written && not l.overflowed)
+is_unmarked (Some l) = not (is_marked l.marks)
 
 -- the line of the block, if one of the ways holds it
 abbrev pub line_in : ℕ → List (Option Line) → Option Line

@@ -1,5 +1,6 @@
 ghost use Rattle.std.specs.Prelude.{◌≡◌, ◌<◌, ◌+◌, ◌≤◌, ◌%◌};
-ghost use Rattle.cache.specs.Bytes.{bytes_in, word_with};
+ghost use Rattle.words.specs.Bytes.{bytes_in};
+ghost use Rattle.cache.specs.Bytes.{word_with};
 
 use words::Width;
 

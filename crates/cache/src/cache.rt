@@ -2,7 +2,8 @@ ghost use Rattle.std.specs.Prelude.{◌≡◌, ◌≢◌, ◌<◌, ◌*◌, ◌/
 ghost use Rattle.std.specs.Option.{option_map};
 ghost use Rattle.cache.specs.declared.line.Line.{Line};
 ghost use Rattle.words.specs.declared.message.LineState.TheVariants.{Shared, Modified};
-ghost use Rattle.cache.specs.Bytes.{bytes_in, word_at};
+ghost use Rattle.words.specs.Bytes.{bytes_in};
+ghost use Rattle.cache.specs.Bytes.{word_at};
 ghost use Rattle.cache.specs.Line.{filled, marked_read, marked_written, in_state, stored, without_marks};
 ghost use Rattle.cache.specs.Ways.{holds, is_free};
 ghost use Rattle.cache.specs.Sets.{line_at, HasRoom, GoesFor, victim_at, SetsLine, FillsLine, ChangesLine, RemovesLine, StoresBytes};
@@ -12,7 +13,7 @@ use crate::line::Line;
 use crate::ways::{Victim, clear_sets, free_way, line_of, victim_of, way_of};
 use std::array;
 use std::marker::Model;
-use words::{Addr, Block, BlockNo, LineState, Width};
+use words::{Addr, BLOCK_WORDS, Block, BlockNo, LineState, Marks, Width};
 
 /// A cache of SETS sets of WAYS ways each. The set of a block is its number modulo SETS.
 #[derive(Clone, Copy, Debug, PartialEq, Eq)]
@@ -58,7 +59,7 @@ impl<const SETS: usize, const WAYS: usize> Cache<SETS, WAYS> {
     pub fn look(&self, block: BlockNo) -> Option<Line>
         ensures value { result ≡ line_at SETS self.now block }
         ensures block { IfSome result (λ line. line.block ≡ block) }
-        ensures owned { IfSome result (λ line. IsTrue line.written → line.state ≡ Modified) }
+        ensures owned { IfSome result (λ line. IsTrue line.marks.written → line.state ≡ Modified) }
     {
         let sets = &self.sets[..];
         line_of(&sets[block.index() % SETS], block)
@@ -69,7 +70,7 @@ impl<const SETS: usize, const WAYS: usize> Cache<SETS, WAYS> {
         ensures { result ≡ option_map (λ line. word_at line.content addr) (line_at SETS self.now (addr / 32)) }
     {
         let line = self.look(addr.block())?;
-        Some(line.content[addr.index() / 4 % 8])
+        Some(line.content[addr.index() / 4 % BLOCK_WORDS])
     }
 
     /// Writes as many low bytes of `value` as the width has, lowest first. The other bytes of `value` don't count.
@@ -81,7 +82,7 @@ impl<const SETS: usize, const WAYS: usize> Cache<SETS, WAYS> {
     {
         if let Some(line) = self.look(addr.block()) {
             let mut content = line.content;
-            let word = addr.index() / 4 % 8;
+            let word = addr.index() / 4 % BLOCK_WORDS;
             content[word] = with_bytes(content[word], addr.index() % 4, width, value);
             self.replace(Line { content, ..line });
         }
@@ -93,7 +94,11 @@ impl<const SETS: usize, const WAYS: usize> Cache<SETS, WAYS> {
         ensures { ChangesLine SETS self.old self.new block marked_read }
     {
         if let Some(line) = self.look(block) {
-            self.replace(Line { read: true, ..line });
+            let marks = Marks {
+                read: true,
+                ..line.marks
+            };
+            self.replace(Line { marks, ..line });
         }
     }
 
@@ -103,10 +108,11 @@ impl<const SETS: usize, const WAYS: usize> Cache<SETS, WAYS> {
         ensures { ChangesLine SETS self.old self.new block marked_written }
     {
         if let Some(line) = self.look(block) {
-            self.replace(Line {
+            let marks = Marks {
                 written: true,
-                ..line
-            });
+                ..line.marks
+            };
+            self.replace(Line { marks, ..line });
         }
     }
 
@@ -125,7 +131,7 @@ impl<const SETS: usize, const WAYS: usize> Cache<SETS, WAYS> {
 
     /// Makes a block's line shared, so that it is only read. Its marks stay.
     pub fn downgrade(&mut self, block: BlockNo)
-        requires { IsSomeAnd (line_at SETS self.old block) (λ line. IsFalse line.written) }
+        requires { IsSomeAnd (line_at SETS self.old block) (λ line. IsFalse line.marks.written) }
         ensures { ChangesLine SETS self.old self.new block (in_state Shared) }
     {
         if let Some(line) = self.look(block) {
@@ -140,7 +146,7 @@ impl<const SETS: usize, const WAYS: usize> Cache<SETS, WAYS> {
     #[tactic(auto, unfolding(crate::specs::Sets::line_at))]
     fn replace(&mut self, line: Line)
         requires present { IsSome (line_at SETS self.old line.block) }
-        requires owned { IsTrue line.written → line.state ≡ Modified }
+        requires owned { IsTrue line.marks.written → line.state ≡ Modified }
         ensures { SetsLine (holds line.block) SETS self.old self.new line.block (Some line) }
     {
         let sets = &mut self.sets[..];

@@ -1,22 +1,15 @@
 ghost use Rattle.std.specs.Prelude.{◌≡◌};
 ghost use Rattle.cache.specs.Line.{filled};
 
-use words::{Block, BlockNo, LineState};
+use words::{Block, BlockNo, LineState, Marks};
 
-/// A block that a cache holds, with the marks of its hart's running transaction (the R and W bits of LogTM, Moore and
-/// others, HPCA 2006, and one more).
+/// A block that a cache holds, with the marks of its hart's running transaction.
 #[derive(Clone, Copy, Debug, PartialEq, Eq)]
 pub struct Line {
     pub block: BlockNo,
     pub content: Block,
     pub state: LineState,
-    /// The running transaction has read the block.
-    pub read: bool,
-    /// The running transaction has written the block.
-    pub written: bool,
-    /// The line was filled after the running transaction had overflowed, that is, had given up a block
-    /// that it used. This may be that block, so the line conflicts with every forwarded request.
-    pub overflowed: bool,
+    pub marks: Marks,
 }
 
 impl Line {
@@ -28,9 +21,10 @@ impl Line {
             block,
             content,
             state,
-            read: false,
-            written: false,
-            overflowed,
+            marks: Marks {
+                overflowed,
+                ..Marks::none()
+            },
         }
     }
 }

@@ -1,10 +1,10 @@
 ghost use Rattle.std.specs.Prelude.{◌≡◌, ◌<◌, ◌/◌, ◌%◌};
-ghost use Rattle.cache.specs.Bytes.{bytes_in};
+ghost use Rattle.words.specs.Bytes.{bytes_in};
 
 use crate::{Cache, Line, Victim};
 use std::process::Abort;
 use std::test::Fail;
-use words::{Addr, Block, BlockNo, LineState, Width};
+use words::{Addr, Block, BlockNo, LineState, Marks, Width};
 
 type Small = Cache<2, 1>;
 
@@ -17,9 +17,7 @@ fn line(number: u32, state: LineState) -> Line {
         block: BlockNo::new(number),
         content: COUNTED,
         state,
-        read: false,
-        written: false,
-        overflowed: false,
+        marks: Marks::none(),
     }
 }
 
@@ -72,7 +70,7 @@ fn a_victim_has_no_marks_if_one_has_none(rt: HostRuntime) -> Result<(), Fail> {
     assert_eq!(rt; cache.victim(BlockNo::new(3)), Victim::Drop(second));
     mark_read(&rt, &mut cache, 2);
     let mut first = line(1, LineState::Shared);
-    first.read = true;
+    first.marks.read = true;
     assert_eq!(rt; cache.victim(BlockNo::new(3)), Victim::Drop(first));
     Ok(())
 }
@@ -109,9 +107,11 @@ fn a_line_changes_its_state_and_its_marks(rt: HostRuntime) -> Result<(), Fail> {
     cache.mark_written(block);
     mark_read(&rt, &mut cache, 6);
     let mut marked = line(6, LineState::Modified);
-    marked.read = true;
-    marked.written = true;
-    marked.overflowed = true;
+    marked.marks = Marks {
+        read: true,
+        written: true,
+        overflowed: true,
+    };
     assert_eq!(rt; cache.look(block), Some(marked));
     cache.clear_marks();
     let clear = line(6, LineState::Modified);
@@ -120,7 +120,7 @@ fn a_line_changes_its_state_and_its_marks(rt: HostRuntime) -> Result<(), Fail> {
     let Some(now) = found else {
         return Ok(());
     };
-    assert!(rt; !now.written);
+    assert!(rt; !now.marks.written);
     cache.downgrade(block);
     let shared = line(6, LineState::Shared);
     assert_eq!(rt; cache.look(block), Some(shared));

@@ -4,7 +4,7 @@ ghost use Rattle.cache.specs.Line.{without_marks, put_out_by};
 ghost use Rattle.cache.specs.Ways.{holds, is_free, is_unmarked, line_in, victim_in};
 
 use crate::line::Line;
-use words::{BlockNo, LineState};
+use words::{BlockNo, Marks};
 
 /// What has to go before a block can be filled.
 #[derive(Clone, Copy, Debug, PartialEq, Eq)]
@@ -51,7 +51,7 @@ fn has_no_mark(way: &Option<Line>) -> bool
     ensures { result ≡ is_unmarked way.now }
 {
     match way {
-        Some(line) => !line.read && !line.written && !line.overflowed,
+        Some(line) => !line.marks.is_marked(),
         None => false,
     }
 }
@@ -84,9 +84,10 @@ pub fn victim_of(ways: &[Option<Line>]) -> Victim
 fn put_out(line: Line) -> Victim
     ensures { result ≡ put_out_by line.state line }
 {
-    match line.state {
-        LineState::Shared => Victim::Drop(line),
-        LineState::Exclusive | LineState::Modified => Victim::WriteBack(line),
+    if line.state.is_owned() {
+        Victim::WriteBack(line)
+    } else {
+        Victim::Drop(line)
     }
 }
 
@@ -111,8 +112,6 @@ fn clear(way: &mut Option<Line>)
     ensures { way.new ≡ option_map without_marks way.old }
 {
     if let Some(line) = way {
-        line.read = false;
-        line.written = false;
-        line.overflowed = false;
+        line.marks = Marks::none();
     }
 }

@@ -1,5 +1,5 @@
 //! Conflicts between transactions: when a hart refuses a block that another asks for, which of two requests is the earlier, and
-//! when a refused transaction gives way.
+//! when a refused transaction aborts.
 #![tactic(auto)]
 
 mod laws;
@@ -8,4 +8,4 @@ mod refusal;
 
 pub use laws::stamps_are_ordered;
 pub use order::{earlier, must_abort};
-pub use refusal::{Marks, refuses};
+pub use refusal::refuses;

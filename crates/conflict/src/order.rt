@@ -20,7 +20,7 @@ fn is_earlier(a: Stamp, b: Stamp) -> bool
     a.count < b.count || a.count == b.count && a.hart.index() < b.hart.index()
 }
 
-/// Whether a transaction gives way when its request ends refused: it has itself refused an earlier one since it began, so that the
+/// Whether a transaction aborts when its request ends refused: it has itself refused an earlier one since it began, so that the
 /// two may wait for each other, and one that refused it is earlier.
 pub fn must_abort(possible_cycle: bool, earlier_refused: bool) -> bool
     ensures { result ≡ possible_cycle && earlier_refused }

@@ -1,19 +1,7 @@
 ghost use Rattle.std.specs.Prelude.{◌≡◌};
-ghost use Rattle.conflict.specs.Refusals.{refuses};
+ghost use Rattle.words.specs.Marks.{refuses};
 
-use words::Kind;
-
-/// What a running transaction did with a line of its hart's cache.
-#[derive(Clone, Copy, Debug, PartialEq, Eq)]
-pub struct Marks {
-    /// It loaded from the line.
-    pub read: bool,
-    /// It stored to the line.
-    pub written: bool,
-    /// The line came after the transaction had given up a marked line. Since that may have been this block, it counts as
-    /// read and written.
-    pub overflowed: bool,
-}
+use words::{Kind, Marks};
 
 /// Whether a hart refuses a request for a block, by the marks of its line of it, if it has one. `overflow` says whether its
 /// transaction has given up a marked line: then an absent block may be one that it used.
@@ -25,7 +13,7 @@ pub fn refuses(line: Option<Marks>, overflow: bool, kind: Kind) -> bool
     };
     match kind {
         Kind::Read => marks.written || marks.overflowed,
-        Kind::Write => marks.read || marks.written || marks.overflowed,
+        Kind::Write => marks.is_marked(),
     }
 }
 
@@ -35,11 +23,7 @@ mod tests {
 
     #[test]
     fn refuses_by_marks(rt: HostRuntime) {
-        let none = Marks {
-            read: false,
-            written: false,
-            overflowed: false,
-        };
+        let none = Marks::none();
         let cases = [
             (Some(none), false, false),
             (Some(Marks { read: true, ..none }), false, true),

@@ -2,13 +2,12 @@
 use Rattle.std.proofs.Common.{◌≡◌, ◌≢◌, ◌≤◌, ℕ, ◌-◌, ◌+◌, ◌/◌, ◌%◌, Bool, true, false, cond, Option, Some, None, refl, ◌∙◌}
 use Rattle.std.specs.Prelude.{◌==◌}
 use Rattle.std.specs.Option.{option_map}
-use Rattle.table.specs.Effects.{bytes_in}
+use Rattle.words.specs.Bytes.{bytes_in, byte_of}
 use Rattle.table.specs.declared.effect.MemoryAct.{MemoryAct}
 use Rattle.table.specs.declared.effect.Load.{Load}
 use Rattle.table.specs.declared.effect.Store.{Store}
 use Rattle.table.specs.declared.effect.Act.{Act}
 use Rattle.table.specs.declared.effect.Act.TheVariants as act
-use Rattle.flat.specs.Bytes.{byte_of}
 use Rattle.flat.specs.State.{Setting, FlatHart, Tx, has_written}
 use Rattle.flat.specs.Causes.{act_cause}
 use Rattle.flat.specs.Effects.{tx_by, tx_got, tx_put, put_of}

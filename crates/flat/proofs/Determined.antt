@@ -15,7 +15,7 @@ one_retired : (f g h : Flat) (i w : ℕ) (e : Entry) (r : Result Effect Cause) �
 one_retired f g h i w e (Ok d) a b = a.after ∙ sym b.after
 one_retired f g h i w e (Err c) a b = absurd a
 
--- what is taken back
+-- what is rolled back
 one_aborted : (f g h : Flat) (i : ℕ) (c : AbortCause) (t : Option Tx) → IsSomeAnd t (λ t. Aborts f i c t g) → IsSomeAnd t (λ t. Aborts f i c t h) → g ≡ h
 one_aborted f g h i c (Some t) a b = a.after ∙ sym b.after
 one_aborted f g h i c None a b = absurd a

@@ -27,7 +27,7 @@ pub retired_by : (f g : Flat) (i pc w : ℕ) (x : Option (ℕ × ℕ)) (l s : Op
     → (d : Effect) × (next_of f.setting (f.hart i) ≡ Ok d) × Retires f i w d (Retire i pc w x l s) g
 retired_by f g i pc w x l s k = ok_with (next_of f.setting (f.hart i)) (λ d. Retires f i w d (Retire i pc w x l s) g) k
 
--- what is taken back is the hart's transaction
+-- what is rolled back is the hart's transaction
 pub aborted_by : (f g : Flat) (i : ℕ) (c : AbortCause) → Carries f (Abort i c) g → (t : Tx) × ((f.hart i).tx ≡ Some t) × Aborts f i c t g
 aborted_by f g i c k = some_with (f.hart i).tx (λ t. Aborts f i c t g) k
 
@@ -35,7 +35,7 @@ aborted_by f g i c k = some_with (f.hart i).tx (λ t. Aborts f i c t g) k
 pub hart_retired : (f g : Flat) (i : ℕ) (d : Effect) → g ≡ retired f i d → g.hart i ≡ hart_after (flat_view f i) (f.hart i) d
 hart_retired f g i d e = ap (λ (m : Flat). m.hart i) e ∙ put_there i (hart_after (flat_view f i) (f.hart i) d) f.hart
 
--- the hart after its transaction was taken back
+-- the hart after its transaction was rolled back
 pub hart_back : (f g : Flat) (i : ℕ) (c : AbortCause) (t : Tx) → g ≡ aborted f i c t → g.hart i ≡ hart_aborted (f.hart i) c t
 hart_back f g i c t e = ap (λ (m : Flat). m.hart i) e ∙ put_there i (hart_aborted (f.hart i) c t) f.hart
 

@@ -4,12 +4,11 @@ use Rattle.std.specs.Prelude.{◌==◌, List, IsTrue}
 use Rattle.std.specs.Option.{option_map, unwrap_or}
 use Rattle.words.specs.declared.entry.Entry.{Entry}
 use Rattle.words.specs.declared.entry.Entry.TheVariants.{Retire, Abort, Trap, Refuse, Spill}
-use Rattle.table.specs.Effects.{bytes_in}
+use Rattle.words.specs.Bytes.{bytes_in, byte_of}
 use Rattle.table.specs.declared.effect.MemoryAct.{MemoryAct}
 use Rattle.table.specs.declared.effect.Store.{Store}
 use Rattle.table.specs.declared.effect.Act.{Act}
 use Rattle.table.specs.declared.effect.Act.TheVariants as act
-use Rattle.flat.specs.Bytes.{byte_of}
 use Rattle.flat.specs.State.{Setting, Flat, FlatHart, Tx, flat_view, seen}
 use Rattle.flat.specs.Causes.{act_cause}
 use Rattle.flat.specs.Effects.{mem_by, mem_put, put_of}

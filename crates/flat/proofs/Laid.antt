@@ -6,7 +6,7 @@ use Rattle.std.proofs.lemmas.Grind.{get_or-set_at}
 use Rattle.std.proofs.lemmas.List.{get_or-set_other}
 use Rattle.words.specs.declared.entry.Width.{Width}
 use Rattle.words.specs.declared.entry.Width.TheVariants.{Byte, Half, Word}
-use Rattle.table.specs.Effects.{bytes_in}
+use Rattle.words.specs.Bytes.{bytes_in}
 use Rattle.flat.specs.Bytes.{laid, put_at}
 
 -- to lay no value changes nothing

@@ -11,9 +11,9 @@ pub mod Separate
 pub mod Isolated
 pub mod Elsewhere
 pub mod Struck
-pub mod Back
+pub mod RolledBack
 pub mod Committed
-pub mod Useful
+pub mod LoadsOrStores
 pub mod Touches
 pub mod Grows
 pub mod SameView

@@ -5,7 +5,7 @@ use Rattle.std.proofs.lemmas.Bool.Decides.{nat_tests}
 use Rattle.words.specs.declared.cause.Cause.{Cause}
 use Rattle.table.specs.declared.effect.Effect.{Effect}
 use Rattle.table.specs.declared.effect.MemoryAct.{MemoryAct}
-use Rattle.table.specs.Effects.{bytes_in}
+use Rattle.words.specs.Bytes.{bytes_in}
 use Rattle.table.specs.Table.{effect_of}
 use Rattle.table.specs.Program.{word_at}
 use Rattle.flat.specs.State.{Setting, FlatHart}

@@ -4,13 +4,13 @@ use Rattle.std.specs.Option.{option_map}
 use Rattle.words.specs.declared.entry.Width.{Width}
 use Rattle.words.specs.declared.entry.Width.TheVariants.{Byte, Half, Word}
 use Rattle.words.specs.declared.entry.Entry.TheVariants.{Retire}
-use Rattle.table.specs.Effects.{bytes_in, with_reg}
+use Rattle.words.specs.Bytes.{bytes_in, number_at}
+use Rattle.table.specs.Effects.{with_reg}
 use Rattle.table.specs.declared.effect.Effect.{Effect}
 use Rattle.table.specs.declared.effect.MemoryAct.{MemoryAct}
 use Rattle.table.specs.declared.effect.Store.{Store}
 use Rattle.table.specs.declared.effect.Act.{Act}
 use Rattle.table.specs.declared.effect.Act.TheVariants as act
-use Rattle.flat.specs.Bytes.{number_at}
 use Rattle.flat.specs.State.{Setting, FlatHart, Tx}
 use Rattle.flat.specs.Causes.{act_cause}
 use Rattle.flat.specs.Effects.{old_of, put_of, access, write_by, load_by, store_by, retire_of, tx_by, tx_put, tx_got, hart_after}

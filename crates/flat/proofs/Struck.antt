@@ -1,4 +1,4 @@
--- Of a transaction that was taken back nothing is left: the other harts' entries are a run without it.
+-- Of a transaction that was rolled back nothing is left: the other harts' entries are a run without it.
 use Rattle.std.proofs.Common.{◌≡◌, ◌≢◌, ℕ, Bool, true, false, cond, None, List, [], ◌∷◌, refl, sym, ap, ◌∙◌, subst}
 use Rattle.std.specs.Prelude.{◌==◌, not, IsSome}
 use Rattle.words.specs.declared.entry.Entry.{Entry}

@@ -19,7 +19,7 @@ use Rattle.flat.proofs.Apart.{IsApart}
 use Rattle.flat.proofs.Separate.{IsSeparate, stays_separate}
 use Rattle.flat.proofs.Isolated.{others_leave}
 use Rattle.flat.proofs.Elsewhere.{LooksLike, as_in, carries_too}
-use Rattle.flat.proofs.Useful.{next_useful}
+use Rattle.flat.proofs.LoadsOrStores.{next_useful}
 use Rattle.flat.proofs.Touches.{IsAt, act_touches, act_room, room_allows}
 use Rattle.flat.proofs.Grows.{own_grows, some_none}
 use Rattle.flat.proofs.SameView.{Agree, agree_by, retire_same, after_same}

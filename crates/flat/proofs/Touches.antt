@@ -12,7 +12,7 @@ use Rattle.flat.specs.State.{Flat, FlatHart, Tx, has_read, has_written, MayAcces
 use Rattle.flat.specs.Effects.{tx_by, tx_got, tx_put, put_of}
 use Rattle.flat.specs.Isolation.{has_touched}
 use Rattle.flat.proofs.Apart.{IsApart, IsFree, LeavesRoom, not_both, unread, unwritten}
-use Rattle.flat.proofs.Useful.{IsUseful, LoadsOrStores}
+use Rattle.flat.proofs.LoadsOrStores.{IsUseful, LoadsOrStores}
 
 -- the address lies in the block of the act's access
 abbrev pub IsAt : Act → ℕ → Type 0

@@ -7,3 +7,6 @@ pub mod Steps
 pub mod Reasons
 pub mod Isolation
 pub mod Attempts
+pub mod Boots
+pub mod BootFaults
+pub mod Reads

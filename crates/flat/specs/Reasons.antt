@@ -1,5 +1,5 @@
 -- Stamps, and the reasons of refusals and conflicts, read off a list of entries.
-use Rattle.std.specs.Prelude.{ℕ, ◌≡◌, ◌+◌, ◌-◌, ◌/◌, min, Bool, true, false, not, cond, ◌==◌, ◌&&◌, ◌||◌, nat_lt, Option, Some, None, List, [], ◌∷◌, ◌⊎◌, IsOkAnd}
+use Rattle.std.specs.Prelude.{ℕ, ◌≡◌, ◌≢◌, ◌<◌, ◌+◌, ◌-◌, ◌/◌, min, Bool, true, false, not, cond, ◌==◌, ◌&&◌, ◌||◌, nat_lt, Option, Some, None, List, [], ◌∷◌, ◌⊎◌, IsOkAnd}
 use Rattle.words.specs.declared.entry.Entry.{Entry}
 use Rattle.words.specs.declared.entry.Entry.TheVariants.{Retire, Abort, Trap, Refuse, Spill}
 use Rattle.words.specs.declared.stamp.Stamp.{Stamp}
@@ -94,19 +94,17 @@ StandsAgainst f j b (Some s) = (has_read (f.hart j).tx b ≡ true) ⊎ (has_writ
 
 -- the act loads from or stores to block b, and hart j's transaction stands against it or has spilled
 abbrev pub WantsKept : Flat → ℕ → ℕ → Bool → Act → Type 0
-WantsKept f j b spilled act.Nothing = ⊥
 WantsKept f j b spilled (act.Memory m) = (m.addr / 32 ≡ b) × (StandsAgainst f j b m.store ⊎ (spilled ≡ true))
-WantsKept f j b spilled (act.Begin p) = ⊥
-WantsKept f j b spilled act.Commit = ⊥
-WantsKept f j b spilled act.Abort = ⊥
-WantsKept f j b spilled act.Call = ⊥
-WantsKept f j b spilled act.Break = ⊥
+WantsKept f j b spilled _ = ⊥
 
--- why hart j may refuse block b to hart i: the word at i's pc wants the block, and it isn't allowed because of j's transaction, or j's
--- transaction has spilled, and can't tell
-abbrev pub RefusalHasReason : Flat → History → ℕ → ℕ → ℕ → Type 0
-RefusalHasReason f h j i b = IsOkAnd (next_of f.setting (f.hart i)) (λ e. WantsKept f j b (nat_lt 0 (h.past j).depth && (h.past j).has_spilled) e.act)
+-- why hart j may refuse block b to hart i: they are two of the harts; the word at i's pc wants the block, and it isn't allowed because
+-- of j's transaction, or j's transaction has spilled, and can't tell
+pub record RefusalHasReason (f : Flat) (h : History) (j i b : ℕ) : Type 0 where
+  pub refuser : j < f.setting.count
+  pub requester : i < f.setting.count
+  pub other : j ≢ i
+  pub wants : IsOkAnd (next_of f.setting (f.hart i)) (λ e. WantsKept f j b (nat_lt 0 (h.past j).depth && (h.past j).has_spilled) e.act)
 
--- why hart i's transaction may give way: since its begin it refused an earlier one, and since it last retired an earlier one refused it
+-- why hart i's transaction may abort for a conflict: since its begin it refused an earlier one, and since it last retired an earlier one refused it
 abbrev pub ConflictHasReason : History → ℕ → Type 0
 ConflictHasReason h i = ((h.past i).refused_earlier ≡ true) × ((h.past i).was_refused ≡ true)

@@ -1,12 +1,14 @@
 -- The flat state that a program begins in.
 use Rattle.std.specs.Prelude.{ℕ, cond, nat_lt, ◌-◌, ◌*◌, None, List, [], slice_set, replicate}
 use Rattle.words.specs.declared.cause.Status.TheVariants.{Running}
+use Rattle.words.specs.Limits.{stack_bytes}
 use Rattle.table.specs.Program.{image_at}
 use Rattle.flat.specs.State.{Setting, FlatHart, Flat, idle}
+use Rattle.flat.specs.Causes.{logs_from}
 
--- below the undo logs, 4,096 bytes a hart, lie the stacks, 4,096 bytes a hart
+-- below the undo logs lie the stacks, that of hart 0 highest
 abbrev pub stack_top : Setting → ℕ → ℕ
-stack_top s i = s.size - s.count * 4096 - i * 4096
+stack_top s i = logs_from s - stack_bytes * i
 
 -- sp (x2) is the top of the hart's stack, a0 (x10) its number, a1 (x11) the number of harts; all others are 0
 abbrev pub first_regs : Setting → ℕ → List ℕ

@@ -15,7 +15,7 @@ pub record Setting : Type 0 where
   pub count : ℕ
 
 -- a running transaction: the registers to go back to and the pc to go on at after an abort; how deep it is nested; how many stores
--- were retired in it, counted up to 113; the bytes that it wrote, by address; the blocks that it read, and those that it wrote
+-- were retired in it, counted up to the records of a log; the bytes that it wrote, by address; the blocks that it read, and those that it wrote
 pub record Tx : Type 0 where
   pub checkpoint : List ℕ
   pub abort_pc : ℕ
@@ -76,10 +76,5 @@ MayAccess f i b (Some s) = MayStore f i b
 
 -- hart i's act is kept out by no other hart's transaction
 abbrev pub IsAllowed : Flat → ℕ → Act → Type 0
-IsAllowed f i act.Nothing = Unit {0}
 IsAllowed f i (act.Memory m) = MayAccess f i (m.addr / 32) m.store
-IsAllowed f i (act.Begin p) = Unit {0}
-IsAllowed f i act.Commit = Unit {0}
-IsAllowed f i act.Abort = Unit {0}
-IsAllowed f i act.Call = Unit {0}
-IsAllowed f i act.Break = Unit {0}
+IsAllowed f i _ = Unit {0}

@@ -7,6 +7,7 @@ use Rattle.words.specs.declared.cause.AbortCause.{AbortCause}
 use Rattle.words.specs.declared.cause.AbortCause.TheVariants.{Asked, Conflict, LogFull, Trapped}
 use Rattle.words.specs.declared.cause.Status.{Status}
 use Rattle.words.specs.declared.cause.Status.TheVariants.{Running, Stopped}
+use Rattle.words.specs.Limits.{log_records}
 use Rattle.table.specs.declared.effect.Effect.{Effect}
 use Rattle.table.specs.declared.effect.Act.{Act}
 use Rattle.table.specs.declared.effect.Act.TheVariants as act
@@ -28,15 +29,10 @@ retired f i e = record f {
   hart = put_at i (hart_after (flat_view f i) (f.hart i) e) f.hart;
 }
 
--- whether an act takes the transaction back
+-- whether an act rolls the transaction back
 abbrev pub is_abort : Act → Bool
-is_abort act.Nothing = false
-is_abort (act.Memory m) = false
-is_abort (act.Begin p) = false
-is_abort act.Commit = false
 is_abort act.Abort = true
-is_abort act.Call = false
-is_abort act.Break = false
+is_abort _ = false
 
 -- hart i retires: its word has no cause and is no TABORT, its access is allowed, and entry and state are those of its effect
 pub record Retires (f : Flat) (i word : ℕ) (does : Effect) (e : Entry) (g : Flat) : Type 0 where
@@ -48,38 +44,31 @@ pub record Retires (f : Flat) (i word : ℕ) (does : Effect) (e : Entry) (g : Fl
   pub after : g ≡ retired f i does
 
 abbrev pub is_store : Act → Bool
-is_store act.Nothing = false
 is_store (act.Memory m) = is_some m.store
-is_store (act.Begin p) = false
-is_store act.Commit = false
-is_store act.Abort = false
-is_store act.Call = false
-is_store act.Break = false
+is_store _ = false
 
 -- what has to hold for an abort of this cause: the word is TABORT; the word is a store, and the transaction has retired at least as
 -- many as an undo log holds; the word has this cause, at this pc. A conflict may come at any moment: its reason lies in the entries before
 abbrev pub MayAbort : AbortCause → FlatHart → Tx → Result Effect Cause → Type 0
 MayAbort Asked h t next = IsOkAnd next (λ e. is_abort e.act ≡ true)
 MayAbort Conflict h t next = Unit {0}
-MayAbort LogFull h t next = IsOkAnd next (λ e. is_store e.act ≡ true) × (113 ≤ t.stores)
+MayAbort LogFull h t next = IsOkAnd next (λ e. is_store e.act ≡ true) × (log_records ≤ t.stores)
 MayAbort (Trapped c p) h t next = (p ≡ h.pc) × (next ≡ Err c)
 
 -- an abort for a cause of the hart's own word also stops the hart
 abbrev pub status_for : AbortCause → Status
-status_for Asked = Running
-status_for Conflict = Running
-status_for LogFull = Running
 status_for (Trapped c p) = Stopped c p
+status_for _ = Running
 
--- a hart whose transaction was taken back: registers and pc as the begin kept them, and no transaction
+-- a hart whose transaction was rolled back: registers and pc as the begin kept them, and no transaction
 abbrev pub hart_aborted : FlatHart → AbortCause → Tx → FlatHart
 hart_aborted h cause t = record h { regs = t.checkpoint; pc = t.abort_pc; status = status_for cause; tx = None }
 
--- the flat state after hart i's transaction was taken back: memory stays
+-- the flat state after hart i's transaction was rolled back: memory stays
 abbrev pub aborted : Flat → ℕ → AbortCause → Tx → Flat
 aborted f i cause t = record f { hart = put_at i (hart_aborted (f.hart i) cause t) f.hart }
 
--- hart i's transaction is taken back
+-- hart i's transaction is rolled back
 pub record Aborts (f : Flat) (i : ℕ) (cause : AbortCause) (t : Tx) (g : Flat) : Type 0 where
   pub running : IsRunning f i
   pub due : MayAbort cause (f.hart i) t (next_of f.setting (f.hart i))

@@ -8,10 +8,11 @@ mod facts;
 mod laws;
 
 pub use facts::{
-    each_message_is_awaited, lines_agree, logs_undo_to_memory, requests_are_one, sets_are_covered,
-    undos_go_through, who_acknowledged_has_given_up,
+    each_message_is_awaited, lines_agree, lines_fit, logs_fit, logs_undo_to_memory,
+    requests_are_one, sets_are_covered, undos_go_through, unreachable_cases_never_occur,
+    who_acknowledged_has_given_up,
 };
 pub use laws::{
     answers_are_the_flat_machines, conflicts_have_reasons, entries_are_a_flat_run,
-    refusals_have_reasons, retirements_are_rows,
+    refusals_have_reasons, retirements_are_rows, steps_exist,
 };

@@ -25,7 +25,7 @@ and_swapped false false = refl
 pub share_swapped : (h k : SegmentHeader) → share h k ≡ share k h
 share_swapped h k = and_swapped (nat_lt h.addr (k.addr + k.memory_size)) (nat_lt k.addr (h.addr + h.memory_size))
 
--- one shares a byte with none of some just if with none at a place among them
+-- one shares a byte with none of some if and only if with none at a place among them
 none_at : (h : SegmentHeader) (ks : List SegmentHeader) → list_any (share h) ks ≡ false → (j : ℕ) (d : SegmentHeader) → j < length ks → share h (get_or ks j d) ≡ false
 none_at h [] e j d lt = absurd (omega arith)
 none_at h (k ∷ ks) e zero d lt = (or_parts (share h k) (list_any (share h) ks) e).0

@@ -1,4 +1,4 @@
--- Two segments share a byte just if the test on their headers says so.
+-- Two segments share a byte if and only if the test on their headers says so.
 use Rattle.std.proofs.Common.{◌≡◌, ℕ, ◌<◌, true, false, List, [], ◌∷◌, map, refl, arith, max}
 use Rattle.std.specs.List.{AllByRecursion, list_any}
 use Rattle.std.proofs.lemmas.Bool.{or_parts, or_from, false_from_ne_true}

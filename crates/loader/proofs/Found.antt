@@ -3,14 +3,15 @@ use Rattle.std.proofs.Common.{◌≡◌, ◌≢◌, Bool, true, false, cond, Lis
 use Rattle.std.specs.List.{AllByRecursion}
 use Rattle.loader.specs.declared.fault.LoadFault.{LoadFault}
 use Rattle.loader.specs.declared.fault.LoadFault.TheVariants.{NoMemory}
-use Rattle.loader.specs.Checks.{first, IsFault}
+use Rattle.words.specs.Tests.{first}
+use Rattle.loader.specs.Checks.{IsFault}
 
 -- the first check finds nothing, and so do the others
 false_first : (b : Bool) (fault : LoadFault) (found : Option LoadFault) (T : Type 0) → (found ≡ None → T) → cond b (Some fault) found ≡ None → (b ≡ false) × T
 false_first true fault found T h e = absurd cc
 false_first false fault found T h e = (refl, h e)
 
--- checks find nothing just if each test is false
+-- checks find nothing if and only if each test is false
 pub first-all_false : (checks : List (Bool × LoadFault)) → first checks ≡ None → AllByRecursion (λ check. check.0 ≡ false) checks
 first-all_false [] e = tt
 first-all_false (check ∷ checks) e = false_first check.0 check.1 (first checks) (AllByRecursion (λ check. check.0 ≡ false) checks) (first-all_false checks) e
@@ -49,7 +50,7 @@ pub first-append_some : (xs ys : List (Bool × LoadFault)) (fault : LoadFault) �
 first-append_some [] ys fault e = absurd cc
 first-append_some (x ∷ xs) ys fault e = stays x.0 x.1 fault (first xs) (first (xs ++ ys)) (first-append_some xs ys fault) e
 
--- a fault that is found may be answered, and what is answered was found, unless it is want of memory
+-- a fault that is found may be answered, and what is answered was found, unless memory ran out
 pub is_fault : (fault : LoadFault) (found : Option LoadFault) → found ≡ Some fault → IsFault fault found
 is_fault NoMemory found e = tt
 is_fault fault found e = e

@@ -1,4 +1,4 @@
--- A file is a program just if no check finds a fault, and it is then one program.
+-- A file is a program if and only if no check finds a fault, and it is then one program.
 use Rattle.std.proofs.Common.{◌≡◌, ℕ, ◌%◌, ◌<◌, true, false, not, List, [], ◌∷◌, ◌++◌, get_or, None, refl, sym, ap, subst, ◌∙◌, arith}
 use Rattle.std.specs.Prelude.{◌==◌}
 use Rattle.std.specs.List.{flat_map}
@@ -7,7 +7,8 @@ use Rattle.std.proofs.lemmas.Bool.{not-false, and_parts, and_from, eqb-true, eq-
 use Rattle.std.proofs.lemmas.List.{length-map}
 use Rattle.table.specs.Program.{word_at}
 use Rattle.loader.specs.Headers.{file_header, loaded_headers, segment_of, segments_of}
-use Rattle.loader.specs.Checks.{first, file_checks, segment_checks, some_share, table_checks, can_begin, entry_checks, fault_of}
+use Rattle.words.specs.Tests.{first}
+use Rattle.loader.specs.Checks.{file_checks, segment_checks, some_share, table_checks, can_begin, entry_checks, fault_of}
 use Rattle.loader.specs.declared.fault.LoadFault.TheVariants.{SegmentOverlap}
 use Rattle.loader.specs.Programs.{Program, AreApart, IsProgram}
 use Rattle.loader.specs.Elf.{IsElfOf, program_of}
@@ -37,7 +38,7 @@ IsClean-to bytes h =
     ∙ first-append_none (table_checks bytes) (entry_checks bytes) h.table
     ∙ all_false-first (entry_checks bytes) (ap not h.entry, tt)
 
--- the segments have no fault just if none has and no two share a byte
+-- the segments have no fault if and only if none has and no two share a byte
 pub table_parts : (bytes : List ℕ) → first (table_checks bytes) ≡ None → (found_in bytes (loaded_headers bytes) ≡ None) × (some_share (loaded_headers bytes) ≡ false)
 table_parts bytes e =
     let apart = (some_share (loaded_headers bytes), SegmentOverlap) ∷ [] in

@@ -5,7 +5,8 @@ use Rattle.std.specs.List.{AllByRecursion, flat_map}
 use Rattle.std.proofs.lemmas.Bool.{not-false, or_parts, or_from, ltb-false, le-ltb, eqb-true, eq-eqb}
 use Rattle.loader.specs.declared.headers.SegmentHeader.{SegmentHeader}
 use Rattle.loader.specs.Headers.{file_header, is_compressed, has_sizes, table_end, is_writable, is_executable, memory_end}
-use Rattle.loader.specs.Checks.{first, is_elf32, file_checks, segment_checks}
+use Rattle.words.specs.Tests.{first}
+use Rattle.loader.specs.Checks.{is_elf32, file_checks, segment_checks}
 use Rattle.loader.specs.Elf.{CanLoad}
 use Rattle.loader.proofs.Found.{first-all_false, all_false-first, first-append_none, first-append_parts}
 use Rattle.loader.proofs.Table.{found_in}
@@ -20,7 +21,7 @@ pub record HasHeader (bytes : List ℕ) : Type 0 where
   pub sizes : IsTrue (has_sizes (file_header bytes))
   pub table : table_end (file_header bytes) ≤ length bytes
 
--- they find nothing just if each of these holds
+-- they find nothing if and only if each of these holds
 pub header_clean : (bytes : List ℕ) → first (file_checks bytes) ≡ None → HasHeader bytes
 header_clean bytes e =
     let t = first-all_false (file_checks bytes) e in
@@ -68,7 +69,7 @@ both_false true true h = absurd (h refl refl)
 both_false true false h = refl
 both_false false b h = refl
 
--- the checks of a segment find nothing just if it can be loaded
+-- the checks of a segment find nothing if and only if it can be loaded
 segment_clean : (bytes : List ℕ) (h : SegmentHeader) → first (segment_checks bytes h) ≡ None → CanLoad bytes h
 segment_clean bytes h e =
     let t = first-all_false (segment_checks bytes h) e in

@@ -15,7 +15,7 @@ pub is_elf : (bytes : List ℕ) (r : Result Program LoadFault) → IfOk r (λ p.
 is_elf bytes (Ok p) h = subst (IsElfOf bytes) (sym h.1) (IsElfOf-clean bytes h.0)
 is_elf bytes (Err fault) h = tt
 
--- where nothing is found, only want of memory is answered
+-- where nothing is found, the only answer is that memory ran out
 only_memory : (fault : LoadFault) (found : Option LoadFault) → found ≡ None → IsFault fault found → fault ≡ NoMemory
 only_memory NoMemory found e h = refl
 only_memory fault found e h = absurd cc
@@ -24,6 +24,6 @@ pub is_read : (bytes : List ℕ) (r : Result Program LoadFault) → IfOk r (λ p
 is_read bytes (Ok q) ok err p elf = inl (ap (λ (x : Program). Ok x) (ok.1 ∙ sym (IsElfOf-one bytes p elf)))
 is_read bytes (Err fault) ok err p elf = inr (ap (λ (x : LoadFault). Err x) (only_memory fault (fault_of bytes) (IsElfOf-passes bytes p elf) err))
 
--- a fault that isn't want of memory was found
+-- a fault that isn't that memory ran out was found
 pub was_found : (bytes : List ℕ) (r : Result Program LoadFault) → IfErr r (λ fault. IsFault fault (fault_of bytes)) → IfErr r (λ fault. fault ≢ NoMemory → fault_of bytes ≡ Some fault)
 was_found bytes r h = IfErr-weaker r (λ fault. IsFault fault (fault_of bytes)) (λ fault. fault ≢ NoMemory → fault_of bytes ≡ Some fault) (λ fault e. IsFault-found fault (fault_of bytes) e) h

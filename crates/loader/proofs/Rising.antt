@@ -1,4 +1,4 @@
--- Of segments by rising address, any two share a byte just if two neighbours do.
+-- Of segments by rising address, any two share a byte if and only if two neighbours do.
 use Rattle.std.proofs.Common.{◌≡◌, ℕ, ◌+◌, ◌<◌, ◌≤◌, Bool, true, false, not, List, length, get_or, sym, ap, ◌∙◌, arith, inl, inr}
 use Rattle.std.specs.List.{All, AllByRecursion, AllAdjacentBelow, IsAllAdjacentAnswer}
 use Rattle.std.specs.List.Sorted.{IsPermutation, IsNonDecreasingBy}
@@ -11,7 +11,7 @@ use Rattle.loader.specs.Headers.{share}
 use Rattle.loader.proofs.Alone.{AreAlone, share_swapped, alone_from, alone_to, alone_permutation}
 use Rattle.loader.specs.Checks.{some_share}
 
--- of two by rising address, the first ends before the second begins just if they share no byte
+-- of two by rising address, the first ends before the second begins if and only if they share no byte
 ends_before : (h k : SegmentHeader) → h.addr ≤ k.addr → 0 < k.memory_size → true ≡ not (share h k) → h.addr + h.memory_size ≤ k.addr
 ends_before h k up some apart = grind (arith, nat_tests)
 

@@ -1,17 +1,13 @@
 -- What is checked of a file, in which order, and the fault that each check finds.
-use Rattle.std.specs.Prelude.{◌≡◌, ◌==◌, ◌&&◌, ◌||◌, not, cond, ℕ, ◌%◌, nat_lt, nat_eq, Bool, false, List, [], ◌∷◌, ◌++◌, length, Option, Some, None}
+use Rattle.std.specs.Prelude.{◌≡◌, ◌==◌, ◌&&◌, ◌||◌, not, ℕ, ◌%◌, nat_lt, nat_eq, Bool, false, List, [], ◌∷◌, ◌++◌, length, Option, Some}
 use Rattle.std.specs.List.{flat_map, list_any, starts_with}
 use Rattle.std.specs.Option.{is_some}
+use Rattle.words.specs.Tests.{first}
 use Rattle.table.specs.Program.{Segment, word_at}
 use Rattle.loader.specs.declared.fault.LoadFault.{LoadFault}
 use Rattle.loader.specs.declared.fault.LoadFault.TheVariants.{Truncated, NotElf32, NotRiscv, NotExec, Compressed, BadHeaderSize, SegmentOutside, SegmentOverlap, WritableText, BadEntry, NoMemory}
 use Rattle.loader.specs.declared.headers.SegmentHeader.{SegmentHeader}
 use Rattle.loader.specs.Headers.{file_header, is_compressed, has_sizes, table_end, is_writable, is_executable, file_end, memory_end, share, loaded_headers, segments_of}
-
--- the fault of the first test that holds, where each test holds of a bad file
-abbrev pub first : List (Bool × LoadFault) → Option LoadFault
-first [] = None
-first (check ∷ checks) = cond check.0 (Some check.1) (first checks)
 
 -- how the file begins: 7F and "ELF", and then 32-bit, little-endian and version 1
 abbrev pub ident : List ℕ
@@ -21,7 +17,7 @@ ident = 127 ∷ 69 ∷ 76 ∷ 70 ∷ 1 ∷ 1 ∷ 1 ∷ []
 abbrev pub is_elf32 : List ℕ → Bool
 is_elf32 bytes = starts_with nat_eq bytes ident && (file_header bytes).version == 1
 
--- the checks of the file's header
+-- the checks of the file's header: each test holds of a bad file, and stands beside the fault that it finds
 abbrev pub file_checks : List ℕ → List (Bool × LoadFault)
 file_checks bytes =
     let h = file_header bytes in

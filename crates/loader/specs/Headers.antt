@@ -1,29 +1,24 @@
 -- The headers of an ELF32 file, read from its bytes.
 use Rattle.std.specs.Prelude.{◌==◌, ◌&&◌, ◌||◌, if◌then◌else◌, ℕ, zero, suc, ◌+◌, ◌*◌, ◌/◌, ◌%◌, nat_lt, Bool, List, [], ◌∷◌, slice_index, take, drop, map}
 use Rattle.std.specs.List.{filter}
+use Rattle.words.specs.declared.entry.Width.TheVariants.{Half, Word}
+use Rattle.words.specs.Bytes.{number_at}
 use Rattle.table.specs.Program.{Segment}
 use Rattle.loader.specs.declared.headers.FileHeader.{FileHeader}
 use Rattle.loader.specs.declared.headers.SegmentHeader.{SegmentHeader}
 
--- the number of two bytes at a place, and that of four, little-endian
-abbrev pub number16 : List ℕ → ℕ → ℕ
-number16 bytes at = slice_index bytes at + 256 * slice_index bytes (at + 1)
-
-abbrev pub number32 : List ℕ → ℕ → ℕ
-number32 bytes at = number16 bytes at + 65536 * number16 bytes (at + 2)
-
 -- the header of the file, its first 52 bytes
 abbrev pub file_header : List ℕ → FileHeader
 file_header bytes = record {
-  kind = number16 bytes 16;
-  machine = number16 bytes 18;
-  version = number32 bytes 20;
-  entry = number32 bytes 24;
-  table_offset = number32 bytes 28;
-  flags = number32 bytes 36;
-  header_size = number16 bytes 40;
-  table_entry_size = number16 bytes 42;
-  table_len = number16 bytes 44;
+  kind = number_at (slice_index bytes) 16 Half;
+  machine = number_at (slice_index bytes) 18 Half;
+  version = number_at (slice_index bytes) 20 Word;
+  entry = number_at (slice_index bytes) 24 Word;
+  table_offset = number_at (slice_index bytes) 28 Word;
+  flags = number_at (slice_index bytes) 36 Word;
+  header_size = number_at (slice_index bytes) 40 Half;
+  table_entry_size = number_at (slice_index bytes) 42 Half;
+  table_len = number_at (slice_index bytes) 44 Half;
 }
 
 -- whether the file has compressed instructions
@@ -41,12 +36,12 @@ table_end h = if h.table_len == 0 then 0 else h.table_offset + 32 * h.table_len
 -- the header of a segment, 32 bytes at a place
 abbrev pub segment_header : List ℕ → ℕ → SegmentHeader
 segment_header bytes at = record {
-  kind = number32 bytes at;
-  offset = number32 bytes (at + 4);
-  addr = number32 bytes (at + 8);
-  file_size = number32 bytes (at + 16);
-  memory_size = number32 bytes (at + 20);
-  flags = number32 bytes (at + 24);
+  kind = number_at (slice_index bytes) at Word;
+  offset = number_at (slice_index bytes) (at + 4) Word;
+  addr = number_at (slice_index bytes) (at + 8) Word;
+  file_size = number_at (slice_index bytes) (at + 16) Word;
+  memory_size = number_at (slice_index bytes) (at + 20) Word;
+  flags = number_at (slice_index bytes) (at + 24) Word;
 }
 
 -- so many of them, one after another

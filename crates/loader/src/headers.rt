@@ -1,5 +1,7 @@
-ghost use Rattle.std.specs.Prelude.{◌≡◌, ◌+◌, ◌≤◌, length};
-ghost use Rattle.loader.specs.Headers.{number16, number32, file_header, segment_header, is_compressed, has_sizes, table_end, is_loaded, is_executable, is_writable, file_end, memory_end, share};
+ghost use Rattle.std.specs.Prelude.{◌≡◌, ◌+◌, ◌≤◌, length, slice_index};
+ghost use Rattle.words.specs.declared.entry.Width.TheVariants.{Half, Word};
+ghost use Rattle.words.specs.Bytes.{number_at};
+ghost use Rattle.loader.specs.Headers.{file_header, segment_header, is_compressed, has_sizes, table_end, is_loaded, is_executable, is_writable, file_end, memory_end, share};
 
 /// How many bytes the header of the file has.
 pub const FILE_HEADER_BYTES: usize = 52;
@@ -52,16 +54,16 @@ pub struct SegmentHeader {
 
 fn u16_at(bytes: &[u8], at: usize) -> u16
     requires { at + 2 ≤ length bytes.now }
-    ensures { result ≡ number16 bytes.now at }
+    ensures { result ≡ number_at (slice_index bytes.now) at Half }
 {
     u16::from_le_bytes([bytes[at], bytes[at + 1]])
 }
 
 fn u32_at(bytes: &[u8], at: usize) -> u32
     requires { at + 4 ≤ length bytes.now }
-    ensures { result ≡ number32 bytes.now at }
+    ensures { result ≡ number_at (slice_index bytes.now) at Word }
 {
-    u32::from(u16_at(bytes, at)) + 65536 * u32::from(u16_at(bytes, at + 2))
+    u32::from_le_bytes([bytes[at], bytes[at + 1], bytes[at + 2], bytes[at + 3]])
 }
 
 impl FileHeader {

@@ -1,18 +1,14 @@
 use super::*;
+use elf_samples::elf_file;
 use std::alloc::{AllocError, Global};
 use std::test::*;
 use table::Segment;
 use words::Addr;
 
-/// A program of three words at 0x1000: a7 = 93, a0 = 0, and ECALL.
-#[rattlefmt::skip]
-const SAMPLE: [u8; 96] = [
-    0x7f, 0x45, 0x4c, 0x46, 0x01, 0x01, 0x01, 0x00, 0x00, 0x00, 0x00, 0x00, 0x00, 0x00, 0x00, 0x00,
-    0x02, 0x00, 0xf3, 0x00, 0x01, 0x00, 0x00, 0x00, 0x00, 0x10, 0x00, 0x00, 0x34, 0x00, 0x00, 0x00,
-    0x00, 0x00, 0x00, 0x00, 0x00, 0x00, 0x00, 0x00, 0x34, 0x00, 0x20, 0x00, 0x01, 0x00, 0x00, 0x00,
-    0x00, 0x00, 0x00, 0x00,
-    0x01, 0x00, 0x00, 0x00, 0x54, 0x00, 0x00, 0x00, 0x00, 0x10, 0x00, 0x00, 0x00, 0x10, 0x00, 0x00,
-    0x0c, 0x00, 0x00, 0x00, 0x0c, 0x00, 0x00, 0x00, 0x05, 0x00, 0x00, 0x00, 0x01, 0x00, 0x00, 0x00,
+/// a7 = 93, a0 = 0, and ECALL: as words, and as bytes.
+const TEXT: [u32; 3] = [0x05d0_0893, 0x0000_0513, 0x0000_0073];
+
+const TEXT_BYTES: [u8; 12] = [
     0x93, 0x08, 0xd0, 0x05, 0x13, 0x05, 0x00, 0x00, 0x73, 0x00, 0x00, 0x00,
 ];
 
@@ -46,15 +42,16 @@ fn set(bytes: &mut [u8], changes: &[(usize, u32)]) {
 }
 
 fn sample_with(alloc: Global, changes: &[(usize, u32)]) -> Result<Vec<u8>, AllocError> {
-    let mut bytes = Vec::from_slice(alloc, &SAMPLE)?;
+    let mut bytes = elf_file(alloc, &TEXT)?;
     set(&mut bytes, changes);
     Ok(bytes)
 }
 
 /// The sample with its segment's header twice, the second at 0x2000 and for data.
 fn two_headers_with(alloc: Global, changes: &[(usize, u32)]) -> Result<Vec<u8>, AllocError> {
-    let mut bytes = Vec::from_slice(alloc, &SAMPLE[..84])?;
-    bytes.extend_from_slice(&SAMPLE[52..])?;
+    let sample = elf_file(alloc, &TEXT)?;
+    let mut bytes = Vec::from_slice(alloc, &sample[..84])?;
+    bytes.extend_from_slice(&sample[52..])?;
     let offset = KIND + 4;
     let second = [
         (TABLE_LEN, 2),
@@ -79,7 +76,7 @@ fn is_sample(program: &Program) -> bool {
                 segment.addr == 0x1000
                     && segment.size == 12
                     && segment.exec
-                    && segment.bytes[..] == SAMPLE[84..]
+                    && segment.bytes[..] == TEXT_BYTES[..]
             }
             _ => false,
         }
@@ -87,7 +84,7 @@ fn is_sample(program: &Program) -> bool {
 
 #[test]
 fn reads_the_sample(rt: HostRuntime) -> Result<(), Fail> {
-    let program = read_elf(rt.alloc(), &SAMPLE)
+    let program = read_elf(rt.alloc(), &elf_file(rt.alloc(), &TEXT)?)
         .ok()
         .ok_or("the sample is a program")?;
     assert!(rt; is_sample(&program));
@@ -98,14 +95,16 @@ fn reads_the_sample(rt: HostRuntime) -> Result<(), Fail> {
 }
 
 #[test]
-fn prefixes_are_truncated(rt: HostRuntime) {
-    for len in 0..SAMPLE.len() {
+fn prefixes_are_truncated(rt: HostRuntime) -> Result<(), Fail> {
+    let sample = elf_file(rt.alloc(), &TEXT)?;
+    for len in 0..sample.len() {
         assert_eq!(rt;
-            fault(rt.alloc(), &SAMPLE[..len]),
+            fault(rt.alloc(), &sample[..len]),
             Some(LoadFault::Truncated),
             "{len} bytes"
         );
     }
+    Ok(())
 }
 
 #[test]
@@ -202,10 +201,13 @@ fn memory_beyond_the_file_is_zero(rt: HostRuntime) -> Result<(), Fail> {
 #[test]
 fn any_byte_may_be_any_value(rt: HostRuntime) -> Result<(), Fail> {
     let mut read: u32 = 0;
-    for at in 0..SAMPLE.len() {
+    let sample = elf_file(rt.alloc(), &TEXT)?;
+    for at in 0..sample.len() {
         for value in 0..=u8::MAX {
-            let mut bytes = SAMPLE;
-            bytes[at] = value;
+            let mut bytes = sample.clone()?;
+            if let Some(byte) = bytes.get_mut(at) {
+                *byte = value;
+            }
             match read_elf(rt.alloc(), &bytes) {
                 Ok(_) => read = read.saturating_add(1),
                 Err(fault) => assert!(rt; fault != LoadFault::NoMemory, "{value} at {at}"),
@@ -231,7 +233,7 @@ fn faults_are_numbered(rt: HostRuntime) -> Result<(), Fail> {
 
 #[test]
 fn copies_are_the_same(rt: HostRuntime) -> Result<(), Fail> {
-    let program = read_elf(rt.alloc(), &SAMPLE)
+    let program = read_elf(rt.alloc(), &elf_file(rt.alloc(), &TEXT)?)
         .ok()
         .ok_or("the sample is a program")?;
     let copy = program.copy(rt.alloc())?;
@@ -248,9 +250,10 @@ fn copies_are_the_same(rt: HostRuntime) -> Result<(), Fail> {
 /// The sample's header with as many segments as a file can have: the sample's, and others of a byte
 /// each, one after another from the last address down.
 fn full_table(alloc: Global) -> Result<Vec<u8>, AllocError> {
-    let mut bytes = Vec::from_slice(alloc, &SAMPLE[..KIND])?;
+    let sample = elf_file(alloc, &TEXT)?;
+    let mut bytes = Vec::from_slice(alloc, &sample[..KIND])?;
     let mut header = [0; 32];
-    header.copy_from_slice(&SAMPLE[KIND..KIND + SECOND]);
+    header.copy_from_slice(&sample[KIND..KIND + SECOND]);
     bytes.extend_from_slice(&header)?;
     set(
         &mut header,
@@ -264,7 +267,7 @@ fn full_table(alloc: Global) -> Result<Vec<u8>, AllocError> {
         set(&mut header, &[(ADDR - KIND, 0x0040_0000 - 4 * i)]);
         bytes.extend_from_slice(&header)?;
     }
-    bytes.extend_from_slice(&SAMPLE[84..])?;
+    bytes.extend_from_slice(&sample[84..])?;
     let end = KIND + SECOND * usize::from(u16::MAX);
     set(&mut bytes, &[(TABLE_LEN, 0xffff), (KIND + 4, end as u32)]);
     Ok(bytes)

@@ -53,7 +53,7 @@ impl Net {
         self.slab.capacity() - self.slab.len()
     }
 
-    /// Makes room for so many messages. The only error is want of memory; what is in flight stays in either outcome.
+    /// Makes room for so many messages. It fails only if memory runs out; what is in flight stays in either outcome.
     pub fn reserve(&mut self, count: usize) -> Result<(), AllocError>
         ensures ok { OnOk result (count ≤ self.new.room) }
         ensures same { self.new.slots ≡ self.old.slots }

@@ -5,8 +5,8 @@ use Rattle.std.specs.List.{slice_index_or}
 use Rattle.std.specs.Ordering.{nat_cmp}
 use Rattle.std.specs.BTreeMap.{get}
 use Rattle.table.specs.declared.effect.MemoryAct.{MemoryAct}
-use Rattle.table.specs.Effects.{bytes_in}
-use Rattle.flat.specs.Bytes.{laid, byte_of}
+use Rattle.words.specs.Bytes.{bytes_in, byte_of}
+use Rattle.flat.specs.Bytes.{laid}
 use Rattle.overlay.specs.declared.overlay.Overlay.{Overlay}
 
 -- the byte that a footprint has at a place in its block, if it was written

@@ -1,6 +1,6 @@
 ghost use Rattle.std.specs.Prelude.{◌≡◌, ◌<◌, ◌≤◌, ◌+◌, ◌^◌, ℕ, length};
-ghost use Rattle.table.specs.Effects.{bytes_in};
-ghost use Rattle.flat.specs.Bytes.{laid, byte_of, cut, number_at};
+ghost use Rattle.words.specs.Bytes.{bytes_in, byte_of, cut, number_at};
+ghost use Rattle.flat.specs.Bytes.{laid};
 ghost use Rattle.words.specs.declared.entry.Width.TheVariants.{Word};
 ghost use Rattle.overlay.specs.Memory.{mem_of};
 

@@ -1,6 +1,7 @@
 ghost use Rattle.std.specs.Prelude.{◌≡◌, ◌<◌, ◌≤◌, ◌+◌, ◌-◌, ◌/◌, ◌%◌, ◌^◌, ◌&&◌, ◌||◌, ◌==◌, ℕ, Some, None, true, false, is_some, length, OnOk, OnErr, unwrap_or};
-ghost use Rattle.table.specs.Effects.{bytes_in};
-ghost use Rattle.flat.specs.Bytes.{laid, byte_of, put_at};
+ghost use Rattle.words.specs.Bytes.{bytes_in, byte_of};
+ghost use Rattle.words.specs.Limits.{block_bytes};
+ghost use Rattle.flat.specs.Bytes.{laid, put_at};
 ghost use Rattle.overlay.specs.Memory.{mem_of};
 ghost use Rattle.overlay.specs.Overlays.{byte_at, within, block_laid};
 
@@ -8,17 +9,14 @@ use crate::bytes::byte_of_value;
 use std::alloc::{AllocError, Global};
 use std::collections::BTreeMap;
 use table::{MemoryAct, byte_count};
-use words::Width;
-
-/// How many bytes a block has.
-const BLOCK: usize = 32;
+use words::{BLOCK_BYTES, Width};
 
 /// What a transaction did to one block: whether it read it, whether it wrote it, and the bytes that it wrote.
 #[derive(Clone, Copy, Debug)]
 pub struct Footprint {
     pub read: bool,
     pub written: bool,
-    pub bytes: [Option<u8>; 32],
+    pub bytes: [Option<u8>; BLOCK_BYTES],
 }
 
 impl Footprint {
@@ -30,7 +28,7 @@ impl Footprint {
         Footprint {
             read: false,
             written: false,
-            bytes: [None; 32],
+            bytes: [None; BLOCK_BYTES],
         }
     }
 }
@@ -46,11 +44,11 @@ fn put(bytes: &mut [Option<u8>], place: usize, width: Width, value: u32)
 }
 
 /// Lays the written bytes of a block over memory, as far as it goes.
-fn lay_block(memory: &mut [u8], block: usize, bytes: &[Option<u8>; 32])
-    ensures { (a : ℕ) → mem_of memory.new a ≡ block_laid (length memory.old) block bytes.now 32 (mem_of memory.old) a }
+fn lay_block(memory: &mut [u8], block: usize, bytes: &[Option<u8>; BLOCK_BYTES])
+    ensures { (a : ℕ) → mem_of memory.new a ≡ block_laid (length memory.old) block bytes.now block_bytes (mem_of memory.old) a }
 {
-    let start = block.saturating_mul(BLOCK);
-    for k in 0..BLOCK {
+    let start = block.saturating_mul(BLOCK_BYTES);
+    for k in 0..BLOCK_BYTES {
         let address = start.saturating_add(k);
         if address < memory.len() {
             if let Some(byte) = bytes[k] {
@@ -83,8 +81,8 @@ impl Overlay {
     pub fn byte(&self, address: usize) -> Option<u8>
         ensures { result ≡ byte_over self.now address }
     {
-        match self.blocks.get(&(address / BLOCK)) {
-            Some(footprint) => footprint.bytes[address % BLOCK],
+        match self.blocks.get(&(address / BLOCK_BYTES)) {
+            Some(footprint) => footprint.bytes[address % BLOCK_BYTES],
             None => None,
         }
     }
@@ -127,12 +125,17 @@ impl Overlay {
         ensures bytes { OnOk result ((a : ℕ) → byte_over self.new a ≡ bytes_put m.now value (byte_over self.old) a) }
         ensures err { OnErr result (self.new.blocks.entries ≡ self.old.blocks.entries) }
     {
-        let block = m.addr.index() / BLOCK;
+        let block = m.addr.index() / BLOCK_BYTES;
         let mut footprint = self.footprint(block);
         footprint.read = footprint.read || m.load.is_some();
         if let Some(value) = value {
             footprint.written = true;
-            put(&mut footprint.bytes, m.addr.index() % BLOCK, m.width, value);
+            put(
+                &mut footprint.bytes,
+                m.addr.index() % BLOCK_BYTES,
+                m.width,
+                value,
+            );
         }
         self.blocks.insert(block, footprint)?;
         Ok(())

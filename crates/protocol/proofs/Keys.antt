@@ -2,7 +2,8 @@
 use Rattle.std.proofs.Common.{ℕ, zero, suc, ◌≡◌, ◌≤◌, ◌+◌, ◌-◌, ◌/◌, ◌&&◌, cond, Option, Some, None, is_some, refl, ap, sym, ◌∙◌, arith}
 use Rattle.std.specs.Option.{option_and_then, option_or}
 use Rattle.protocol.specs.Messages.{Message}
-use Rattle.protocol.specs.Lines.{is_owned, byte_in}
+use Rattle.words.specs.LineStates.{is_owned}
+use Rattle.protocol.specs.Lines.{byte_in}
 use Rattle.protocol.specs.Directory.{Busy, Owner}
 use Rattle.protocol.specs.Network.{Network, LiesBelow}
 use Rattle.protocol.specs.Machine.{Machine}

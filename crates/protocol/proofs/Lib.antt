@@ -1,6 +1,4 @@
-pub mod Played
-pub mod Traces
-pub mod MoreTraces
 pub mod Settings
 pub mod Keys
 pub mod Chosen
+pub mod Splits

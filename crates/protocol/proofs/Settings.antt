@@ -4,7 +4,7 @@ use Rattle.words.specs.declared.entry.Entry.{Entry}
 use Rattle.words.specs.declared.entry.Step.{Step}
 use Rattle.words.specs.declared.entry.Step.TheVariants.{Core, Evict, Deliver}
 use Rattle.protocol.specs.Messages.{Message, block_of, receiver_of}
-use Rattle.protocol.specs.Hart.{Turn}
+use Rattle.protocol.specs.Hart.{HartResult}
 use Rattle.protocol.specs.Caches.{Geometry}
 use Rattle.protocol.specs.Core.{core_row}
 use Rattle.protocol.specs.Evict.{evict_row}
@@ -21,7 +21,7 @@ chosen : (w : Machine) (b : Bool) (c d : Change) → Keeps w c → Keeps w d →
 chosen w true c d kc kd = kc
 chosen w false c d kc kd = kd
 
-by_hart : (i : ℕ) (t : Option Turn) (w : Machine) → Keeps w (hart_change_if i t w)
+by_hart : (i : ℕ) (t : Option HartResult) (w : Machine) → Keeps w (hart_change_if i t w)
 by_hart i None w = refl
 by_hart i (Some t) w = refl
 

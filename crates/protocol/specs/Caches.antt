@@ -1,4 +1,4 @@
--- How many lines a hart can hold. The rows ask only which line has to make way before a block can be filled: a function from the
+-- How many lines a hart can hold. The rows ask only which line has to be evicted before a block can be filled: a function from the
 -- block to the victim's block, None where there is room.
 --
 -- A cache of so many sets and ways holds a block in the set that is its number modulo the sets. Which of a full set's lines makes

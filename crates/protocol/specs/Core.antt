@@ -7,8 +7,8 @@
 --
 -- As in LogTM (HPCA 2006) a store to a line without the W bit appends the block's words to the log, and a commit resets the log
 -- and clears the marks. There an abort runs a software handler, which walks the log backwards; here each core step undoes one
--- record, and the marks keep others out until the last is undone. The log holds 113 records: a store that would need one more
--- starts an abort instead.
+-- record, and the marks keep others out until the last is undone. A store that would need one record more than the log holds starts
+-- an abort instead.
 use Rattle.std.specs.Prelude.{ℕ, Bool, true, false, not, cond, ◌+◌, ◌-◌, ◌/◌, ◌==◌, ◌&&◌, Option, Some, None, Result, Ok, Err, List, [], ◌∷◌, length, is_some, is_none, nat_le, unwrap_or}
 use Rattle.std.specs.Option.{option_map}
 use Rattle.words.specs.declared.entry.Entry.TheVariants.{Trap, Abort}
@@ -28,25 +28,27 @@ use Rattle.flat.specs.State.{Setting}
 use Rattle.flat.specs.Causes.{next_of}
 use Rattle.flat.specs.Effects.{retire_of, write_by, output_by, status_by}
 use Rattle.flat.specs.Steps.{status_for}
-use Rattle.protocol.specs.Lines.{Line, is_owned, is_enough, byte_in, line_used, line_undone, line_cleared}
-use Rattle.protocol.specs.Hart.{Hart, Transaction, LogRecord, Turn, quiet, gives, is_running, with_line, has_put_of, flat_hart}
+use Rattle.words.specs.Limits.{log_records}
+use Rattle.words.specs.LineStates.{is_owned}
+use Rattle.protocol.specs.Lines.{Line, is_enough, byte_in, line_used, line_undone, line_cleared}
+use Rattle.protocol.specs.Hart.{Hart, Transaction, LogRecord, HartResult, quiet, gives, is_running, with_line, has_put_of, flat_hart}
 use Rattle.protocol.specs.Requests.{ask_row}
 use Rattle.protocol.specs.Evict.{evict_row}
 
 -- what a core is about to do: nothing is enabled; a row that needs no more than the hart has; or its line of a block isn't enough
 pub data Move : Type 0 where
   Rests : Move
-  Makes : (turn : Turn) → Move
+  Makes : (turn : HartResult) → Move
   Lacks : (kind : Kind) (block : ℕ) → Move
 
 -- Aborts
 
 -- a transaction starts to be aborted; its marks stay until the end
-abbrev pub start_abort_row : AbortCause → Transaction → Hart → Turn
+abbrev pub start_abort_row : AbortCause → Transaction → Hart → HartResult
 start_abort_row cause t h = quiet (record h { tx = Some (record t { aborting = Some cause }); fresh = false })
 
 -- the log is undone: registers and pc are those of the begin, no line has marks, and the next transaction keeps the stamp
-abbrev pub end_abort_row : ℕ → AbortCause → Transaction → Hart → Turn
+abbrev pub end_abort_row : ℕ → AbortCause → Transaction → Hart → HartResult
 end_abort_row i cause t h = gives (Abort i cause) (record h {
   regs = t.checkpoint;
   pc = t.abort_pc;
@@ -58,7 +60,7 @@ end_abort_row i cause t h = gives (Abort i cause) (record h {
 })
 
 -- a record's words go back to its block's line
-abbrev pub undo_row : Transaction → LogRecord → List LogRecord → Line → Hart → Turn
+abbrev pub undo_row : Transaction → LogRecord → List LogRecord → Line → Hart → HartResult
 undo_row t r rest l h = quiet (with_line r.block (Some (line_undone r.before l)) (record h { tx = Some (record t { log = rest }); fresh = false }))
 
 -- if the hart may write the line
@@ -74,13 +76,13 @@ abort_move i cause t (r ∷ rest) h = undo_move t r rest (h.lines r.block) h
 -- Instructions
 
 -- a trap stops the hart; in a transaction it starts an abort, and the abort's end stops it
-abbrev pub trap_row : ℕ → Cause → Option Transaction → Hart → Turn
+abbrev pub trap_row : ℕ → Cause → Option Transaction → Hart → HartResult
 trap_row i c None h = gives (Trap i c h.pc) (record h { status = Stopped c h.pc; fresh = false })
 trap_row i c (Some t) h = start_abort_row (Trapped c h.pc) t h
 
 -- the word w is retired with its effect: registers, pc, output, status and entry, by the bytes that the hart sees. The hart h has
 -- the lines and the transaction that it leaves
-abbrev pub retire_row : ℕ → (ℕ → ℕ) → ℕ → Effect → Hart → Turn
+abbrev pub retire_row : ℕ → (ℕ → ℕ) → ℕ → Effect → Hart → HartResult
 retire_row i view w e h = gives (retire_of view i (flat_hart h) w e) (record h {
   regs = with_reg h.regs (write_by view e e.act);
   pc = e.next;
@@ -106,14 +108,14 @@ tx_begun i taken abort_pc h = record {
   log = [];
 }
 
-abbrev pub begin_row : ℕ → ℕ → ℕ → Effect → ℕ → Option Transaction → Hart → Turn
+abbrev pub begin_row : ℕ → ℕ → ℕ → Effect → ℕ → Option Transaction → Hart → HartResult
 begin_row i taken w e p None h = record (retire_row i no_memory w e (record h { tx = Some (tx_begun i taken p h); kept_stamp = None })) {
   stamped = is_none h.kept_stamp;
 }
 begin_row i taken w e p (Some t) h = retire_row i no_memory w e (record h { tx = Some (record t { depth = t.depth + 1 }) })
 
 -- the end of the outermost transaction clears all marks (outside a transaction a commit traps: that case never occurs)
-abbrev pub commit_row : ℕ → ℕ → Effect → Option Transaction → Hart → Turn
+abbrev pub commit_row : ℕ → ℕ → Effect → Option Transaction → Hart → HartResult
 commit_row i w e None h = retire_row i no_memory w e h
 commit_row i w e (Some t) h =
     cond (t.depth == 1)
@@ -121,7 +123,7 @@ commit_row i w e (Some t) h =
     (retire_row i no_memory w e (record h { tx = Some (record t { depth = t.depth - 1 }) }))
 
 -- TABORT starts an abort (outside a transaction it traps: that case never occurs)
-abbrev pub tabort_row : Option Transaction → Hart → Turn
+abbrev pub tabort_row : Option Transaction → Hart → HartResult
 tabort_row None h = quiet h
 tabort_row (Some t) h = start_abort_row Asked t h
 
@@ -129,7 +131,7 @@ tabort_row (Some t) h = start_abort_row Asked t h
 abbrev pub kind_of : MemoryAct → Kind
 kind_of m = cond (is_some m.store) Write Read
 
--- whether the block's words have to be logged first: it is a store, and the first one since the line was filled
+-- whether the block's words have to be logged first: it is a store, to a line without the W mark
 abbrev pub is_log_due : MemoryAct → Line → Bool
 is_log_due m l = is_some m.store && not l.marks.written
 
@@ -139,12 +141,12 @@ log_used m l log = cond (is_log_due m l) (record { block = m.addr / 32; before =
 abbrev pub tx_used : MemoryAct → Line → Transaction → Transaction
 tx_used m l t = record t { log = log_used m l t.log }
 
--- an access to a line that is enough: in a transaction it logs and marks, and on a full log of 113 records an abort starts
+-- an access to a line that is enough: in a transaction it logs and marks, and on a full log an abort starts
 -- instead
-abbrev pub access_row : ℕ → ℕ → Effect → MemoryAct → Line → Option Transaction → Hart → Turn
+abbrev pub access_row : ℕ → ℕ → Effect → MemoryAct → Line → Option Transaction → Hart → HartResult
 access_row i w e m l None h = retire_row i (byte_in l.content) w e (with_line (m.addr / 32) (Some (line_used false m l)) h)
 access_row i w e m l (Some t) h =
-    cond (is_log_due m l && nat_le 113 (length t.log))
+    cond (is_log_due m l && nat_le log_records (length t.log))
     (start_abort_row LogFull t h)
     (retire_row i (byte_in l.content) w e (with_line (m.addr / 32) (Some (line_used true m l)) (record h { tx = Some (tx_used m l t) })))
 
@@ -190,11 +192,11 @@ core_move s i taken h = cond (is_running h.status && is_none h.request) (tx_move
 
 -- Asking for a block
 
--- a line makes way, and nothing else happens (so the hart isn't fresh any more); or there is room, and the request is sent
-abbrev pub no_longer_fresh : Turn → Turn
+-- a line is evicted, and nothing else happens (so the hart isn't fresh any more); or there is room, and the request is sent
+abbrev pub no_longer_fresh : HartResult → HartResult
 no_longer_fresh t = record t { hart = record t.hart { fresh = false } }
 
-abbrev pub ask_with_room : ℕ → Kind → ℕ → Option ℕ → Hart → Option Turn
+abbrev pub ask_with_room : ℕ → Kind → ℕ → Option ℕ → Hart → Option HartResult
 ask_with_room i kind b None h = Some (ask_row i kind b h)
 ask_with_room i kind b (Some v) h = option_map no_longer_fresh (evict_row i v h)
 
@@ -204,14 +206,14 @@ victim_for victim b None = victim b
 victim_for victim b (Some l) = None
 
 -- the line of block b isn't enough; while a Put of that block is out nothing is enabled
-abbrev pub fetch_row : ℕ → (ℕ → Option ℕ) → Kind → ℕ → Hart → Option Turn
+abbrev pub fetch_row : ℕ → (ℕ → Option ℕ) → Kind → ℕ → Hart → Option HartResult
 fetch_row i victim kind b h = cond (has_put_of b h.put) None (ask_with_room i kind b (victim_for victim b (h.lines b)) h)
 
-abbrev pub move_row : ℕ → (ℕ → Option ℕ) → Move → Hart → Option Turn
+abbrev pub move_row : ℕ → (ℕ → Option ℕ) → Move → Hart → Option HartResult
 move_row i victim Rests h = None
 move_row i victim (Makes t) h = Some t
 move_row i victim (Lacks kind b) h = fetch_row i victim kind b h
 
--- a core step of hart i, where so many stamps were taken, and these victims make way for blocks that are asked for
-abbrev pub core_row : Setting → ℕ → ℕ → (ℕ → Option ℕ) → Hart → Option Turn
+-- a core step of hart i, where so many stamps were taken, and these victims are evicted for blocks that are asked for
+abbrev pub core_row : Setting → ℕ → ℕ → (ℕ → Option ℕ) → Hart → Option HartResult
 core_row s i taken victim h = move_row i victim (core_move s i taken h) h

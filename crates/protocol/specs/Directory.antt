@@ -160,7 +160,7 @@ abbrev pub unless_busy : Option Busy → Served → Option Served
 unless_busy None s = Some s
 unless_busy (Some q) s = None
 
--- what the directory of a machine of n harts does with a message: None where it is held, and stays on its way. One for a hart it
+-- what the directory of a machine of n harts does with a message: None where it is held, and stays in flight. One for a hart it
 -- passes over (and that never occurs in a machine)
 abbrev pub directory_row : ℕ → Message → DirEntry → Block → Option Served
 directory_row n (Get from b kind stamp) e memory = unless_busy e.busy (get_row n from b kind stamp e memory)

@@ -115,18 +115,18 @@ abbrev pub flat_hart : Hart → FlatHart
 flat_hart h = record { regs = h.regs; pc = h.pc; output = h.output; status = h.status; tx = option_map flat_tx h.tx }
 
 -- what a row makes of a hart: its new state, the message that it sends, the entry that it gives, and whether it took a new stamp
-pub record Turn : Type 0 where
+pub record HartResult : Type 0 where
   pub hart : Hart
   pub sent : Option Message
   pub entry : Option Entry
   pub stamped : Bool
 
 -- a row without message and entry
-abbrev pub quiet : Hart → Turn
+abbrev pub quiet : Hart → HartResult
 quiet h = record { hart = h; sent = None; entry = None; stamped = false }
 
-abbrev pub sends : Message → Hart → Turn
+abbrev pub sends : Message → Hart → HartResult
 sends m h = record { hart = h; sent = Some m; entry = None; stamped = false }
 
-abbrev pub gives : Entry → Hart → Turn
+abbrev pub gives : Entry → Hart → HartResult
 gives e h = record { hart = h; sent = None; entry = Some e; stamped = false }

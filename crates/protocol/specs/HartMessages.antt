@@ -12,7 +12,7 @@ use Rattle.words.specs.declared.message.Kind.{Kind}
 use Rattle.protocol.specs.Messages.{Block, Message, Get, Put, Done, Grant, Forward, PutAck, Ack, Nack}
 use Rattle.protocol.specs.Lines.{refuses, line_given, owned_content}
 use Rattle.words.specs.Stamps.{earlier}
-use Rattle.protocol.specs.Hart.{Hart, Transaction, Turn, quiet, sends, stamp_of, overflow_of, with_line, has_put_of, put_content}
+use Rattle.protocol.specs.Hart.{Hart, Transaction, HartResult, quiet, sends, stamp_of, overflow_of, with_line, has_put_of, put_content}
 use Rattle.protocol.specs.Requests.{grant_row, ack_row, nack_row}
 
 -- a transaction that refuses: its flag is set if the request's stamp is earlier than its own
@@ -20,7 +20,7 @@ abbrev pub tx_refusing : Option Stamp → Transaction → Transaction
 tx_refusing stamp t = record t { cycle = t.cycle || earlier stamp (Some t.stamp) }
 
 -- hart i keeps block b from hart r
-abbrev pub refuse_row : ℕ → ℕ → ℕ → Option Stamp → Hart → Turn
+abbrev pub refuse_row : ℕ → ℕ → ℕ → Option Stamp → Hart → HartResult
 refuse_row i b r stamp h = record {
   hart = record h { tx = option_map (tx_refusing stamp) h.tx };
   sent = Some (Nack i r b (stamp_of h.tx));
@@ -33,18 +33,18 @@ abbrev pub content_held : ℕ → Hart → Option Block
 content_held b h = option_or (owned_content (h.lines b)) (put_content b h.put)
 
 -- hart i acknowledges hart r's request
-abbrev pub acknowledge_row : ℕ → ℕ → Kind → ℕ → Hart → Turn
+abbrev pub acknowledge_row : ℕ → ℕ → Kind → ℕ → Hart → HartResult
 acknowledge_row i b kind r h = sends (Ack i r b (content_held b h)) (with_line b (line_given kind (h.lines b)) h)
 
-abbrev pub forward_row : ℕ → ℕ → Kind → ℕ → Option Stamp → Hart → Turn
+abbrev pub forward_row : ℕ → ℕ → Kind → ℕ → Option Stamp → Hart → HartResult
 forward_row i b kind r stamp h = cond (refuses (h.lines b) (overflow_of h.tx) kind) (refuse_row i b r stamp h) (acknowledge_row i b kind r h)
 
 -- the hart's Put of block b is over
-abbrev pub put_ack_row : ℕ → Hart → Turn
+abbrev pub put_ack_row : ℕ → Hart → HartResult
 put_ack_row b h = cond (has_put_of b h.put) (quiet (record h { put = None })) (quiet h)
 
 -- what hart i of n does with a message; one for the directory it passes over (and that never occurs in a machine)
-abbrev pub message_row : ℕ → ℕ → Message → Hart → Turn
+abbrev pub message_row : ℕ → ℕ → Message → Hart → HartResult
 message_row n i (Get from b kind stamp) h = quiet h
 message_row n i (Put from b content marked) h = quiet h
 message_row n i (Done from b ok content) h = quiet h

@@ -11,5 +11,3 @@ pub mod Network
 pub mod Machine
 pub mod Start
 pub mod Values
-pub mod Examples
-pub mod MoreExamples

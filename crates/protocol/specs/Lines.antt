@@ -5,6 +5,7 @@
 -- block before, and the line conflicts with every forward. Wherever a line is marked, that is any of the three.
 use Rattle.std.specs.Prelude.{ℕ, Bool, true, false, cond, ◌+◌, ◌*◌, ◌/◌, ◌%◌, ◌||◌, Option, Some, None, is_some, map, slice_index}
 use Rattle.std.specs.List.{range_with_len}
+use Rattle.std.specs.Option.{option_map}
 use Rattle.words.specs.declared.entry.Width.TheVariants.{Word}
 use Rattle.words.specs.declared.message.Kind.{Kind}
 use Rattle.words.specs.declared.message.Kind.TheVariants.{Read, Write}
@@ -12,31 +13,19 @@ use Rattle.words.specs.declared.message.LineState.{LineState}
 use Rattle.words.specs.declared.message.LineState.TheVariants.{Shared, Exclusive, Modified}
 use Rattle.table.specs.declared.effect.MemoryAct.{MemoryAct}
 use Rattle.table.specs.declared.effect.Store.{Store}
-use Rattle.flat.specs.Bytes.{byte_of, number_at}
+use Rattle.words.specs.declared.marks.Marks.{Marks}
+use Rattle.words.specs.Bytes.{byte_of, number_at}
+use Rattle.words.specs.Limits.{block_bytes, block_words}
+use Rattle.words.specs.LineStates.{is_owned}
+use Rattle.words.specs.Marks as marks
+use Rattle.words.specs.Marks.{no_marks}
 use Rattle.flat.specs.Effects.{put_by, mem_put}
 use Rattle.protocol.specs.Messages.{Block}
-
-pub record Marks : Type 0 where
-  pub read : Bool
-  pub written : Bool
-  pub overflowed : Bool
 
 pub record Line : Type 0 where
   pub state : LineState
   pub content : Block
   pub marks : Marks
-
-abbrev pub no_marks : Marks
-no_marks = record { read = false; written = false; overflowed = false }
-
-abbrev pub is_marked : Marks → Bool
-is_marked m = m.read || (m.written || m.overflowed)
-
--- whether no other cache may hold the block: E and M
-abbrev pub is_owned : LineState → Bool
-is_owned Shared = false
-is_owned Exclusive = true
-is_owned Modified = true
 
 -- whether a line is enough: for a read any line, for a write E or M
 abbrev pub is_enough : Kind → Option Line → Bool
@@ -50,7 +39,7 @@ byte_in words a = byte_of (slice_index words (a / 4 % 8)) (a % 4)
 
 -- the words that a block has in memory, little-endian
 abbrev pub words_at : (ℕ → ℕ) → ℕ → Block
-words_at mem b = map (λ k. number_at mem (32 * b + 4 * k) Word) (range_with_len 0 8)
+words_at mem b = map (λ k. number_at mem (block_bytes * b + 4 * k) Word) (range_with_len 0 block_words)
 
 -- the words of the block after an access that stores a number
 abbrev pub words_put : MemoryAct → Option ℕ → Block → Block
@@ -83,12 +72,9 @@ abbrev pub line_cleared : Option Line → Option Line
 line_cleared None = None
 line_cleared (Some l) = Some (record l { marks = no_marks })
 
--- whether a hart refuses a forward: a read of what it has written, a write of what it has read or written; a overflowed line counts as
--- both, and without a line the overflow bit decides
+-- whether a hart refuses a forward, by the marks of its line and its overflow bit
 abbrev pub refuses : Option Line → Bool → Kind → Bool
-refuses None overflow kind = overflow
-refuses (Some l) overflow Read = l.marks.written || l.marks.overflowed
-refuses (Some l) overflow Write = is_marked l.marks
+refuses line overflow kind = marks.refuses (option_map (λ l. l.marks) line) overflow kind
 
 -- a line after a forward that is met: after a read it is shared and keeps its marks, after a write it is gone
 abbrev pub line_given : Kind → Option Line → Option Line

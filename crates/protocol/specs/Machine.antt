@@ -8,7 +8,7 @@ use Rattle.words.specs.declared.entry.Step.TheVariants.{Core, Evict, Deliver}
 use Rattle.flat.specs.Bytes.{put_at}
 use Rattle.flat.specs.State.{Setting}
 use Rattle.protocol.specs.Messages.{Block, Message, block_of, receiver_of}
-use Rattle.protocol.specs.Hart.{Hart, Turn}
+use Rattle.protocol.specs.Hart.{Hart, HartResult}
 use Rattle.protocol.specs.Caches.{Geometry, MayName}
 use Rattle.protocol.specs.Core.{Move, Rests, Makes, Lacks, core_move, core_row}
 use Rattle.protocol.specs.Evict.{evict_row}
@@ -25,7 +25,7 @@ pub record Machine : Type 0 where
   pub net : Network
   pub stamps : ℕ
 
--- what a step leaves, before the messages that it sends are on their way; and its entry
+-- what a step leaves, before the messages that it sends are in flight; and its entry
 pub record Change : Type 0 where
   pub machine : Machine
   pub sent : List Message
@@ -39,14 +39,14 @@ abbrev pub stamps_after : Bool → ℕ → ℕ
 stamps_after stamped n = cond stamped (min (n + 1) 18446744073709551615) n
 
 -- what hart i's row makes of the machine
-abbrev pub hart_change : ℕ → Turn → Machine → Change
+abbrev pub hart_change : ℕ → HartResult → Machine → Change
 hart_change i t w = record {
   machine = record w { harts = put_at i t.hart w.harts; stamps = stamps_after t.stamped w.stamps };
   sent = option_to_list t.sent;
   entry = t.entry;
 }
 
-abbrev pub hart_change_if : ℕ → Option Turn → Machine → Change
+abbrev pub hart_change_if : ℕ → Option HartResult → Machine → Change
 hart_change_if i None w = no_change w
 hart_change_if i (Some t) w = hart_change i t w
 
@@ -63,7 +63,7 @@ abbrev pub served_change : ℕ → ℕ → Option Served → Machine → Change
 served_change key b None w = no_change w
 served_change key b (Some s) w = directory_change b s (record w { net = taken key w.net })
 
--- only a number below the machine's count is a hart: at another nothing is enabled, and a message to it stays on its way
+-- only a number below the machine's count is a hart: at another nothing is enabled, and a message to it stays in flight
 abbrev pub if_hart : ℕ → Machine → Change → Change
 if_hart i w c = cond (nat_lt i w.setting.count) c (no_change w)
 
@@ -76,7 +76,7 @@ abbrev pub delivery : ℕ → Option Message → Machine → Change
 delivery key None w = no_change w
 delivery key (Some m) w = arrival key m (receiver_of m) w
 
--- what a step makes of the machine, where these victims make way
+-- what a step makes of the machine, where these victims are evicted
 abbrev pub change_of : (ℕ → Option ℕ) → Step → Machine → Change
 change_of victim (Core i) w = if_hart i w (hart_change_if i (core_row w.setting i w.stamps victim (w.harts i)) w)
 change_of victim (Evict i b) w = if_hart i w (hart_change_if i (evict_row i b (w.harts i)) w)

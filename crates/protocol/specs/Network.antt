@@ -1,4 +1,4 @@
--- The messages on their way: a map from keys. Any may arrive next, so no order of a network is assumed.
+-- The messages in flight: a map from keys. Any may arrive next, so no order of a network is assumed.
 use Rattle.std.specs.Prelude.{ℕ, ◌≡◌, ◌≤◌, Option, Some, None, List, [], ◌∷◌}
 use Rattle.flat.specs.Bytes.{put_at}
 use Rattle.protocol.specs.Messages.{Message}

@@ -1,4 +1,4 @@
--- The machine that a program begins in: the flat machine's first state, with empty caches, and nothing on its way.
+-- The machine that a program begins in: the flat machine's first state, with empty caches, and nothing in flight.
 use Rattle.std.specs.Prelude.{ℕ, false, None}
 use Rattle.flat.specs.State.{Setting, FlatHart}
 use Rattle.flat.specs.Start.{first_state}

@@ -1,12 +1,13 @@
--- What memory holds, as the machine has it: the value in place, and the value with running transactions taken back.
+-- What memory holds, as the machine has it: the value in place, and the value with running transactions rolled back.
 --
 -- As in LogTM (HPCA 2006) new values are in place and old ones in the log. In place is what the owner has in its cache, or what
--- is on its way from there; and memory itself only where there is neither. The messages looked at are those under the first so
+-- is in flight from there; and memory itself only where there is neither. The messages looked at are those under the first so
 -- many keys (all, if they lie below).
 use Rattle.std.specs.Prelude.{ℕ, zero, suc, Bool, true, false, cond, ◌==◌, ◌&&◌, ◌/◌, Option, Some, None, unwrap_or, List, [], ◌∷◌, is_some}
 use Rattle.std.specs.Option.{option_and_then, option_or}
-use Rattle.protocol.specs.Messages.{Block, Message, Get, Put, Done, Grant, Forward, PutAck, Ack, Nack}
-use Rattle.protocol.specs.Lines.{is_owned, byte_in, owned_content}
+use Rattle.protocol.specs.Messages.{Block, Message, Done, Ack}
+use Rattle.words.specs.LineStates.{is_owned}
+use Rattle.protocol.specs.Lines.{byte_in, owned_content}
 use Rattle.protocol.specs.Hart.{Request, LogRecord, log_of, put_content}
 use Rattle.protocol.specs.Directory.{Owner, Nobody, Owned, Sticky, Busy}
 use Rattle.protocol.specs.Network.{Network}
@@ -20,24 +21,12 @@ first_below (suc n) f = option_or (first_below n f) (f n)
 -- the content of an acknowledgement of block b
 abbrev pub ack_content : ℕ → Message → Option Block
 ack_content b (Ack from to c content) = cond (c == b) content None
-ack_content b (Get from c kind stamp) = None
-ack_content b (Put from c content marked) = None
-ack_content b (Done from c ok content) = None
-ack_content b (Grant to c granted) = None
-ack_content b (Forward to c kind requester stamp) = None
-ack_content b (PutAck to c) = None
-ack_content b (Nack from to c stamp) = None
+ack_content b _ = None
 
 -- that of a Done
 abbrev pub done_content : ℕ → Message → Option Block
 done_content b (Done from c ok content) = cond (c == b) content None
-done_content b (Get from c kind stamp) = None
-done_content b (Put from c content marked) = None
-done_content b (Grant to c granted) = None
-done_content b (Forward to c kind requester stamp) = None
-done_content b (PutAck to c) = None
-done_content b (Ack from to c content) = None
-done_content b (Nack from to c stamp) = None
+done_content b _ = None
 
 -- what a request for block b has kept
 abbrev pub kept_content : ℕ → Option Request → Option Block
@@ -47,13 +36,7 @@ kept_content b (Some r) = cond (r.block == b) r.content None
 -- whether a message is the Done of r's granted request for block b
 abbrev pub is_done_by : ℕ → ℕ → Message → Bool
 is_done_by r b (Done from c ok content) = ok && ((from == r) && (c == b))
-is_done_by r b (Get from c kind stamp) = false
-is_done_by r b (Put from c content marked) = false
-is_done_by r b (Grant to c granted) = false
-is_done_by r b (Forward to c kind requester stamp) = false
-is_done_by r b (PutAck to c) = false
-is_done_by r b (Ack from to c content) = false
-is_done_by r b (Nack from to c stamp) = false
+is_done_by r b _ = false
 
 -- whether r's request for block b is granted, and the directory hasn't been told yet
 abbrev pub has_done : ℕ → Network → ℕ → ℕ → Bool
@@ -73,8 +56,8 @@ owner_with keys net b (Some q) owner = cond (is_owned q.give && has_done keys ne
 abbrev pub owner_of : ℕ → Machine → ℕ → Option ℕ
 owner_of keys w b = owner_with keys w.net b (w.entries b).busy (w.entries b).owner
 
--- the first that there is of: the owner's E or M line; what an acknowledgement on its way, or kept, carries; what a Done on its
--- way carries; the owner's Put; and memory
+-- the first that there is of: the owner's E or M line; what an acknowledgement in flight, or kept, carries; what a Done in
+-- flight carries; the owner's Put; and memory
 abbrev pub in_place : ℕ → Machine → ℕ → Block
 in_place keys w b =
     unwrap_or (option_or (option_and_then (λ i. owned_content ((w.harts i).lines b)) (owner_of keys w b))
@@ -94,7 +77,7 @@ abbrev pub all_restored : ℕ → Machine → ℕ → Block → Block
 all_restored zero w b words = words
 all_restored (suc n) w b words = restored (log_of (w.harts n).tx) b (all_restored n w b words)
 
--- the block with all running transactions taken back
+-- the block with all running transactions rolled back
 abbrev pub committed : ℕ → Machine → ℕ → Block
 committed keys w b = all_restored w.setting.count w b (in_place keys w b)
 

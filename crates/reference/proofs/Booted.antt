@@ -13,8 +13,7 @@ use Rattle.reference.specs.declared.machine.Machine.{Machine}
 use Rattle.overlay.specs.Memory.{mem_of}
 use Rattle.reference.specs.States.{hart_of}
 use Rattle.reference.specs.Machines.{Belongs}
-use Rattle.reference.specs.Ends.{ends_by}
-use Rattle.reference.specs.Boots.{booted}
+use Rattle.flat.specs.Boots.{ends_by, booted}
 
 -- what ends by a limit ends by a greater one
 pub all_end_by : (low high : ℕ) (ss : List Segment) → low ≤ high → list_all (ends_by low) ss ≡ true → list_all (ends_by high) ss ≡ true
@@ -45,7 +44,7 @@ pub begins : (p : Program) (n s : ℕ) (m : Machine)
     → m.program ≡ p → vec_len m.memory ≡ s → vec_len m.harts ≡ n
     → ((a : ℕ) → mem_of m.memory.items a ≡ image_at p.segments a)
     → ((set : Setting) (j : ℕ) → set.size ≡ s → set.count ≡ n → option_map_or (hart_of s) (slice_get m.harts.items j) idle ≡ cond (nat_lt j n) (first_hart set p.entry j) idle)
-    → Belongs (booted p n s) m
+    → Belongs (booted p.segments p.entry n s) m
 begins p n s m program size count image harts =
     let set : Setting = record { segments = p.segments; size = s; count = n } in
     let H = λ (j : ℕ). ap (λ k. option_map_or (hart_of k) (slice_get m.harts.items j) idle) size ∙ harts set j refl refl in

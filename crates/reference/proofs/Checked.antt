@@ -11,11 +11,11 @@ use Rattle.flat.specs.State.{Flat, FlatHart, Tx, flat_view}
 use Rattle.flat.specs.Causes.{next_of}
 use Rattle.flat.specs.Effects.{retire_of}
 use Rattle.flat.specs.Steps.{Retires, Carries, IsRun, MayAbort, retired}
-use Rattle.reference.specs.declared.machine.Turn.{Turn}
-use Rattle.reference.specs.declared.machine.Turn.TheVariants.{Idle, Stops, Goes}
-use Rattle.reference.specs.Machines.{IsTurn, CanRetire, RetiresAs, CanAbort, IsDueAbort}
+use Rattle.reference.specs.declared.machine.NextMove.{NextMove}
+use Rattle.reference.specs.declared.machine.NextMove.TheVariants.{Idle, Stops, Goes}
+use Rattle.reference.specs.Machines.{IsNextMove, CanRetire, RetiresAs, CanAbort, IsDueAbort}
 
--- a transaction is taken back for a cause that is due
+-- a transaction is rolled back for a cause that is due
 some_due : (f : Flat) (i : ℕ) (cause : AbortCause) (h : FlatHart) (t : Tx) (r : Result Effect Cause)
     → f.hart i ≡ h → h.tx ≡ Some t → next_of f.setting (f.hart i) ≡ r → MayAbort cause h t r
     → IsSomeAnd (f.hart i).tx (λ t. MayAbort cause (f.hart i) t (next_of f.setting (f.hart i)))
@@ -26,10 +26,10 @@ some_due f i cause h t r at is next may =
     let R = λ (r : Result Effect Cause). MayAbort cause h t r in
     subst P (sym at) (subst Q (sym is) (subst R (sym next) may))
 
-pub due_can : (f : Flat) (i : ℕ) (cause : AbortCause) (turn : Turn) (h : FlatHart) (t : Tx) → f.hart i ≡ h → h.tx ≡ Some t → IsTurn f i turn → IsDueAbort cause h t turn → CanAbort f i cause
-due_can f i cause Idle h t at is turn due = absurd due
-due_can f i cause (Stops c) h t at is turn due = (turn.0, some_due f i cause h t (Err c) at is turn.1 due)
-due_can f i cause (Goes w e) h t at is turn due = (turn.0, some_due f i cause h t (Ok e) at is turn.2 due)
+pub due_can : (f : Flat) (i : ℕ) (cause : AbortCause) (next : NextMove) (h : FlatHart) (t : Tx) → f.hart i ≡ h → h.tx ≡ Some t → IsNextMove f i next → IsDueAbort cause h t next → CanAbort f i cause
+due_can f i cause Idle h t at is next due = absurd due
+due_can f i cause (Stops c) h t at is next due = (next.0, some_due f i cause h t (Err c) at is next.1 due)
+due_can f i cause (Goes w e) h t at is next due = (next.0, some_due f i cause h t (Ok e) at is next.2 due)
 
 -- and for no other
 due_some : (f : Flat) (i : ℕ) (cause : AbortCause) (h : FlatHart) (t : Tx) (r : Result Effect Cause)
@@ -42,12 +42,12 @@ due_some f i cause h t r at is next can =
     let R = λ (r : Result Effect Cause). MayAbort cause h t r in
     subst R next (subst Q is (subst P at can))
 
-pub can_due : (f : Flat) (i : ℕ) (cause : AbortCause) (turn : Turn) (h : FlatHart) (t : Tx) → f.hart i ≡ h → h.tx ≡ Some t → IsTurn f i turn → CanAbort f i cause → IsDueAbort cause h t turn
-can_due f i cause Idle h t at is turn can = turn can.0
-can_due f i cause (Stops c) h t at is turn can = due_some f i cause h t (Err c) at is turn.1 can.1
-can_due f i cause (Goes w e) h t at is turn can = due_some f i cause h t (Ok e) at is turn.2 can.1
+pub can_due : (f : Flat) (i : ℕ) (cause : AbortCause) (next : NextMove) (h : FlatHart) (t : Tx) → f.hart i ≡ h → h.tx ≡ Some t → IsNextMove f i next → CanAbort f i cause → IsDueAbort cause h t next
+can_due f i cause Idle h t at is next can = next can.0
+can_due f i cause (Stops c) h t at is next can = due_some f i cause h t (Err c) at is next.1 can.1
+can_due f i cause (Goes w e) h t at is next can = due_some f i cause h t (Ok e) at is next.2 can.1
 
--- without a transaction, none is taken back
+-- without a transaction, none is rolled back
 pub none_aborts : (f : Flat) (i : ℕ) (cause : AbortCause) (h : FlatHart) → f.hart i ≡ h → h.tx ≡ None → CanAbort f i cause → ⊥
 none_aborts f i cause h at is can =
     let P = λ (x : FlatHart). IsSomeAnd x.tx (λ t. MayAbort cause (f.hart i) t (next_of f.setting (f.hart i))) in

@@ -6,7 +6,7 @@ use Rattle.table.specs.declared.effect.Act.{Act}
 use Rattle.table.specs.declared.effect.Act.TheVariants as act
 use Rattle.table.specs.declared.effect.Effect.{Effect}
 use Rattle.table.specs.declared.effect.MemoryAct.{MemoryAct}
-use Rattle.table.specs.Effects.{bytes_in}
+use Rattle.words.specs.Bytes.{bytes_in}
 use Rattle.flat.specs.State.{Setting, FlatHart}
 use Rattle.flat.specs.Causes.{act_cause, memory_cause, load_cause, store_cause, next_of, depth_of}
 use Rattle.flat.proofs.Next.{memory_fits, next_ok}

@@ -110,7 +110,7 @@ if_some : {A : Type 0} (o : Option A) (P Q : A → Type 0) → ((x : A) → P x 
 if_some (Some x) P Q f p = f x p
 if_some None P Q f p = tt
 
--- a hart whose transaction was taken back
+-- a hart whose transaction was rolled back
 pub taken_back : (m n : Machine) (i : ℕ) (h new : Hart) (cause : AbortCause)
     → i < vec_len m.harts → h ≡ get_or m.harts.items i h
     → setting_of n ≡ setting_of m → vec_len n.memory ≡ vec_len m.memory → n.memory.items ≡ m.memory.items → n.harts.items ≡ set m.harts.items i new

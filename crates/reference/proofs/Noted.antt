@@ -4,8 +4,8 @@ use Rattle.std.specs.Prelude.{◌==◌, ◌&&◌, ◌||◌, nat_lt, is_some}
 use Rattle.std.proofs.lemmas.Bool.Decides.{nat_tests}
 use Rattle.table.specs.declared.effect.MemoryAct.{MemoryAct}
 use Rattle.table.specs.declared.effect.Load.{Load}
-use Rattle.table.specs.Effects.{bytes_in}
-use Rattle.flat.specs.Bytes.{put_at, laid, byte_of}
+use Rattle.words.specs.Bytes.{bytes_in, byte_of}
+use Rattle.flat.specs.Bytes.{put_at, laid}
 use Rattle.flat.specs.State.{Tx}
 use Rattle.flat.specs.Effects.{tx_got, tx_put}
 use Rattle.reference.specs.declared.hart.Transaction.{Transaction}

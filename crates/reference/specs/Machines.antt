@@ -16,8 +16,8 @@ use Rattle.flat.specs.State.{Setting, Tx, FlatHart, Flat, has_read, has_written,
 use Rattle.flat.specs.Causes.{next_of}
 use Rattle.flat.specs.Steps.{IsRunning, Retires, retired, MayAbort, CarriesSome, IsRun}
 use Rattle.reference.specs.declared.machine.Machine.{Machine}
-use Rattle.reference.specs.declared.machine.Turn.{Turn}
-use Rattle.reference.specs.declared.machine.Turn.TheVariants.{Idle, Stops, Goes}
+use Rattle.reference.specs.declared.machine.NextMove.{NextMove}
+use Rattle.reference.specs.declared.machine.NextMove.TheVariants.{Idle, Stops, Goes}
 use Rattle.overlay.specs.Memory.{mem_of}
 use Rattle.reference.specs.States.{hart_of}
 
@@ -32,10 +32,6 @@ flat_of m = record {
   hart = λ i. option_map_or (hart_of (vec_len m.memory)) (slice_get m.harts.items i) idle;
 }
 
--- how many harts it has
-abbrev pub hart_count : Machine → ℕ
-hart_count m = vec_len m.harts
-
 -- a flat state belongs to the machine
 abbrev pub Belongs : Flat → Machine → Type 0
 Belongs f m = f ≡ flat_of m
@@ -45,10 +41,10 @@ abbrev pub Refines : Machine → Option Entry → Machine → Type 0
 Refines old e new = (f : Flat) → Belongs f old → (g : Flat) × CarriesSome f e g × Belongs g new
 
 -- what hart i is about to do: nothing, since it doesn't run; stop for a cause; or go on by the effect of its word
-abbrev pub IsTurn : Flat → ℕ → Turn → Type 0
-IsTurn f i Idle = IsRunning f i → ⊥
-IsTurn f i (Stops c) = IsRunning f i × (next_of f.setting (f.hart i) ≡ Err c)
-IsTurn f i (Goes word e) = IsRunning f i × (word_at f.setting.segments (f.hart i).pc ≡ Some word) × (next_of f.setting (f.hart i) ≡ Ok e)
+abbrev pub IsNextMove : Flat → ℕ → NextMove → Type 0
+IsNextMove f i Idle = IsRunning f i → ⊥
+IsNextMove f i (Stops c) = IsRunning f i × (next_of f.setting (f.hart i) ≡ Err c)
+IsNextMove f i (Goes word e) = IsRunning f i × (word_at f.setting.segments (f.hart i).pc ≡ Some word) × (next_of f.setting (f.hart i) ≡ Ok e)
 
 -- hart i can retire its word with this effect, and the entry shows it
 abbrev pub CanRetire : Flat → ℕ → ℕ → Effect → Entry → Type 0
@@ -58,12 +54,12 @@ CanRetire f i word does e = (next_of f.setting (f.hart i) ≡ Ok does) × Retire
 abbrev pub RetiresAs : Flat → ℕ → Entry → Flat → Type 0
 RetiresAs f i e g = IsOkAnd (next_of f.setting (f.hart i)) (λ does. (w : ℕ) × Retires f i w does e g)
 
--- hart i's transaction can be taken back for this cause
+-- hart i's transaction can be rolled back for this cause
 abbrev pub CanAbort : Flat → ℕ → AbortCause → Type 0
 CanAbort f i cause = IsRunning f i × IsSomeAnd (f.hart i).tx (λ t. MayAbort cause (f.hart i) t (next_of f.setting (f.hart i)))
 
 -- the same, by what the hart is about to do
-abbrev pub IsDueAbort : AbortCause → FlatHart → Tx → Turn → Type 0
+abbrev pub IsDueAbort : AbortCause → FlatHart → Tx → NextMove → Type 0
 IsDueAbort cause h t Idle = ⊥
 IsDueAbort cause h t (Stops c) = MayAbort cause h t (Err c)
 IsDueAbort cause h t (Goes word e) = MayAbort cause h t (Ok e)
@@ -85,13 +81,8 @@ pub record IsFirstAgainst (f : Flat) (i b : ℕ) (stores : Bool) (j : ℕ) : Typ
 
 -- hart j keeps block b from hart i's act
 abbrev pub KeepsOut : Flat → ℕ → ℕ → ℕ → Act → Type 0
-KeepsOut f i b j act.Nothing = ⊥
 KeepsOut f i b j (act.Memory m) = (m.addr / 32 ≡ b) × IsFirstAgainst f i b (is_some m.store) j
-KeepsOut f i b j (act.Begin p) = ⊥
-KeepsOut f i b j act.Commit = ⊥
-KeepsOut f i b j act.Abort = ⊥
-KeepsOut f i b j act.Call = ⊥
-KeepsOut f i b j act.Break = ⊥
+KeepsOut f i b j _ = ⊥
 
 -- a cause for which a hart takes its own transaction back
 abbrev pub IsOwnCause : AbortCause → Type 0

@@ -4,7 +4,8 @@ use Rattle.std.specs.Option.{option_map}
 use Rattle.table.specs.declared.effect.Act.{Act}
 use Rattle.table.specs.declared.effect.Act.TheVariants as act
 use Rattle.table.specs.declared.effect.MemoryAct.{MemoryAct}
-use Rattle.table.specs.Effects.{bytes_in}
+use Rattle.words.specs.Bytes.{bytes_in}
+use Rattle.words.specs.Limits.{log_records}
 use Rattle.flat.specs.State.{Tx, FlatHart, seen}
 use Rattle.flat.specs.Causes.{depth_of}
 use Rattle.reference.specs.declared.hart.Transaction.{Transaction}
@@ -38,10 +39,10 @@ hart_of size h = record {
 abbrev pub view_of : List ℕ → Hart → ℕ → ℕ
 view_of bytes h a = seen (option_map (tx_of (length bytes)) h.tx) (mem_of bytes) a
 
--- how many stores there were after an access that may store, counted up to 113
+-- how many stores there were after an access that may store, counted up to the records of a log
 abbrev pub stores_after : ℕ → Option ℕ → ℕ
 stores_after n None = n
-stores_after n (Some v) = min (n + 1) 113
+stores_after n (Some v) = min (n + 1) log_records
 
 -- an access lies in memory, and at a multiple of its width
 pub record FitsIn (size : ℕ) (m : MemoryAct) : Type 0 where
@@ -50,20 +51,10 @@ pub record FitsIn (size : ℕ) (m : MemoryAct) : Type 0 where
 
 -- the access of an act, if it has one
 abbrev pub Fits : ℕ → Act → Type 0
-Fits size act.Nothing = Unit {0}
 Fits size (act.Memory m) = FitsIn size m
-Fits size (act.Begin p) = Unit {0}
-Fits size act.Commit = Unit {0}
-Fits size act.Abort = Unit {0}
-Fits size act.Call = Unit {0}
-Fits size act.Break = Unit {0}
+Fits size _ = Unit {0}
 
 -- a transaction can go one deeper
 abbrev pub HasRoom : Option Transaction → Act → Type 0
-HasRoom t act.Nothing = Unit {0}
-HasRoom t (act.Memory m) = Unit {0}
 HasRoom t (act.Begin p) = depth_of (option_map (tx_of 0) t) ≢ 255
-HasRoom t act.Commit = Unit {0}
-HasRoom t act.Abort = Unit {0}
-HasRoom t act.Call = Unit {0}
-HasRoom t act.Break = Unit {0}
+HasRoom t _ = Unit {0}

@@ -6,68 +6,16 @@ ghost use Rattle.flat.specs.State.{Setting, idle};
 ghost use Rattle.flat.specs.Start.{first_hart};
 ghost use Rattle.overlay.specs.Memory.{mem_of};
 ghost use Rattle.reference.specs.States.{hart_of};
-ghost use Rattle.reference.specs.Ends.{ends_by};
-ghost use Rattle.reference.specs.Boots.{is_size, fits_below};
-ghost use Rattle.reference.specs.declared.boot.BootFault.{BootFault};
-ghost use Rattle.reference.specs.declared.boot.BootFault.TheVariants.{NoMemory};
-ghost use Rattle.reference.specs.FaultNames.{boot_fault_number, boot_fault_name, boot_fault_text};
+ghost use Rattle.flat.specs.Boots.{is_size, ends_by, fits_below};
+ghost use Rattle.flat.specs.declared.boot_fault.BootFault.{BootFault};
 
 use crate::hart::Hart;
-use crate::machine::{LOG_BYTES, Machine};
+use crate::machine::Machine;
+use flat::BootFault;
 use loader::Program;
 use std::alloc::{AllocError, Global};
-use std::error::Error;
-use std::fmt;
 use table::Segment;
-use words::{Addr, Status};
-
-/// Why a program isn't booted.
-#[derive(Clone, Copy, Debug, PartialEq, Eq)]
-pub enum BootFault {
-    /// The size of memory isn't a multiple of 4,096 from 65,536 to 4,194,304.
-    BadSize,
-    /// The number of harts isn't 1 to 8.
-    BadHarts,
-    /// A segment reaches into the stacks or the undo logs.
-    DoesNotFit,
-    NoMemory,
-}
-
-impl BootFault {
-    /// The number that is printed, 1 to 4.
-    pub fn number(self) -> u32
-        ensures { result ≡ boot_fault_number self }
-    {
-        match self {
-            BootFault::BadSize => 1,
-            BootFault::BadHarts => 2,
-            BootFault::DoesNotFit => 3,
-            BootFault::NoMemory => 4,
-        }
-    }
-
-    /// The name that is printed.
-    pub fn name(self) -> &'static str
-        ensures { result.now ≡ boot_fault_name self }
-    {
-        match self {
-            BootFault::BadSize => "BadSize",
-            BootFault::BadHarts => "BadHarts",
-            BootFault::DoesNotFit => "DoesNotFit",
-            BootFault::NoMemory => "NoMemory",
-        }
-    }
-}
-
-impl fmt::Display for BootFault {
-    ghost output = { λ fault. Some (boot_fault_text fault) };
-
-    fn fmt<W: fmt::Write>(&self, f: &mut fmt::Formatter<W>) -> fmt::Result {
-        write!(f, "{} {}", self.number(), self.name())
-    }
-}
-
-impl Error for BootFault {}
+use words::{Addr, LOG_BYTES, STACK_BYTES, Status};
 
 /// Lays a segment's bytes into memory.
 fn lay_segment(memory: &mut [u8], segment: &Segment)
@@ -103,7 +51,7 @@ fn first_hart(alloc: Global, i: usize, count: usize, size: usize, entry: Addr) -
     ensures { (s : Setting) → s.size ≡ size → s.count ≡ count → hart_of size result ≡ first_hart s entry i }
 {
     let mut regs = [0; 32];
-    regs[2] = (size - count * LOG_BYTES - i * LOG_BYTES) as u32;
+    regs[2] = (size - count * LOG_BYTES - i * STACK_BYTES) as u32;
     regs[10] = i as u32;
     regs[11] = count as u32;
     Hart {
@@ -154,7 +102,7 @@ fn fits_below(program: &Program, harts: usize, size: usize) -> bool
 
 impl Machine {
     ghost use Rattle.reference.specs.Machines.{Belongs};
-    ghost use Rattle.reference.specs.Boots.{boot_fault, booted};
+    ghost use Rattle.flat.specs.Boots.{boot_fault, booted};
 
     /// The machine that a program begins in, with a number of harts and of bytes of memory. The program is given up where it
     /// isn't booted.
@@ -165,8 +113,8 @@ impl Machine {
         size: u32,
     ) -> Result<Machine, BootFault>
         // The tests come in their order, before memory is asked for.
-        ensures refused { (e : BootFault) → boot_fault program harts size ≡ Some e → result ≡ Err e }
-        ensures accepted { boot_fault program harts size ≡ None → MatchResult result (λ m. Belongs (booted program harts size) m) (λ e. e ≡ BootFault.NoMemory) }
+        ensures refused { (e : BootFault) → boot_fault program.segments harts size ≡ Some e → result ≡ Err e }
+        ensures accepted { boot_fault program.segments harts size ≡ None → MatchResult result (λ m. Belongs (booted program.segments program.entry harts size) m) (λ e. e ≡ BootFault.NoMemory) }
     {
         if !is_size(size) {
             return Err(BootFault::BadSize);
@@ -182,7 +130,7 @@ impl Machine {
         Machine::first(alloc, program, count, bytes)
     }
 
-    /// The same, of what can be booted. The only error is want of memory.
+    /// The same, of what can be booted. It fails only if memory runs out.
     fn first(
         alloc: Global,
         program: Program,
@@ -193,7 +141,7 @@ impl Machine {
         requires count { harts ≤ 8 }
         requires room { 8192 * harts ≤ size }
         requires fits { fits_below size harts program.segments ≡ true }
-        ensures { MatchResult result (λ m. Belongs (booted program harts size) m) (λ e. e ≡ BootFault.NoMemory) }
+        ensures { MatchResult result (λ m. Belongs (booted program.segments program.entry harts size) m) (λ e. e ≡ BootFault.NoMemory) }
     {
         let mut memory = vec![in alloc; 0; size]?;
         lay_image(&mut memory, program.segments());
@@ -203,13 +151,5 @@ impl Machine {
             memory,
             harts,
         })
-    }
-}
-
-impl From<AllocError> for BootFault {
-    ghost from_gives = { λ _ e. e ≡ NoMemory };
-
-    fn from(_: AllocError) -> BootFault {
-        BootFault::NoMemory
     }
 }

@@ -9,7 +9,7 @@ use table::Effect;
 use words::{AbortCause, Addr, Cause, Status};
 
 impl Machine {
-    /// Hart i retires an effect. The only error is want of memory.
+    /// Hart i retires an effect. It fails only if memory runs out.
     pub(crate) fn retire(
         &mut self,
         alloc: Global,
@@ -25,7 +25,7 @@ impl Machine {
         hart.retire(alloc, &mut self.memory, effect)
     }
 
-    /// Takes hart i's transaction back.
+    /// Rolls hart i's transaction back.
     pub(crate) fn abort(&mut self, i: usize, cause: AbortCause)
         requires { IsRunning (flat_of self.old) i }
         ensures { IfSome ((flat_of self.old).hart i).tx (λ t. flat_of self.new ≡ aborted (flat_of self.old) i cause t) }

@@ -6,8 +6,8 @@ ghost use Rattle.flat.specs.Steps.{Carries, Retires, IsRun, MayAbort, is_store};
 ghost use Rattle.reference.specs.States.{hart_of, tx_of};
 ghost use Rattle.reference.specs.Machines.{setting_of, flat_of, CanRetire, RetiresAs, CanAbort, CanTrap, IsDueAbort};
 
-use crate::hart::{Hart, Transaction};
-use crate::machine::{Machine, Turn};
+use crate::hart::{Hart, MOST_STORES, Transaction};
+use crate::machine::{Machine, NextMove};
 use crate::step::is_abort;
 use std::alloc::{AllocError, Global};
 use table::{Act, Effect};
@@ -30,20 +30,20 @@ fn is_same(a: &Entry, b: &Entry) -> bool
 }
 
 /// Whether an abort for this cause is due, by what the hart is about to do.
-fn is_due(cause: &AbortCause, hart: &Hart, tx: &Transaction, turn: &Turn) -> bool
-    ensures { (size : ℕ) → IsTrue result ↔ IsDueAbort cause.now (hart_of size hart.now) (tx_of size tx.now) turn.now }
+fn is_due(cause: &AbortCause, hart: &Hart, tx: &Transaction, next: &NextMove) -> bool
+    ensures { (size : ℕ) → IsTrue result ↔ IsDueAbort cause.now (hart_of size hart.now) (tx_of size tx.now) next.now }
 {
-    match turn {
-        Turn::Idle => false,
-        Turn::Stops(due) => match cause {
+    match next {
+        NextMove::Idle => false,
+        NextMove::Stops(due) => match cause {
             AbortCause::Conflict => true,
             AbortCause::Asked | AbortCause::LogFull => false,
             AbortCause::Trapped(trap, pc) => *pc == hart.pc && *trap == *due,
         },
-        Turn::Goes(_, effect) => match cause {
+        NextMove::Goes(_, effect) => match cause {
             AbortCause::Conflict => true,
             AbortCause::Asked => is_abort(&effect.act),
-            AbortCause::LogFull => is_store(&effect.act) && tx.stores >= 113,
+            AbortCause::LogFull => is_store(&effect.act) && tx.stores >= MOST_STORES,
             AbortCause::Trapped(..) => false,
         },
     }
@@ -55,9 +55,9 @@ impl Machine {
         ensures some { IfSome result (λ x. CanRetire (flat_of self.now) id x.0 x.1 x.2) }
         ensures none { IfNone result ((w : ℕ) (e : Entry) (g : Flat) → IsOkAnd (next_of (setting_of self.now) ((flat_of self.now).hart id)) (λ does. Retires (flat_of self.now) id w does e g) → ⊥) }
     {
-        match self.turn(id.index()) {
-            Turn::Idle | Turn::Stops(_) => None,
-            Turn::Goes(word, effect) => {
+        match self.next_move(id.index()) {
+            NextMove::Idle | NextMove::Stops(_) => None,
+            NextMove::Goes(word, effect) => {
                 if is_abort(&effect.act) || self.kept_out_by(id.index(), &effect.act).is_some() {
                     None
                 } else {
@@ -68,7 +68,7 @@ impl Machine {
         }
     }
 
-    /// Goes over a Retire entry of hart i.
+    /// Checks a Retire entry of hart i.
     fn check_retire(&mut self, alloc: Global, id: HartId, entry: &Entry) -> Result<bool, AllocError>
         ensures accepted { IfOk result (λ yes. IsTrue yes → RetiresAs (flat_of self.old) id entry.now (flat_of self.new)) }
         ensures refused { IfOk result (λ yes. yes ≡ false → (g : Flat) → RetiresAs (flat_of self.old) id entry.now g → ⊥) }
@@ -94,15 +94,15 @@ impl Machine {
         self.harts.get(id.index())
     }
 
-    /// Whether hart i's transaction can be taken back for this cause.
+    /// Whether hart i's transaction can be rolled back for this cause.
     fn may_abort(&self, id: HartId, cause: &AbortCause) -> bool
         ensures yes { IsTrue result → CanAbort (flat_of self.now) id cause.now }
         ensures no { result ≡ false → CanAbort (flat_of self.now) id cause.now → ⊥ }
     {
-        let turn = self.turn(id.index());
+        let next = self.next_move(id.index());
         match self.hart(id) {
             Some(hart) => match &hart.tx {
-                Some(tx) => is_due(cause, hart, tx, &turn),
+                Some(tx) => is_due(cause, hart, tx, &next),
                 None => false,
             },
             None => false,
@@ -115,9 +115,11 @@ impl Machine {
         ensures no { result ≡ false → CanTrap (flat_of self.now) id cause pc → ⊥ }
     {
         let i = id.index();
-        match self.turn(i) {
-            Turn::Idle | Turn::Goes(..) => false,
-            Turn::Stops(due) => { !self.is_in_transaction(i) && pc == self.pc(i) && cause == due }
+        match self.next_move(i) {
+            NextMove::Idle | NextMove::Goes(..) => false,
+            NextMove::Stops(due) => {
+                !self.is_in_transaction(i) && pc == self.pc(i) && cause == due
+            }
         }
     }
 
@@ -145,8 +147,8 @@ impl Machine {
         true
     }
 
-    /// Goes over one entry: accepts it just if it carries the flat state on, and then is where it leads. The only error is
-    /// want of memory.
+    /// Checks one entry: accepts it if and only if it carries the flat state on, and then is where it leads. It fails only if
+    /// memory runs out.
     pub fn check(&mut self, alloc: Global, entry: &Entry) -> Result<bool, AllocError>
         ensures accepted { IfOk result (λ yes. IsTrue yes → Carries (flat_of self.old) entry.now (flat_of self.new)) }
         ensures refused { IfOk result (λ yes. yes ≡ false → (g : Flat) → Carries (flat_of self.old) entry.now g → ⊥) }
@@ -161,8 +163,8 @@ impl Machine {
         }
     }
 
-    /// Goes over a list of entries up to the first that it refuses: answers how many it accepted, which is all of them just
-    /// if they are a run. The only error is want of memory; it says how many were accepted before.
+    /// Checks a list of entries up to the first that it refuses: answers how many it accepted, which is all of them if and
+    /// only if they are a run. It fails only if memory runs out, and then says how many were accepted before.
     pub fn check_all(
         &mut self,
         alloc: Global,

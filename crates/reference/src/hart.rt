@@ -1,7 +1,6 @@
 ghost use Rattle.std.specs.Prelude.{◌≡◌, ◌≢◌, ◌<◌, ◌≤◌, ◌+◌, ◌%◌, ◌^◌, ℕ, Some, None, true, OnOk, OnErr, IfSome, length};
 ghost use Rattle.std.specs.Option.{option_map};
-ghost use Rattle.table.specs.Effects.{bytes_in};
-ghost use Rattle.flat.specs.Bytes.{number_at};
+ghost use Rattle.words.specs.Bytes.{bytes_in, number_at};
 ghost use Rattle.flat.specs.State.{has_read, has_written};
 ghost use Rattle.flat.specs.Causes.{depth_of};
 ghost use Rattle.flat.specs.Effects.{put_by, load_by, store_by, write_by, loaded_by, retire_of, tx_put, tx_got, mem_put, mem_by, tx_by, status_by, output_by, hart_after};
@@ -14,10 +13,10 @@ use std::alloc::{AllocError, Global};
 use table::{
     Act, Effect, MemoryAct, extend_load, finish_store, register, write_register, write_to,
 };
-use words::{AbortCause, Access, Addr, Entry, HartId, Reg, Regs, Status, Width};
+use words::{AbortCause, Access, Addr, Entry, HartId, LOG_RECORDS, Reg, Regs, Status, Width};
 
 /// How many stores an undo log holds, and so how far they are counted.
-const MOST_STORES: u8 = 113;
+pub(crate) const MOST_STORES: u8 = LOG_RECORDS as u8;
 
 /// A running transaction.
 #[derive(Debug, Drop)]
@@ -293,7 +292,7 @@ impl Hart {
         }
     }
 
-    /// Retires an instruction with this effect. At an error, which is want of memory, nothing changed.
+    /// Retires an instruction with this effect. It fails only if memory runs out: then nothing changed.
     pub fn retire(
         &mut self,
         alloc: Global,

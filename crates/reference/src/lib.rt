@@ -1,7 +1,7 @@
 //! The plain machine: one memory, and harts whose transactions keep what they did to themselves until they commit.
 //!
-//! It makes steps of the flat machine (`step`, `run`), and it checks entries (`check`, `check_all`): it accepts just those that
-//! carry the flat state on. It has no caches, keeps no logs and sends no messages.
+//! It makes steps of the flat machine (`step`, `run`), and it checks entries (`check`, `check_all`): it accepts an entry if and only if it
+//! carries the flat state on. It has no caches, keeps no logs and sends no messages.
 #![tactic(auto)]
 
 mod boot;
@@ -14,7 +14,6 @@ mod reads;
 mod room;
 mod step;
 
-pub use boot::BootFault;
 pub use machine::Machine;
 
 #[cfg(test)]

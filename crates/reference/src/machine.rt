@@ -1,13 +1,10 @@
 ghost use Rattle.std.specs.Prelude.{◌≡◌, ◌<◌, ◌≤◌, ℕ, true, false, vec_len, IsTrue, is_some};
-ghost use Rattle.table.specs.Effects.{bytes_in};
+ghost use Rattle.words.specs.Bytes.{bytes_in};
 
 use crate::hart::Hart;
 use loader::Program;
 use table::{Act, Effect, MemoryAct, byte_count, effect_at, register};
-use words::{Addr, Cause, Reg, Status};
-
-/// How many bytes of memory a hart's undo log takes.
-pub const LOG_BYTES: usize = 4096;
+use words::{Addr, Cause, LOG_BYTES, Reg, Status};
 
 /// One memory, and harts whose transactions keep what they did to themselves until they commit.
 #[derive(Debug, Drop)]
@@ -20,7 +17,7 @@ pub struct Machine {
 
 /// What a hart is about to do.
 #[derive(Debug, Drop)]
-pub enum Turn {
+pub enum NextMove {
     /// Nothing: there is no such hart, or it doesn't run.
     Idle,
     /// Its word can't be retired.
@@ -32,7 +29,7 @@ pub enum Turn {
 impl Machine {
     ghost use Rattle.flat.specs.Causes.{load_cause, store_cause, memory_cause, act_cause, logs_from, effect_or_cause};
     ghost use Rattle.reference.specs.States.{hart_of};
-    ghost use Rattle.reference.specs.Machines.{setting_of, flat_of, IsTurn};
+    ghost use Rattle.reference.specs.Machines.{setting_of, flat_of, IsNextMove};
 
     /// The first address of the undo logs.
     pub(crate) fn logs_from(&self) -> usize
@@ -137,18 +134,18 @@ impl Machine {
     }
 
     /// What hart i is about to do.
-    pub(crate) fn turn(&self, i: usize) -> Turn
-        ensures { IsTurn (flat_of self.now) i result }
+    pub(crate) fn next_move(&self, i: usize) -> NextMove
+        ensures { IsNextMove (flat_of self.now) i result }
     {
         let hart = match self.harts.get(i) {
             Some(hart) if hart.status == Status::Running => hart,
-            _ => return Turn::Idle,
+            _ => return NextMove::Idle,
         };
         match self.program.text().word(hart.pc) {
-            None => Turn::Stops(Cause::FetchOutside),
+            None => NextMove::Stops(Cause::FetchOutside),
             Some(word) => match self.effect(hart, word) {
-                Ok(effect) => Turn::Goes(word, effect),
-                Err(cause) => Turn::Stops(cause),
+                Ok(effect) => NextMove::Goes(word, effect),
+                Err(cause) => NextMove::Stops(cause),
             },
         }
     }

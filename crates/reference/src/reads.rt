@@ -1,25 +1,50 @@
 ghost use Rattle.std.specs.Prelude.{◌≡◌, ◌<◌, ◌≤◌, ◌+◌, ◌/◌, ℕ, vec_len, cond, nat_lt, Some, None, true, IfSome, IfNone, length, is_some};
 ghost use Rattle.words.specs.declared.entry.Width.TheVariants.{Word};
-ghost use Rattle.flat.specs.Bytes.{number_at};
+ghost use Rattle.words.specs.Bytes.{number_at};
 ghost use Rattle.flat.specs.State.{Flat, has_written};
 ghost use Rattle.flat.specs.Steps.{IsRunning};
-ghost use Rattle.reference.specs.Machines.{setting_of, flat_of, hart_count, Belongs};
-ghost use Rattle.reference.specs.Reads.{is_readable, word_if, word_seen, NoneWrote, IsInPlace, shown, NoneRuns, IsNextTurn};
+ghost use Rattle.std.proofs.Common.{ap};
+ghost use Rattle.reference.specs.Machines.{setting_of, flat_of, Belongs};
+ghost use Rattle.flat.specs.Reads.{is_readable, word_seen, NoneWrote, IsInPlace, NoneRuns, IsNextTurn};
 
 use crate::machine::Machine;
+use flat::Engine;
 use overlay::word_at;
 use words::{Addr, HartId, Regs, Status, Step, Width};
 
-impl Machine {
-    /// How many harts there are, 1 to 8.
-    pub fn harts(&self) -> usize
-        ensures count { result ≡ hart_count self.now }
-        ensures value { (f : Flat) → Belongs f self.now → result ≡ f.setting.count }
-        ensures few { result ≤ 8 }
-    {
+impl Engine for Machine {
+    ghost setting = { setting_of };
+
+    ghost belongs = { Belongs };
+
+    fn harts(&self) -> usize {
         self.harts.len()
     }
 
+    fn peek(&self, addr: Addr) -> Option<u32> {
+        let address = addr.index();
+        if self.is_readable(address) {
+            Some(word_at(&self.memory, address))
+        } else {
+            None
+        }
+    }
+
+    fn regs(&self, id: HartId) -> Option<(Regs, Addr, Status)> {
+        match self.harts.get(id.index()) {
+            Some(hart) => Some((hart.regs, hart.pc, hart.status)),
+            None => None,
+        }
+    }
+
+    fn output(&self, id: HartId) -> &[u8] {
+        &self.harts[id.index()].output
+    }
+
+    ghost same_setting = { λ f m e. ap (λ g. g.setting) e };
+}
+
+impl Machine {
     /// How many bytes memory has.
     pub fn size(&self) -> usize
         ensures { (f : Flat) → Belongs f self.now → result ≡ f.setting.size }
@@ -32,19 +57,6 @@ impl Machine {
         ensures { result ≡ is_readable (setting_of self.now) address }
     {
         address % 4 == 0 && address + 4 <= self.logs_from()
-    }
-
-    /// The word of memory at an address: what all commits so far have left there. None where the address isn't a
-    /// multiple of 4 below the undo logs.
-    pub fn peek(&self, addr: Addr) -> Option<u32>
-        ensures { (f : Flat) → Belongs f self.now → result ≡ word_if f.setting f.mem addr }
-    {
-        let address = addr.index();
-        if self.is_readable(address) {
-            Some(word_at(&self.memory, address))
-        } else {
-            None
-        }
     }
 
     /// The word at an address as a hart sees it. None where `peek` is, and where there is no such hart.
@@ -87,24 +99,6 @@ impl Machine {
             Some(i) => Some(self.harts[i].number(&self.memory, address, Width::Word)),
             None => Some(word_at(&self.memory, address)),
         }
-    }
-
-    /// A hart's registers, pc and status. None where there is no such hart.
-    pub fn regs(&self, id: HartId) -> Option<(Regs, Addr, Status)>
-        ensures { (f : Flat) → Belongs f self.now → result ≡ cond (nat_lt id f.setting.count) (Some (shown (f.hart id))) None }
-    {
-        match self.harts.get(id.index()) {
-            Some(hart) => Some((hart.regs, hart.pc, hart.status)),
-            None => None,
-        }
-    }
-
-    /// The bytes that a hart has put out, in order.
-    pub fn output(&self, id: HartId) -> &[u8]
-        requires { id < hart_count self.now }
-        ensures { (f : Flat) → Belongs f self.now → result.now ≡ (f.hart id).output }
-    {
-        &self.harts[id.index()].output
     }
 
     /// The lowest running hart from one number up to another.

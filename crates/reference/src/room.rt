@@ -3,7 +3,7 @@ ghost use Rattle.std.specs.Prelude.{◌≡◌, ◌<◌, ◌++◌, OnOk, OnErr, I
 
 use std::alloc::AllocError;
 
-/// Makes room for one item more. The only error is want of memory.
+/// Makes room for one item more. It fails only if memory runs out.
 pub fn make_room<T: Copy>(list: &mut Vec<T>) -> Result<(), AllocError>
     ensures items { list.new.items ≡ list.old.items }
     ensures room { OnOk result (vec_len list.new < vec_capacity list.new) }

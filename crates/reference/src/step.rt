@@ -6,15 +6,15 @@ ghost use Rattle.flat.specs.Causes.{next_of};
 ghost use Rattle.flat.specs.Steps.{Carries, IsRunning, is_abort};
 ghost use Rattle.table.specs.Program.{word_at};
 ghost use Rattle.reference.specs.States.{hart_of, Fits};
-ghost use Rattle.reference.specs.Machines.{setting_of, flat_of, IsTurn, Refines, IsDue, IsDueEntry, StepsTo, CanRetire, RunsTo, RefinesAll};
+ghost use Rattle.reference.specs.Machines.{setting_of, flat_of, IsNextMove, Refines, IsDue, IsDueEntry, StepsTo, CanRetire, RunsTo, RefinesAll};
 
-use crate::machine::{Machine, Turn};
+use crate::machine::{Machine, NextMove};
 use crate::room::{append, make_room};
 use std::alloc::{AllocError, Global};
 use table::{Act, Effect};
 use words::{AbortCause, Addr, Cause, Entry, HartId, Step};
 
-/// Whether an act takes the transaction back.
+/// Whether an act aborts the transaction.
 pub(crate) fn is_abort(act: &Act) -> bool
     ensures { result ≡ is_abort act.now }
 {
@@ -80,8 +80,8 @@ impl Machine {
         }
     }
 
-    /// Takes hart i's transaction back, as its word asks.
-    fn take_back(&mut self, id: HartId) -> Entry
+    /// Rolls hart i's transaction back, as its word asks.
+    fn roll_back(&mut self, id: HartId) -> Entry
         requires running { IsRunning (flat_of self.old) id }
         requires asked { IsOkAnd (next_of (setting_of self.old) ((flat_of self.old).hart id)) (λ e. is_abort e.act ≡ true) }
         requires transaction { IsSome ((flat_of self.old).hart id).tx }
@@ -111,7 +111,7 @@ impl Machine {
         ensures err { OnErr result (flat_of self.new ≡ flat_of self.old) }
     {
         if is_abort(&effect.act) {
-            return Ok(self.take_back(id));
+            return Ok(self.roll_back(id));
         }
         match self.kept_out_by(id.index(), &effect.act) {
             Some((hart, block)) => Ok(Entry::Refuse {
@@ -132,10 +132,10 @@ impl Machine {
         ensures steps { IfOk result (λ e. StepsTo (flat_of self.old) (Step.Core id) e (flat_of self.new)) }
         ensures err { OnErr result (flat_of self.new ≡ flat_of self.old) }
     {
-        match self.turn(id.index()) {
-            Turn::Idle => Ok(None),
-            Turn::Stops(cause) => Ok(Some(self.give_up(id, cause))),
-            Turn::Goes(word, effect) => {
+        match self.next_move(id.index()) {
+            NextMove::Idle => Ok(None),
+            NextMove::Stops(cause) => Ok(Some(self.give_up(id, cause))),
+            NextMove::Goes(word, effect) => {
                 let entry = self.go_on(alloc, id, word, &effect)?;
                 Ok(Some(entry))
             }
@@ -143,7 +143,7 @@ impl Machine {
     }
 
     /// One step. `Core` of a hart that runs is enabled and gives an entry; every other step changes nothing and gives
-    /// none. The only error is want of memory.
+    /// none. It fails only if memory runs out.
     pub fn step(&mut self, alloc: Global, step: Step) -> Result<Option<Entry>, AllocError>
         ensures refines { IfOk result (λ e. Refines self.old e self.new) }
         ensures steps { IfOk result (λ e. StepsTo (flat_of self.old) step e (flat_of self.new)) }
@@ -170,8 +170,8 @@ impl Machine {
         append(entries, self.step(alloc, step))
     }
 
-    /// Steps in order, their entries pushed. At an error, which is want of memory, it says how many steps were made: just
-    /// those before the one that wanted memory.
+    /// Steps in order, their entries pushed. It fails only if memory runs out, and then says how many steps were made: those
+    /// before the one that wanted memory.
     pub fn run(
         &mut self,
         alloc: Global,

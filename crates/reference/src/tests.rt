@@ -1,38 +1,12 @@
-ghost use Rattle.std.specs.Prelude.{◌≡◌, ◌<◌, length};
+ghost use Rattle.std.specs.Prelude.{◌≡◌};
 
-use crate::{BootFault, Machine};
+use crate::Machine;
+use elf_samples::elf_file;
+use flat::{BootFault, Engine};
 use loader::read_elf;
 use std::alloc::{AllocError, Global};
 use std::test::Fail;
 use words::{AbortCause, Access, Addr, BlockNo, Cause, Entry, HartId, Reg, Status, Step, Width};
-
-/// An ELF file with one text segment at 0x1000, where it begins.
-fn image(alloc: Global, words: &[u32]) -> Result<Vec<u8>, AllocError>
-    requires { length words.now < 1000 }
-{
-    let size = 4 * words.len() as u32;
-    let header = [
-        0x464c_457f,
-        0x0001_0101,
-        0,
-        0,
-        0x00f3_0002,
-        1,
-        0x1000,
-        52,
-        0,
-        0,
-        0x0020_0034,
-        1,
-        0,
-    ];
-    let segment = [1, 84, 0x1000, 0x1000, size, size, 5, 1];
-    let mut bytes = Vec::new(alloc);
-    for word in header.iter().chain(segment.iter()).chain(words.iter()) {
-        bytes.extend_from_slice(&word.to_le_bytes())?;
-    }
-    Ok(bytes)
-}
 
 fn zero() -> HartId
     ensures { result ≡ 0 }
@@ -56,7 +30,7 @@ const COMMITS: [u32; 8] = [
     0x0000_0073,
 ];
 
-/// The same, but it takes the transaction back.
+/// The same, but it aborts the transaction.
 const ABORTS: [u32; 8] = [
     0x0000_0a0b,
     0x0000_22b7,
@@ -116,17 +90,13 @@ fn make_turns(
     Ok(())
 }
 
-fn booted(alloc: Global, words: &[u32], harts: u32) -> Result<Machine, Fail>
-    requires { length words.now < 1000 }
-{
-    let program = read_elf(alloc, &image(alloc, words)?)?;
+fn booted(alloc: Global, words: &[u32], harts: u32) -> Result<Machine, Fail> {
+    let program = read_elf(alloc, &elf_file(alloc, words)?)?;
     Ok(Machine::boot(alloc, program, harts, 65536)?)
 }
 
 /// Whether the entries are those of a run of the program.
-fn is_run(alloc: Global, words: &[u32], harts: u32, entries: &[Entry]) -> Result<bool, Fail>
-    requires { length words.now < 1000 }
-{
+fn is_run(alloc: Global, words: &[u32], harts: u32, entries: &[Entry]) -> Result<bool, Fail> {
     let mut checker = booted(alloc, words, harts)?;
     match checker.check_all(alloc, entries) {
         Ok(accepted) => Ok(accepted == entries.len()),
@@ -348,7 +318,7 @@ fn boot_gives_stacks_and_refuses_in_order(rt: HostRuntime) -> Result<(), Fail> {
         (0, 65536, BootFault::BadHarts),
         (8, 65536, BootFault::DoesNotFit),
     ] {
-        let program = read_elf(rt.alloc(), &image(rt.alloc(), &COMMITS)?)?;
+        let program = read_elf(rt.alloc(), &elf_file(rt.alloc(), &COMMITS)?)?;
         match Machine::boot(rt.alloc(), program, harts, size) {
             Ok(_) => assert!(rt; false, "booted with {harts} harts and {size} bytes"),
             Err(refused) => assert_eq!(rt; refused, fault),

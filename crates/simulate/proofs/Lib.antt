@@ -5,3 +5,4 @@ pub mod Turning
 pub mod Reported
 pub mod Starting
 pub mod Refusing
+pub mod Performing

@@ -1,11 +1,9 @@
--- What the user is told of an order that isn't carried out.
-use Rattle.std.proofs.Common.{ℕ, List, Option, Result, Ok, Err, length, arith}
-use Rattle.std.proofs.Math.Seq.{take-length}
-use Rattle.words.specs.Taken.{TookBeginning}
+-- What comes of a text that is put, by what the putting answered.
+use Rattle.std.proofs.Common.{ℕ, List, Option, Result, Ok, Err, inl, inr}
 use Rattle.words.specs.declared.sink.SinkFault.{SinkFault}
-use Rattle.simulate.specs.Sinks.{Puts}
+use Rattle.simulate.specs.Sinks.{Puts, IsPut}
 
--- of a text that was put a beginning was taken
-pub puts-beginning : (a b : Option (List ℕ)) (fa fb : ℕ) (text : List ℕ) (r : Result Unit SinkFault) → Puts a b fa fb text r → TookBeginning a b text
-puts-beginning a b fa fb text (Ok _) puts = (length text, omega arith, rw (take-length text) puts.whole)
-puts-beginning a b fa fb text (Err _) puts = puts.part
+-- a text that was put is put, whatever was answered
+pub puts-put : (a b : Option (List ℕ)) (fa fb : ℕ) (text : List ℕ) (r : Result Unit SinkFault) → Puts a b fa fb text r → IsPut a b fa fb text
+puts-put a b fa fb text (Ok _) puts = inl (record { whole = puts.whole; clean = puts.clean })
+puts-put a b fa fb text (Err _) puts = inr (record { part = puts.part; fault = puts.fault })

@@ -1,26 +1,59 @@
 -- The statuses that go with a report, and those of faults.
-use Rattle.std.proofs.Common.{◌≡◌, ◌≢◌, ℕ, ◌⊎◌, inl, inr, refl, ap, subst, arith, Bool, true, false, cond, ◌==◌}
+use Rattle.std.proofs.Common.{◌≡◌, ℕ, ◌+◌, ◌<◌, ◌≤◌, max, ◌⊎◌, inl, inr, refl, ap, sym, ◌∙◌, subst, arith, Bool, true, false, cond, ◌==◌}
+use Rattle.std.proofs.Math.Nat.{eq-or-lt_of_le}
+use Rattle.std.proofs.lemmas.Bool.{cases_lt}
 use Rattle.words.specs.declared.cause.Status.{Status}
 use Rattle.words.specs.declared.cause.Status.TheVariants.{Running, Exited, Stopped}
 use Rattle.flat.specs.State.{Flat}
+use Rattle.command_line.specs.declared.request.Order.{Order}
 use Rattle.simulate.specs.Faults.{fault_status}
+use Rattle.simulate.specs.Refusals.{IsFaultOf}
 use Rattle.simulate.specs.Statuses.{status_for, IsGreatest, IsReported, IsRefused}
 use Rattle.simulate.specs.declared.fault.Fault.{Fault}
 use Rattle.simulate.specs.declared.fault.Fault.TheVariants.{NotText, Refused, Value, Unread, Load, Boot, Word, Unwritten, NoMemory}
+use Rattle.std.specs.Prelude.{List}
 
 exit_status : (b : Bool) → IsReported (cond b 0 1)
 exit_status true = inl refl
 exit_status false = inr (inl refl)
 
 -- what a hart asks for goes with a report
-status_for-reported : (s : Status) → IsReported (status_for s)
+pub status_for-reported : (s : Status) → IsReported (status_for s)
 status_for-reported Running = inr (inr refl)
 status_for-reported (Exited a) = exit_status (a == 0)
 status_for-reported (Stopped cause pc) = inr (inl refl)
 
--- the greatest that harts ask for goes with a report
-pub greatest-reported : (f : Flat) (n s : ℕ) → IsGreatest f n s → IsReported s
-greatest-reported f n s h = elim h.reached [ inl e ↦ inl e | inr x ↦ subst IsReported x.2 (status_for-reported (f.hart x.0).status) ]
+max_is_one : (a b : ℕ) → (max a b ≡ a) ⊎ (max a b ≡ b)
+max_is_one a b = elim (cases_lt a b) [
+  | inl less ↦ inr (omega arith)
+  | inr le ↦ inl (omega arith)
+]
+
+-- the greater of two that go with a report goes with one
+pub greater-reported : (a b : ℕ) → IsReported a → IsReported b → IsReported (max a b)
+greater-reported a b ra rb = elim (max_is_one a b) [ inl e ↦ subst IsReported (sym e) ra | inr e ↦ subst IsReported (sym e) rb ]
+
+-- the greatest that harts ask for, with one hart more
+pub greatest-more : (f : Flat) (n a s : ℕ) → a ≡ status_for (f.hart n).status → IsGreatest f n s → IsGreatest f (n + 1) (max a s)
+greatest-more f n a s here before = record {
+  bound = λ i below.
+      let within : i ≤ n = omega arith in
+      elim (eq-or-lt_of_le within) [
+        | inl e ↦ let same : status_for (f.hart i).status ≡ a = ap (λ (k : ℕ). status_for (f.hart k).status) e ∙ sym here in omega arith
+        | inr less ↦ let old = before.bound i less in omega arith
+      ];
+  reached = elim (max_is_one a s) [
+    | inl e ↦ let less : n < n + 1 = omega arith in inr (n, less, sym here ∙ sym e)
+    | inr e ↦ elim before.reached [
+      | inl none ↦ inl (e ∙ none)
+      | inr x ↦ let less : x.0 < n + 1 = omega (arith, x.1) in inr (x.0, less, x.2 ∙ sym e)
+    ]
+  ];
+}
+
+-- of no hart nothing is asked
+pub greatest-none : (f : Flat) → IsGreatest f 0 0
+greatest-none f = record { bound = λ i below. omega (arith, below); reached = inl refl }
 
 -- no status goes with a report and with a fault before it
 pub not_both : (s : ℕ) → IsReported s → IsRefused s → ⊥
@@ -38,18 +71,14 @@ fault-not_reported (Word text) h = omega (arith, h)
 fault-not_reported Unwritten h = omega (arith, h)
 fault-not_reported NoMemory h = omega (arith, h)
 
--- a fault that is told before the report is no failed put
-pub refused-not_unwritten : (e : Fault) → IsRefused (fault_status e) → e ≢ Unwritten
-refused-not_unwritten e h same = let three : fault_status e ≡ 3 = ap fault_status same in omega (arith, h)
-
--- what status a fault has
-pub fault-known : (e : Fault) → IsReported (fault_status e) ⊎ IsRefused (fault_status e) ⊎ (fault_status e ≡ 3)
-fault-known NotText = inr (inl (inl refl))
-fault-known (Refused text) = inr (inl (inl refl))
-fault-known (Value text) = inr (inl (inl refl))
-fault-known (Unread file) = inr (inr refl)
-fault-known (Load fault) = inr (inl (inr (inl refl)))
-fault-known (Boot fault) = inr (inl (inr (inl refl)))
-fault-known (Word text) = inr (inl (inl refl))
-fault-known Unwritten = inr (inr refl)
-fault-known NoMemory = inr (inl (inr (inr refl)))
+-- of the faults of an order only one has status 3
+pub fault-unwritten : (order : Order) (file : List ℕ) (e : Fault) → IsFaultOf order file e → fault_status e ≡ 3 → e ≡ Unwritten
+fault-unwritten order file NotText why h = absurd why
+fault-unwritten order file (Refused text) why h = absurd why
+fault-unwritten order file (Value text) why h = absurd why
+fault-unwritten order file (Unread path) why h = absurd why
+fault-unwritten order file (Load fault) why h = absurd (omega (arith, h))
+fault-unwritten order file (Boot fault) why h = absurd (omega (arith, h))
+fault-unwritten order file (Word text) why h = absurd (omega (arith, h))
+fault-unwritten order file Unwritten why h = refl
+fault-unwritten order file NoMemory why h = absurd (omega (arith, h))

@@ -3,9 +3,9 @@ use Rattle.std.proofs.Common.{◌≡◌, ℕ, List, Option, Some, None, Result, 
 use Rattle.std.proofs.lemmas.Result.{MatchResult-at_err}
 use Rattle.loader.specs.Programs.{Program}
 use Rattle.loader.specs.Elf.{IsElfOf}
-use Rattle.reference.specs.Boots.{boot_fault}
-use Rattle.reference.specs.declared.boot.BootFault.{BootFault}
-use Rattle.reference.specs.declared.boot.BootFault.TheVariants as boot
+use Rattle.flat.specs.Boots.{boot_fault}
+use Rattle.flat.specs.declared.boot_fault.BootFault.{BootFault}
+use Rattle.flat.specs.declared.boot_fault.BootFault.TheVariants as boot
 use Rattle.reference.specs.declared.machine.Machine.{Machine}
 use Rattle.simulate.specs.Faults.{of_boot}
 use Rattle.simulate.specs.Starts.{IsStartFault}
@@ -21,7 +21,7 @@ refused-fault None r b P err refused accepted = inl (MatchResult-at_err P (λ e.
 refused-fault (Some e) r b P err refused accepted = let same = refused e refl in inr (cc)
 
 -- the fault of a boot, told to the user
-pub boot-start_fault : (file : List ℕ) (harts memory : ℕ) (p : Program) (b : BootFault) → IsElfOf file p → (b ≡ boot.NoMemory) ⊎ (boot_fault p harts memory ≡ Some b) → IsStartFault file harts memory (of_boot b)
+pub boot-start_fault : (file : List ℕ) (harts memory : ℕ) (p : Program) (b : BootFault) → IsElfOf file p → (b ≡ boot.NoMemory) ⊎ (boot_fault p.segments harts memory ≡ Some b) → IsStartFault file harts memory (of_boot b)
 boot-start_fault file harts memory p boot.BadSize elf h = elim h [ inl e ↦ absurd (cc) | inr e ↦ (p, elf, e) ]
 boot-start_fault file harts memory p boot.BadHarts elf h = elim h [ inl e ↦ absurd (cc) | inr e ↦ (p, elf, e) ]
 boot-start_fault file harts memory p boot.DoesNotFit elf h = elim h [ inl e ↦ absurd (cc) | inr e ↦ (p, elf, e) ]

@@ -3,7 +3,7 @@ use Rattle.std.proofs.Common.{◌≡◌, ℕ, ◌+◌, ◌-◌, ◌≤◌, ◌++
 use Rattle.words.specs.declared.entry.Entry.{Entry}
 use Rattle.flat.specs.State.{Flat}
 use Rattle.flat.proofs.Entries.{setting_stays}
-use Rattle.reference.specs.Reads.{NoneRuns}
+use Rattle.flat.specs.Reads.{NoneRuns}
 use Rattle.simulate.specs.Turns.{TakesTurn, TakesTurns}
 
 -- after k turns from one state another is reached, with a hart whose turn was the last: further turns from there are further turns of all

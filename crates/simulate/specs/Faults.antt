@@ -1,19 +1,19 @@
 -- What the user is told of a fault, and the status that it ends the program with.
 use Rattle.std.specs.Prelude.{ℕ, List, [], ◌∷◌, codes, decimal, string_bytes}
 use Rattle.std.specs.List.{concat}
-use Rattle.order.specs.declared.fault.OrderFault.{OrderFault}
-use Rattle.order.specs.declared.fault.OrderFault.TheVariants as order
+use Rattle.command_line.specs.declared.fault.OrderFault.{OrderFault}
+use Rattle.command_line.specs.declared.fault.OrderFault.TheVariants as order
 use Rattle.loader.specs.declared.fault.LoadFault.{LoadFault}
 use Rattle.loader.specs.declared.fault.LoadFault.TheVariants as load
 use Rattle.loader.specs.Faults.{fault_number, fault_name}
-use Rattle.reference.specs.declared.boot.BootFault.{BootFault}
-use Rattle.reference.specs.declared.boot.BootFault.TheVariants as boot
-use Rattle.reference.specs.FaultNames.{boot_fault_number, boot_fault_name}
+use Rattle.flat.specs.declared.boot_fault.BootFault.{BootFault}
+use Rattle.flat.specs.declared.boot_fault.BootFault.TheVariants as boot
+use Rattle.flat.specs.BootFaults.{boot_fault_number, boot_fault_name}
 use Rattle.simulate.specs.Reports.{line_end}
 use Rattle.simulate.specs.declared.fault.Fault.{Fault}
 use Rattle.simulate.specs.declared.fault.Fault.TheVariants.{NotText, Refused, Value, Unread, Load, Boot, Word, Unwritten, NoMemory}
 
--- 2 for the command line, 3 for a file, 4 for what is in the file and for the machine that is asked for, 6 for want of memory
+-- 2 for the command line, 3 for a file, 4 for what is in the file and for the machine that is asked for, 6 if memory ran out
 abbrev pub fault_status : Fault → ℕ
 fault_status NotText = 2
 fault_status (Refused text) = 2
@@ -51,7 +51,7 @@ of_order (order.Refused text) = Refused text
 of_order (order.Value text) = Value text
 of_order order.NoMemory = NoMemory
 
--- the fault of a file, where want of memory is no fault of the file's
+-- the fault of a file, where it is not the file's fault that memory ran out
 abbrev pub of_load : LoadFault → Fault
 of_load load.Truncated = Load load.Truncated
 of_load load.NotElf32 = Load load.NotElf32

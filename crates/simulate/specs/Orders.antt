@@ -1,8 +1,8 @@
 -- What an order asks for.
 use Rattle.std.specs.Prelude.{ℕ, List}
-use Rattle.order.specs.declared.request.Order.{Order}
-use Rattle.order.specs.declared.request.Order.TheVariants.{Run}
-use Rattle.order.specs.declared.request.Word.{Word}
+use Rattle.command_line.specs.declared.request.Order.{Order}
+use Rattle.command_line.specs.declared.request.Order.TheVariants.{Run}
+use Rattle.command_line.specs.declared.request.Word.{Word}
 
 abbrev pub harts_of : Order → ℕ
 harts_of (Run path harts memory steps words) = harts

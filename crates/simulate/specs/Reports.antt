@@ -5,9 +5,9 @@ use Rattle.words.specs.Causes.{cause_number, cause_name}
 use Rattle.words.specs.declared.cause.Status.{Status}
 use Rattle.words.specs.declared.cause.Status.TheVariants.{Running, Exited, Stopped}
 use Rattle.words.specs.declared.entry.Width.TheVariants.{Word}
-use Rattle.flat.specs.Bytes.{number_at}
-use Rattle.flat.specs.State.{Flat}
-use Rattle.reference.specs.Reads.{is_readable}
+use Rattle.words.specs.Bytes.{number_at}
+use Rattle.flat.specs.State.{Flat, Setting}
+use Rattle.flat.specs.Reads.{is_readable}
 use Rattle.simulate.specs.Numerals.{hexadecimal}
 
 abbrev pub line_end : List ℕ
@@ -45,5 +45,5 @@ abbrev pub report_of : Flat → List ℕ → List ℕ
 report_of f words = harts_text f f.setting.count ++ words_text f words
 
 -- each of the words can be read
-abbrev pub AllReadable : Flat → List ℕ → Type 0
-AllReadable f words = All (λ a. is_readable f.setting a ≡ true) words
+abbrev pub AllReadable : Setting → List ℕ → Type 0
+AllReadable s words = All (λ a. is_readable s a ≡ true) words

@@ -4,9 +4,9 @@ use Rattle.words.specs.declared.entry.Entry.{Entry}
 use Rattle.flat.specs.State.{Flat}
 use Rattle.loader.specs.Programs.{Program}
 use Rattle.loader.specs.Elf.{IsElfOf}
-use Rattle.order.specs.declared.request.Order.{Order}
-use Rattle.order.specs.declared.request.Word.{Word}
-use Rattle.reference.specs.Boots.{boot_fault, booted}
+use Rattle.command_line.specs.declared.request.Order.{Order}
+use Rattle.command_line.specs.declared.request.Word.{Word}
+use Rattle.flat.specs.Boots.{boot_fault, booted}
 use Rattle.simulate.specs.Orders.{harts_of, memory_of, steps_of, words_of}
 use Rattle.simulate.specs.Reports.{report_of, AllReadable}
 use Rattle.simulate.specs.Statuses.{IsStatusOf}
@@ -20,8 +20,8 @@ LeadsTo f steps g = (es : List Entry) × TakesTurns steps f (f.setting.count - 1
 pub record ComesTo (file : List ℕ) (harts memory steps : ℕ) (f : Flat) : Type 0 where
   pub program : Program
   pub elf : IsElfOf file program
-  pub boots : boot_fault program harts memory ≡ None
-  pub runs : LeadsTo (booted program harts memory) steps f
+  pub boots : boot_fault program.segments harts memory ≡ None
+  pub runs : LeadsTo (booted program.segments program.entry harts memory) steps f
 
 -- the addresses of the words that are to be shown
 abbrev pub addresses : List Word → List ℕ
@@ -29,7 +29,7 @@ addresses words = map (λ w. w.addr) words
 
 -- the text is the report on this state, and the status goes with it
 pub record IsReport (f : Flat) (words : List Word) (shown : List ℕ) (given : ℕ) : Type 0 where
-  pub readable : AllReadable f (addresses words)
+  pub readable : AllReadable f.setting (addresses words)
   pub text : shown ≡ report_of f (addresses words)
   pub status : IsStatusOf f given
 

@@ -4,7 +4,7 @@ use Rattle.words.specs.declared.entry.Entry.{Entry}
 use Rattle.words.specs.declared.entry.Step.TheVariants.{Core}
 use Rattle.flat.specs.State.{Flat}
 use Rattle.reference.specs.Machines.{StepsTo}
-use Rattle.reference.specs.Reads.{NoneRuns, IsNextAfter}
+use Rattle.flat.specs.Reads.{NoneRuns, IsNextAfter}
 
 -- the next running hart after one is hart i, and a step of its core gives this entry
 pub record TakesTurn (f : Flat) (after i : ℕ) (e : Entry) (g : Flat) : Type 0 where

@@ -2,7 +2,7 @@
 ghost use Rattle.std.specs.Prelude.{◌≡◌};
 ghost use Rattle.simulate.specs.Orders.{harts_of, memory_of, steps_of, words_of};
 
-use order::{Order, Word};
+use command_line::{Order, Word};
 
 pub(crate) fn harts_of(order: &Order<'_>) -> u32
     ensures { result ≡ harts_of order.now }

@@ -3,9 +3,10 @@ ghost use Rattle.words.specs.declared.entry.Entry.{Entry};
 ghost use Rattle.flat.specs.State.{Flat};
 ghost use Rattle.flat.specs.Steps.{IsRun};
 ghost use Rattle.reference.specs.Machines.{flat_of, Belongs};
-ghost use Rattle.reference.specs.Reads.{NoneRuns};
+ghost use Rattle.flat.specs.Reads.{NoneRuns};
 ghost use Rattle.simulate.specs.Turns.{TakesTurn, TakesTurns};
 
+use flat::Engine;
 use reference::Machine;
 use std::alloc::{AllocError, Global};
 use words::{HartId, Step};
@@ -46,8 +47,8 @@ fn hart_of(step: &Step) -> Option<HartId>
     }
 }
 
-/// Takes turns until no hart runs, or until so many were taken. The first is that of the lowest running hart. The only
-/// error is want of memory, which leaves the machine where the turns before it led.
+/// Takes turns until no hart runs, or until so many were taken. The first is that of the lowest running hart. It fails
+/// only if memory runs out, which leaves the machine where the turns before it led.
 pub fn drive(alloc: Global, machine: &mut Machine, turns: u32) -> Result<(), AllocError>
     ensures ok { OnOk result ((f : Flat) → Belongs f machine.old → (es : List Entry) × TakesTurns turns f (f.setting.count - 1) es (flat_of machine.new)) }
     ensures err { OnErr result ((f : Flat) → Belongs f machine.old → (n : ℕ) × (es : List Entry) × (n < turns) × TakesTurns n f (f.setting.count - 1) es (flat_of machine.new)) }

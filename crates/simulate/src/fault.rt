@@ -1,13 +1,13 @@
 ghost use Rattle.std.specs.Prelude.{◌≡◌};
 ghost use Rattle.simulate.specs.Faults.{fault_status, fault_text, line, refusal_line, of_order, of_load, of_boot};
-ghost use Rattle.simulate.specs.Sinks.{Puts};
+ghost use Rattle.simulate.specs.Sinks.{IsPut, Puts};
 ghost use Rattle.simulate.specs.declared.fault.Fault.TheVariants.{NoMemory, Unwritten};
 
 use crate::lines::put_all;
+use command_line::OrderFault;
+use flat::BootFault;
 use itoa::Buffer;
 use loader::LoadFault;
-use order::OrderFault;
-use reference::BootFault;
 use std::alloc::{AllocError, AllocFailed};
 use words::{Sink, SinkFault};
 
@@ -18,7 +18,7 @@ pub enum Fault<'a> {
     NotText,
     /// What clap has to say to the user, with its line ends.
     Refused(String),
-    /// A value that is no number, as the user wrote it.
+    /// The first malformed value, as the user wrote it.
     Value(&'a str),
     /// The path of a file that can't be read.
     Unread(&'a str),
@@ -35,7 +35,7 @@ pub enum Fault<'a> {
 
 impl<'a> Fault<'a> {
     /// The status that the program ends with: 2 for the command line, 3 for a file, 4 for what is in the file and for
-    /// the machine that is asked for, 6 for want of memory.
+    /// the machine that is asked for, 6 if memory ran out.
     pub fn status(&self) -> u8
         ensures { result ≡ fault_status self.now }
     {
@@ -62,6 +62,15 @@ impl<'a> Fault<'a> {
             Fault::Unwritten => put_line(sink, b"cannot write standard output", ""),
             Fault::NoMemory => put_line(sink, b"no memory", ""),
         }
+    }
+
+    /// Tells the user, and answers the status. A fault that can't be told is still the program's.
+    pub fn tell<E: Sink>(&self, error: &mut E) -> u8
+        ensures status { result ≡ fault_status self.now }
+        ensures told { IsPut (E.taken error.old) (E.taken error.new) (E.failed error.old) (E.failed error.new) (fault_text self.now) }
+    {
+        let _ = self.put(error);
+        self.status()
     }
 }
 

@@ -1,14 +1,12 @@
 //! The program `logtm`: it runs a program on a machine, and reports what became of it.
 #![tactic(auto)]
 
-ghost use Rattle.std.specs.Prelude.{◌≡◌};
-ghost use Rattle.simulate.specs.Faults.{fault_status};
-
 mod asked;
 mod drive;
 mod fault;
 mod lines;
 mod perform;
+mod readable;
 mod report;
 mod status;
 #[cfg(test)]
@@ -16,7 +14,7 @@ mod tests;
 
 use crate::fault::Fault;
 use crate::perform::perform;
-use order::{Order, order};
+use command_line::{Order, order};
 use std::io::{BufWriter, ErrorKind, Write};
 use std::process::ExitCode;
 use std::rt::{Env, Files};
@@ -24,28 +22,37 @@ use std::{env, fs};
 use words::{Counted, Sink};
 
 fn main(rt: HostRuntime) -> ExitCode {
-    ExitCode::from(start(&rt, rt.stdout(), rt.stderr()))
-}
-
-/// Does what the command line asks for, and answers the status that the program ends with.
-fn start<R: Env + Files + AllocGlobal, W: Write + Drop, E: Write + Drop>(
-    rt: &R,
-    out: W,
-    error: E,
-) -> u8 {
     let mut error = Counted {
-        writer: error,
+        writer: rt.stderr(),
         failed: 0,
     };
-    let status = match arguments(rt) {
-        Ok(arguments) => obey_all(rt, &arguments, out, &mut error),
-        Err(fault) => tell(&fault, &mut error),
-    };
+    let status = answer(&rt, rt.stdout(), &mut error);
     let Counted {
         writer: _,
         failed: _,
     } = error;
-    status
+    ExitCode::from(status)
+}
+
+/// Answers the command line, and gives the status that the program ends with.
+fn answer<R: Env + Files + AllocGlobal, W: Write + Drop, E: Sink>(
+    rt: &R,
+    out: W,
+    error: &mut E,
+) -> u8 {
+    let arguments = match arguments(rt) {
+        Ok(arguments) => arguments,
+        Err(fault) => return fault.tell(error),
+    };
+    let words = arguments.iter().map(|argument| argument.as_str());
+    let words = match words.collect::<Vec<&str>>(rt.alloc()) {
+        Ok(words) => words,
+        Err(_) => return Fault::NoMemory.tell(error),
+    };
+    match try_answer(rt, &words, out, error) {
+        Ok(status) => status,
+        Err(fault) => fault.tell(error),
+    }
 }
 
 /// The words of the command line, the program's name first.
@@ -57,32 +64,8 @@ fn arguments<'a, R: Env + AllocGlobal>(rt: &R) -> Result<Vec<String>, Fault<'a>>
     }
 }
 
-/// Tells the user of a fault, and answers its status.
-fn tell<E: Sink>(fault: &Fault<'_>, error: &mut E) -> u8
-    ensures { result ≡ fault_status fault.now }
-{
-    // A fault that can't be told is still the program's.
-    let _ = fault.put(error);
-    fault.status()
-}
-
-fn obey_all<R: Files + AllocGlobal, W: Write + Drop, E: Sink>(
-    rt: &R,
-    arguments: &[String],
-    out: W,
-    error: &mut E,
-) -> u8 {
-    let words = arguments.iter().map(|argument| argument.as_str());
-    match words.collect::<Vec<&str>>(rt.alloc()) {
-        Ok(words) => match obey(rt, &words, out, error) {
-            Ok(status) => status,
-            Err(fault) => tell(&fault, error),
-        },
-        Err(_) => tell(&Fault::NoMemory, error),
-    }
-}
-
-fn obey<'a, R: Files + AllocGlobal, W: Write + Drop, E: Sink>(
+/// The same of the words of the command line, but for telling of a fault that `perform` doesn't meet.
+fn try_answer<'a, R: Files + AllocGlobal, W: Write + Drop, E: Sink>(
     rt: &R,
     words: &'a [&'a str],
     out: W,
@@ -96,8 +79,12 @@ fn obey<'a, R: Files + AllocGlobal, W: Write + Drop, E: Sink>(
     };
     let mut out = Counted { writer, failed: 0 };
     let outcome = perform(rt.alloc(), &order, &bytes, &mut out, error);
-    let Counted { mut writer, failed } = out;
-    if failed == 0 && writer.flush().is_err() {
+    let Counted {
+        mut writer,
+        failed: _,
+    } = out;
+    // The report may still stand in the buffer.
+    if outcome.is_report() && writer.flush().is_err() {
         return Err(Fault::Unwritten);
     }
     Ok(outcome.status)

@@ -1,31 +1,34 @@
 ghost use Rattle.std.specs.Prelude.{◌≡◌, ◌<◌, true};
 ghost use Rattle.words.specs.declared.cause.Status.TheVariants.{Stopped};
 ghost use Rattle.words.specs.declared.entry.Width.TheVariants.{Word};
-ghost use Rattle.flat.specs.Bytes.{number_at};
+ghost use Rattle.words.specs.Bytes.{number_at};
 ghost use Rattle.flat.specs.State.{Flat};
-ghost use Rattle.reference.specs.Machines.{flat_of, Belongs};
-ghost use Rattle.reference.specs.Reads.{is_readable};
+ghost use Rattle.flat.specs.Reads.{is_readable};
 ghost use Rattle.simulate.specs.Reports.{output_text, status_text, hart_text, harts_text, word_text, words_text, report_of, AllReadable};
 ghost use Rattle.simulate.specs.Sinks.{Puts};
 
 use crate::lines::{hexadecimal, put_all};
 use crate::status::status_of;
+use flat::Engine;
 use itoa::Buffer;
-use reference::Machine;
 use words::{Addr, Cause, HartId, Sink, SinkFault, Status};
 
 /// Puts what became of a machine: for each hart in order its output, if there is any, and whether it runs or how it
 /// ended, and then the words at these addresses.
-pub fn report<S: Sink>(machine: &Machine, words: &[Addr], sink: &mut S) -> Result<(), SinkFault>
-    requires readable { (f : Flat) → Belongs f machine.now → AllReadable f words.now }
-    ensures { (f : Flat) → Belongs f machine.now → Puts (S.taken sink.old) (S.taken sink.new) (S.failed sink.old) (S.failed sink.new) (report_of f words.now) result }
+pub fn report<M: Engine, S: Sink>(
+    machine: &M,
+    words: &[Addr],
+    sink: &mut S,
+) -> Result<(), SinkFault>
+    requires { AllReadable (M.setting machine.now) words.now }
+    ensures { (f : Flat) → M.belongs f machine.now → Puts (S.taken sink.old) (S.taken sink.new) (S.failed sink.old) (S.failed sink.new) (report_of f words.now) result }
 {
     put_harts(machine, sink)?;
     put_words(machine, words, sink)
 }
 
-fn put_harts<S: Sink>(machine: &Machine, sink: &mut S) -> Result<(), SinkFault>
-    ensures { Puts (S.taken sink.old) (S.taken sink.new) (S.failed sink.old) (S.failed sink.new) (harts_text (flat_of machine.now) (flat_of machine.now).setting.count) result }
+fn put_harts<M: Engine, S: Sink>(machine: &M, sink: &mut S) -> Result<(), SinkFault>
+    ensures { (f : Flat) → M.belongs f machine.now → Puts (S.taken sink.old) (S.taken sink.new) (S.failed sink.old) (S.failed sink.new) (harts_text f f.setting.count) result }
 {
     for number in 0..machine.harts() {
         put_hart(machine, HartId::new(number as u8), sink)?;
@@ -33,9 +36,9 @@ fn put_harts<S: Sink>(machine: &Machine, sink: &mut S) -> Result<(), SinkFault>
     Ok(())
 }
 
-fn put_hart<S: Sink>(machine: &Machine, id: HartId, sink: &mut S) -> Result<(), SinkFault>
-    requires { id < (flat_of machine.now).setting.count }
-    ensures { Puts (S.taken sink.old) (S.taken sink.new) (S.failed sink.old) (S.failed sink.new) (hart_text (flat_of machine.now) id) result }
+fn put_hart<M: Engine, S: Sink>(machine: &M, id: HartId, sink: &mut S) -> Result<(), SinkFault>
+    requires { id < (M.setting machine.now).count }
+    ensures { (f : Flat) → M.belongs f machine.now → Puts (S.taken sink.old) (S.taken sink.new) (S.failed sink.old) (S.failed sink.new) (hart_text f id) result }
 {
     put_output(id, machine.output(id), sink)?;
     put_status(id, status_of(machine, id), sink)
@@ -101,9 +104,9 @@ fn put_trap<S: Sink>(id: HartId, cause: Cause, pc: Addr, sink: &mut S) -> Result
     )
 }
 
-fn put_words<S: Sink>(machine: &Machine, words: &[Addr], sink: &mut S) -> Result<(), SinkFault>
-    requires { AllReadable (flat_of machine.now) words.now }
-    ensures { Puts (S.taken sink.old) (S.taken sink.new) (S.failed sink.old) (S.failed sink.new) (words_text (flat_of machine.now) words.now) result }
+fn put_words<M: Engine, S: Sink>(machine: &M, words: &[Addr], sink: &mut S) -> Result<(), SinkFault>
+    requires { AllReadable (M.setting machine.now) words.now }
+    ensures { (f : Flat) → M.belongs f machine.now → Puts (S.taken sink.old) (S.taken sink.new) (S.failed sink.old) (S.failed sink.new) (words_text f words.now) result }
 {
     for addr in words {
         put_word(machine, *addr, sink)?;
@@ -111,9 +114,9 @@ fn put_words<S: Sink>(machine: &Machine, words: &[Addr], sink: &mut S) -> Result
     Ok(())
 }
 
-fn put_word<S: Sink>(machine: &Machine, addr: Addr, sink: &mut S) -> Result<(), SinkFault>
-    requires { is_readable (flat_of machine.now).setting addr ≡ true }
-    ensures { Puts (S.taken sink.old) (S.taken sink.new) (S.failed sink.old) (S.failed sink.new) (word_text (flat_of machine.now) addr) result }
+fn put_word<M: Engine, S: Sink>(machine: &M, addr: Addr, sink: &mut S) -> Result<(), SinkFault>
+    requires { is_readable (M.setting machine.now) addr ≡ true }
+    ensures { (f : Flat) → M.belongs f machine.now → Puts (S.taken sink.old) (S.taken sink.new) (S.failed sink.old) (S.failed sink.new) (word_text f addr) result }
 {
     put_all(
         sink,
@@ -127,9 +130,9 @@ fn put_word<S: Sink>(machine: &Machine, addr: Addr, sink: &mut S) -> Result<(), 
     )
 }
 
-fn word(machine: &Machine, addr: Addr) -> u32
-    requires { is_readable (flat_of machine.now).setting addr ≡ true }
-    ensures { result ≡ number_at (flat_of machine.now).mem addr Word }
+fn word<M: Engine>(machine: &M, addr: Addr) -> u32
+    requires { is_readable (M.setting machine.now) addr ≡ true }
+    ensures { (f : Flat) → M.belongs f machine.now → result ≡ number_at f.mem addr Word }
 {
     machine.peek(addr).unwrap()
 }

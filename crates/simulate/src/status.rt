@@ -1,15 +1,14 @@
 ghost use Rattle.std.specs.Prelude.{◌≡◌, ◌<◌};
 ghost use Rattle.flat.specs.State.{Flat};
-ghost use Rattle.reference.specs.Machines.{flat_of, Belongs};
 ghost use Rattle.simulate.specs.Statuses.{status_for, IsStatusOf, IsReported};
 
-use reference::Machine;
+use flat::Engine;
 use words::{HartId, Status};
 
 /// Whether a hart runs, or how it ended.
-pub(crate) fn status_of(machine: &Machine, id: HartId) -> Status
-    requires { id < (flat_of machine.now).setting.count }
-    ensures { result ≡ ((flat_of machine.now).hart id).status }
+pub(crate) fn status_of<M: Engine>(machine: &M, id: HartId) -> Status
+    requires { id < (M.setting machine.now).count }
+    ensures { (f : Flat) → M.belongs f machine.now → result ≡ (f.hart id).status }
 {
     machine.regs(id).unwrap().2
 }
@@ -26,8 +25,8 @@ fn status_for(status: Status) -> u8
 }
 
 /// The status that the program ends with after a report: the greatest that a hart asks for.
-pub fn status(machine: &Machine) -> u8
-    ensures greatest { (f : Flat) → Belongs f machine.now → IsStatusOf f result }
+pub fn status<M: Engine>(machine: &M) -> u8
+    ensures greatest { (f : Flat) → M.belongs f machine.now → IsStatusOf f result }
     ensures reported { IsReported result }
 {
     let mut greatest = 0;

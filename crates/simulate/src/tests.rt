@@ -2,24 +2,12 @@
 ghost use Rattle.std.specs.Prelude.{Some};
 
 use crate::perform::perform;
-use order::order;
-use std::alloc::{AllocError, Global};
+use command_line::order;
+use elf_samples::elf_file;
+use std::alloc::Global;
 use std::process::Abort;
 use std::test::Fail;
 use words::{Sink, SinkFault, Taken};
-
-// The headers of a file with one executable segment at 0x1000, where it begins.
-static HEADERS: [u8; 84] = [
-    0x7f, 0x45, 0x4c, 0x46, 0x01, 0x01, 0x01, 0x00, 0x00, 0x00, 0x00, 0x00, 0x00, 0x00, 0x00, 0x00,
-    0x02, 0x00, 0xf3, 0x00, 0x01, 0x00, 0x00, 0x00, 0x00, 0x10, 0x00, 0x00, 0x34, 0x00, 0x00, 0x00,
-    0x00, 0x00, 0x00, 0x00, 0x00, 0x00, 0x00, 0x00, 0x34, 0x00, 0x20, 0x00, 0x01, 0x00, 0x00, 0x00,
-    0x00, 0x00, 0x00, 0x00, 0x01, 0x00, 0x00, 0x00, 0x54, 0x00, 0x00, 0x00, 0x00, 0x10, 0x00, 0x00,
-    0x00, 0x10, 0x00, 0x00, 0x0c, 0x00, 0x00, 0x00, 0x0c, 0x00, 0x00, 0x00, 0x05, 0x00, 0x00, 0x00,
-    0x01, 0x00, 0x00, 0x00,
-];
-
-// Where in them the size of the segment stands: how much of it is in the file, and then how much in memory.
-const SIZES: usize = 68;
 
 // li a7, 93 and li a0, 0 and ecall
 const EXIT: [u32; 3] = [0x05d0_0893, 0x0000_0513, 0x0000_0073];
@@ -40,22 +28,6 @@ static COUNTER: [u32; 12] = [
     0x0000_0513,
     0x0000_0073,
 ];
-
-// A file whose text these words are.
-fn elf(alloc: Global, words: &[u32]) -> Result<Vec<u8>, AllocError> {
-    let mut size: u32 = 0;
-    for _ in words {
-        size = size.saturating_add(4);
-    }
-    let mut bytes = Vec::from_slice(alloc, &HEADERS[..SIZES])?;
-    bytes.extend_from_slice(&size.to_le_bytes())?;
-    bytes.extend_from_slice(&size.to_le_bytes())?;
-    bytes.extend_from_slice(&HEADERS[SIZES + 8..])?;
-    for word in words {
-        bytes.extend_from_slice(&word.to_le_bytes())?;
-    }
-    Ok(bytes)
-}
 
 fn taken(alloc: Global) -> Taken {
     Taken {
@@ -86,14 +58,14 @@ fn check(
 #[test]
 fn runs_to_the_end(rt: HostRuntime) -> Result<(), Fail> {
     let run = ["logtm", "run", "f"];
-    let first = elf(rt.alloc(), &EXIT)?;
+    let first = elf_file(rt.alloc(), &EXIT)?;
     check(&rt, &run, &first, 0, "hart 0: exit 0\n", "")?;
     // li a0, 3 and li a0, -1
     for (word, status, out) in [
         (0x0030_0513, 1, "hart 0: exit 3\n"),
         (0xfff0_0513, 1, "hart 0: exit 4294967295\n"),
     ] {
-        let file = elf(rt.alloc(), &[0x05d0_0893, word, 0x0000_0073])?;
+        let file = elf_file(rt.alloc(), &[0x05d0_0893, word, 0x0000_0073])?;
         check(&rt, &run, &file, status, out, "")?;
     }
     Ok(())
@@ -143,7 +115,7 @@ fn reports_traps(rt: HostRuntime) -> Result<(), Fail> {
         ),
     ];
     for (words, out) in cases {
-        let file = elf(rt.alloc(), words)?;
+        let file = elf_file(rt.alloc(), words)?;
         check(&rt, &["logtm", "run", "f"], &file, 1, out, "")?;
     }
     Ok(())
@@ -152,7 +124,7 @@ fn reports_traps(rt: HostRuntime) -> Result<(), Fail> {
 #[test]
 fn refuses_files(rt: HostRuntime) -> Result<(), Fail> {
     let run = ["logtm", "run", "f"];
-    let first = elf(rt.alloc(), &EXIT)?;
+    let first = elf_file(rt.alloc(), &EXIT)?;
     check(&rt, &run, &[], 4, "", "logtm: load 1 Truncated\n")?;
     let cut = first.get(..95).ok_or("the file has 96 bytes")?;
     check(&rt, &run, cut, 4, "", "logtm: load 1 Truncated\n")?;
@@ -163,7 +135,7 @@ fn refuses_files(rt: HostRuntime) -> Result<(), Fail> {
         (24, 2, "logtm: load 10 BadEntry\n"),
         (72, 11, "logtm: load 7 SegmentOutside\n"),
     ] {
-        let mut file = elf(rt.alloc(), &EXIT)?;
+        let mut file = elf_file(rt.alloc(), &EXIT)?;
         if let Some(place) = file.get_mut(at) {
             *place = byte;
         }
@@ -174,7 +146,7 @@ fn refuses_files(rt: HostRuntime) -> Result<(), Fail> {
 
 #[test]
 fn refuses_machines_and_words(rt: HostRuntime) -> Result<(), Fail> {
-    let first = elf(rt.alloc(), &EXIT)?;
+    let first = elf_file(rt.alloc(), &EXIT)?;
     let cases: [(&[&str], u8, &str); 9] = [
         (
             &["logtm", "run", "f", "--memory", "65537"],
@@ -231,7 +203,7 @@ fn refuses_machines_and_words(rt: HostRuntime) -> Result<(), Fail> {
 
 #[test]
 fn shows_words(rt: HostRuntime) -> Result<(), Fail> {
-    let first = elf(rt.alloc(), &EXIT)?;
+    let first = elf_file(rt.alloc(), &EXIT)?;
     check(
         &rt,
         &["logtm", "run", "f", "4096", "0x1008", "0xfeffc"],
@@ -240,7 +212,7 @@ fn shows_words(rt: HostRuntime) -> Result<(), Fail> {
         "hart 0: exit 0\nword 0x00001000 = 0x05d00893\nword 0x00001008 = 0x00000073\nword 0x000feffc = 0x00000000\n",
         "",
     )?;
-    let counter = elf(rt.alloc(), &COUNTER)?;
+    let counter = elf_file(rt.alloc(), &COUNTER)?;
     check(
         &rt,
         &["logtm", "run", "f", "0x2000"],
@@ -265,7 +237,7 @@ static PRINTS: [u32; 8] = [
 
 #[test]
 fn shows_output_and_the_limit(rt: HostRuntime) -> Result<(), Fail> {
-    let file = elf(rt.alloc(), &PRINTS)?;
+    let file = elf_file(rt.alloc(), &PRINTS)?;
     check(
         &rt,
         &["logtm", "run", "f"],
@@ -292,7 +264,7 @@ fn shows_output_and_the_limit(rt: HostRuntime) -> Result<(), Fail> {
         "",
     )?;
     // j 0
-    let file = elf(rt.alloc(), &[0x0000_006f])?;
+    let file = elf_file(rt.alloc(), &[0x0000_006f])?;
     check(
         &rt,
         &["logtm", "run", "f", "--steps", "1000"],
@@ -317,7 +289,7 @@ static THREE_ENDS: [u32; 7] = [
 
 #[test]
 fn gives_the_greatest_status(rt: HostRuntime) -> Result<(), Fail> {
-    let file = elf(rt.alloc(), &THREE_ENDS)?;
+    let file = elf_file(rt.alloc(), &THREE_ENDS)?;
     check(
         &rt,
         &["logtm", "run", "f", "--harts", "2"],
@@ -371,7 +343,7 @@ const REPORT: &str =
 
 #[test]
 fn a_failed_put_cuts_the_report(rt: HostRuntime) -> Result<(), Fail> {
-    let file = elf(rt.alloc(), &PRINTS)?;
+    let file = elf_file(rt.alloc(), &PRINTS)?;
     let words = ["logtm", "run", "f", "--harts=2", "0x1000"];
     let order = order(rt.alloc(), &words).ok().ok_or("an order")?;
     let mut whole = false;
@@ -427,7 +399,7 @@ fn a_fault_that_is_not_told_stays(rt: HostRuntime) -> Result<(), Fail> {
 // For `rt try --test --fail-alloc N`: either nothing is missed, or memory ran out and only that is told.
 #[test]
 fn runs_or_wants_memory(rt: HostRuntime) -> Result<(), Fail> {
-    let Ok(file) = elf(rt.alloc(), &PRINTS) else {
+    let Ok(file) = elf_file(rt.alloc(), &PRINTS) else {
         return Ok(());
     };
     let words = ["logtm", "run", "f", "--harts=2", "0x1000"];

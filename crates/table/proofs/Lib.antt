@@ -1,7 +1,5 @@
-pub mod Agreement
-pub mod Begin
 pub mod Encoding
 pub mod Keys
+pub mod Legal
 pub mod OneRow
 pub mod OneWord
-pub mod Rows

@@ -3,9 +3,9 @@ use Rattle.std.proofs.Common.{◌≡◌, ℕ, zero, suc, Bool, true, false, not,
 use Rattle.std.proofs.lemmas.Bool.{and_parts, not-true, eqb-false}
 use Rattle.std.specs.Prelude.{IsSomeAnd, IsTrue, slice_get}
 use Rattle.std.specs.List.{list_all}
-use Rattle.table.specs.Fields.{opcode_of}
-use Rattle.table.specs.Table.{Key, Row, fits, table, RowHas}
-use Rattle.table.specs.Table.Key.{OpF3, OpF3F7, Word, Masked}
+use Rattle.operands.specs.Fields.{opcode_of}
+use Rattle.table.specs.Table.{Key, Row, fits, key, table, RowHas}
+use Rattle.table.specs.Table.Key.{Funct3, Funct7, Word, Masked}
 use Rattle.table.proofs.Keys.{f3_fits, f7_fits, word_fits, masked_fits, opcode_fits, key_opcode, FitsF3, FitsF3F7}
 
 abbrev differ : ℕ → ℕ → Bool
@@ -13,9 +13,9 @@ differ a b = not (eqb a b)
 
 -- a test that tells that two keys, the first of which stands before the second in the table, have no word in common
 abbrev are_apart : Key → Key → Bool
-are_apart (OpF3 o f) (OpF3 p g) = differ o p || differ f g
-are_apart (OpF3 o f) (OpF3F7 p g h) = differ o p || differ f g
-are_apart (OpF3F7 o f g) (OpF3F7 p h k) = differ o p || (differ f h || differ g k)
+are_apart (Funct3 o f) (Funct3 p g) = differ o p || differ f g
+are_apart (Funct3 o f) (Funct7 p g h) = differ o p || differ f g
+are_apart (Funct7 o f g) (Funct7 p h k) = differ o p || (differ f h || differ g k)
 are_apart (Word v) (Word u) = differ v u
 are_apart (Masked m v) (Word u) = differ (bit_and u m) v
 are_apart k l = differ (key_opcode k) (key_opcode l)
@@ -29,15 +29,15 @@ neither true t apart no-s no-t = no-s refl
 neither false t apart no-s no-t = no-t apart
 
 apart_keys : (k l : Key) (w : ℕ) → are_apart k l ≡ true → fits k w ≡ true → fits l w ≡ true → ⊥
-apart_keys (OpF3 o f) (OpF3 p g) w apart k l =
+apart_keys (Funct3 o f) (Funct3 p g) w apart k l =
     let a : FitsF3 o f w = f3_fits o f w k in
     let b : FitsF3 p g w = f3_fits p g w l in
     neither (differ o p) (differ f g) apart (λ d. not_both o p _ d a.opcode b.opcode) (λ d. not_both f g _ d a.funct3 b.funct3)
-apart_keys (OpF3 o f) (OpF3F7 p g h) w apart k l =
+apart_keys (Funct3 o f) (Funct7 p g h) w apart k l =
     let a : FitsF3 o f w = f3_fits o f w k in
     let b : FitsF3F7 p g h w = f7_fits p g h w l in
     neither (differ o p) (differ f g) apart (λ d. not_both o p _ d a.opcode b.opcode) (λ d. not_both f g _ d a.funct3 b.funct3)
-apart_keys (OpF3F7 o f g) (OpF3F7 p h i) w apart k l =
+apart_keys (Funct7 o f g) (Funct7 p h i) w apart k l =
     let a : FitsF3F7 o f g w = f7_fits o f g w k in
     let b : FitsF3F7 p h i w = f7_fits p h i w l in
     neither (differ o p) (differ f h || differ g i) apart (λ d. not_both o p _ d a.opcode b.opcode) (λ e. neither (differ f h) (differ g i) e (λ d. not_both f h _ d a.funct3 b.funct3) (λ d. not_both g i _ d a.funct7 b.funct7))
@@ -48,35 +48,35 @@ apart_keys k l w apart kf lf = not_both (key_opcode k) (key_opcode l) (opcode_of
 -- each row is apart from those after it
 abbrev all_apart : List Row → Bool
 all_apart [] = true
-all_apart (row ∷ rows) = list_all (λ other. are_apart row.key other.key) rows && all_apart rows
+all_apart (row ∷ rows) = list_all (λ other. are_apart (key row) (key other)) rows && all_apart rows
 
 table_is_apart : all_apart table ≡ true
 table_is_apart = refl
 
 -- whether the row at this place has a word
 abbrev Has : List Row → ℕ → ℕ → Type 0
-Has rows i w = IsSomeAnd (slice_get rows i) (λ row. IsTrue (fits row.key w))
+Has rows i w = IsSomeAnd (slice_get rows i) (λ row. IsTrue (fits (key row) w))
 
-none_later : (row : Row) (rows : List Row) (w j : ℕ) → list_all (λ other. are_apart row.key other.key) rows ≡ true → fits row.key w ≡ true → Has rows j w → ⊥
+none_later : (row : Row) (rows : List Row) (w j : ℕ) → list_all (λ other. are_apart (key row) (key other)) rows ≡ true → fits (key row) w ≡ true → Has rows j w → ⊥
 none_later row [] w j apart fit has = has
 none_later row (other ∷ rows) w zero apart fit has =
-    let both = and_parts (are_apart row.key other.key) (list_all (λ other. are_apart row.key other.key) rows) apart in
-    apart_keys row.key other.key w both.0 fit has
+    let both = and_parts (are_apart (key row) (key other)) (list_all (λ other. are_apart (key row) (key other)) rows) apart in
+    apart_keys (key row) (key other) w both.0 fit has
 none_later row (other ∷ rows) w (suc j) apart fit has =
-    let both = and_parts (are_apart row.key other.key) (list_all (λ other. are_apart row.key other.key) rows) apart in
+    let both = and_parts (are_apart (key row) (key other)) (list_all (λ other. are_apart (key row) (key other)) rows) apart in
     none_later row rows w j both.1 fit has
 
 one_of : (rows : List Row) (w i j : ℕ) → all_apart rows ≡ true → Has rows i w → Has rows j w → i ≡ j
 one_of [] w i j apart hi hj = absurd hi
 one_of (row ∷ rows) w zero zero apart hi hj = refl
 one_of (row ∷ rows) w zero (suc j) apart hi hj =
-    let both = and_parts (list_all (λ other. are_apart row.key other.key) rows) (all_apart rows) apart in
+    let both = and_parts (list_all (λ other. are_apart (key row) (key other)) rows) (all_apart rows) apart in
     absurd (none_later row rows w j both.0 hi hj)
 one_of (row ∷ rows) w (suc i) zero apart hi hj =
-    let both = and_parts (list_all (λ other. are_apart row.key other.key) rows) (all_apart rows) apart in
+    let both = and_parts (list_all (λ other. are_apart (key row) (key other)) rows) (all_apart rows) apart in
     absurd (none_later row rows w i both.0 hj hi)
 one_of (row ∷ rows) w (suc i) (suc j) apart hi hj =
-    let both = and_parts (list_all (λ other. are_apart row.key other.key) rows) (all_apart rows) apart in
+    let both = and_parts (list_all (λ other. are_apart (key row) (key other)) rows) (all_apart rows) apart in
     ap suc (one_of rows w i j both.1 hi hj)
 
 -- the rows that have a word are one

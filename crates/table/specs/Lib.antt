@@ -1,6 +1,4 @@
-pub mod Fields
-pub mod Numbers
 pub mod Effects
-pub mod Table
+pub mod Numbers
 pub mod Program
-pub mod ByInstr
+pub mod Table

@@ -1,6 +1,8 @@
 -- The segments of a program, and the words of its text.
-use Rattle.std.specs.Prelude.{ℕ, Bool, cond, ◌&&◌, nat_le, nat_lt, ◌+◌, ◌-◌, ◌*◌, Option, Some, None, List, [], ◌∷◌, slice_index}
+use Rattle.std.specs.Prelude.{ℕ, Bool, cond, ◌&&◌, nat_le, nat_lt, ◌+◌, ◌-◌, Option, Some, None, List, [], ◌∷◌, slice_index}
 use Rattle.std.specs.List.{list_any}
+use Rattle.words.specs.declared.entry.Width.TheVariants.{Word}
+use Rattle.words.specs.Bytes.{number_at}
 
 -- a stretch of memory that a program begins with: its first address, its first bytes (the others are 0), how many bytes it has,
 -- and whether it is text
@@ -20,7 +22,7 @@ byte_in s a = slice_index s.bytes (a - s.addr)
 
 -- the word of a segment at an address in it, little-endian
 abbrev pub word_in : Segment → ℕ → ℕ
-word_in s a = byte_in s a + 256 * byte_in s (a + 1) + 65536 * byte_in s (a + 2) + 16777216 * byte_in s (a + 3)
+word_in s a = number_at (byte_in s) a Word
 
 -- the word at an address, if its 4 bytes lie in one text segment: the first that has them
 abbrev pub word_at : List Segment → ℕ → Option ℕ

@@ -1,6 +1,6 @@
 ghost use Rattle.std.specs.Prelude.{◌≡◌, ◌%◌};
 ghost use Rattle.table.specs.Numbers.{is_less_signed, shifted_left, shifted_right, shifted_right_signed, bit_of};
-ghost use Rattle.table.specs.ByInstr.{imm_value, shift_value, alu_value, is_taken};
+ghost use Rattle.table.specs.Table.{branch_row, imm_row, shift_row, op_row};
 
 use crate::instr::{AluOp, BranchOp, ImmOp, ShiftOp};
 
@@ -34,7 +34,7 @@ fn shift_right_signed(a: u32, amount: u32) -> u32
 }
 
 pub fn is_branch_taken(op: BranchOp, a: u32, b: u32) -> bool
-    ensures { result ≡ is_taken op a b }
+    ensures { result ≡ (branch_row op).test a b }
 {
     match op {
         BranchOp::Eq => a == b,
@@ -47,7 +47,7 @@ pub fn is_branch_taken(op: BranchOp, a: u32, b: u32) -> bool
 }
 
 pub fn with_immediate(op: ImmOp, a: u32, imm: u32) -> u32
-    ensures { result ≡ imm_value op a imm }
+    ensures { result ≡ (imm_row op).value a imm }
 {
     match op {
         ImmOp::Add => a.wrapping_add(imm),
@@ -60,7 +60,7 @@ pub fn with_immediate(op: ImmOp, a: u32, imm: u32) -> u32
 }
 
 pub fn shift(op: ShiftOp, a: u32, amount: u32) -> u32
-    ensures { result ≡ shift_value op a amount }
+    ensures { result ≡ (shift_row op).value a amount }
 {
     match op {
         ShiftOp::Sll => shift_left(a, amount),
@@ -70,7 +70,7 @@ pub fn shift(op: ShiftOp, a: u32, amount: u32) -> u32
 }
 
 pub fn alu(op: AluOp, a: u32, b: u32) -> u32
-    ensures { result ≡ alu_value op a b }
+    ensures { result ≡ (op_row op).value a b }
 {
     match op {
         AluOp::Add => a.wrapping_add(b),

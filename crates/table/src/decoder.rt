@@ -1,14 +1,14 @@
 #![tactic(auto, unfolding(crate::specs::Table::decoded))]
 
 ghost use Rattle.std.specs.Prelude.{◌≡◌};
-ghost use Rattle.table.specs.Fields.{opcode_of, funct3_of};
+ghost use Rattle.operands.specs.Fields.{opcode_of, funct3_of};
 ghost use Rattle.table.specs.Table.{decoded};
 
-use crate::fields::{
+use crate::instr::{AluOp, BranchOp, ImmOp, Instr, LoadOp, ShiftOp, StoreOp};
+use operands::{
     abort_offset, fence_bits, funct3, funct7, imm_b, imm_i, imm_j, imm_s, imm_u, opcode, rd, rs1,
     rs2, shamt,
 };
-use crate::instr::{AluOp, BranchOp, ImmOp, Instr, LoadOp, ShiftOp, StoreOp};
 
 /// The instruction that a word is, or `None` if it is illegal.
 pub fn decode(word: u32) -> Option<Instr>
@@ -41,7 +41,7 @@ pub fn decode(word: u32) -> Option<Instr>
 }
 
 fn decode_jalr(word: u32) -> Option<Instr>
-    requires { opcode_of word ≡ 103 }
+    requires { opcode_of word ≡ 0x67 }
     ensures { result ≡ decoded word }
 {
     match funct3(word) {
@@ -55,7 +55,7 @@ fn decode_jalr(word: u32) -> Option<Instr>
 }
 
 fn decode_branch(word: u32) -> Option<Instr>
-    requires { opcode_of word ≡ 99 }
+    requires { opcode_of word ≡ 0x63 }
     ensures { result ≡ decoded word }
 {
     let op = match funct3(word) {
@@ -76,7 +76,7 @@ fn decode_branch(word: u32) -> Option<Instr>
 }
 
 fn decode_load(word: u32) -> Option<Instr>
-    requires { opcode_of word ≡ 3 }
+    requires { opcode_of word ≡ 0x03 }
     ensures { result ≡ decoded word }
 {
     let op = match funct3(word) {
@@ -96,7 +96,7 @@ fn decode_load(word: u32) -> Option<Instr>
 }
 
 fn decode_store(word: u32) -> Option<Instr>
-    requires { opcode_of word ≡ 35 }
+    requires { opcode_of word ≡ 0x23 }
     ensures { result ≡ decoded word }
 {
     let op = match funct3(word) {
@@ -114,7 +114,7 @@ fn decode_store(word: u32) -> Option<Instr>
 }
 
 fn decode_op_imm(word: u32) -> Option<Instr>
-    requires { opcode_of word ≡ 19 }
+    requires { opcode_of word ≡ 0x13 }
     ensures { result ≡ decoded word }
 {
     let op = match funct3(word) {
@@ -136,7 +136,7 @@ fn decode_op_imm(word: u32) -> Option<Instr>
 }
 
 fn decode_shift_left(word: u32) -> Option<Instr>
-    requires opcode { opcode_of word ≡ 19 }
+    requires opcode { opcode_of word ≡ 0x13 }
     requires funct3 { funct3_of word ≡ 1 }
     ensures { result ≡ decoded word }
 {
@@ -152,13 +152,13 @@ fn decode_shift_left(word: u32) -> Option<Instr>
 }
 
 fn decode_shift_right(word: u32) -> Option<Instr>
-    requires opcode { opcode_of word ≡ 19 }
+    requires opcode { opcode_of word ≡ 0x13 }
     requires funct3 { funct3_of word ≡ 5 }
     ensures { result ≡ decoded word }
 {
     let op = match funct7(word) {
         0 => ShiftOp::Srl,
-        32 => ShiftOp::Sra,
+        0x20 => ShiftOp::Sra,
         _ => return None,
     };
     Some(Instr::ShiftImm {
@@ -170,18 +170,18 @@ fn decode_shift_right(word: u32) -> Option<Instr>
 }
 
 fn decode_op(word: u32) -> Option<Instr>
-    requires { opcode_of word ≡ 51 }
+    requires { opcode_of word ≡ 0x33 }
     ensures { result ≡ decoded word }
 {
     let op = match (funct3(word), funct7(word)) {
         (0, 0) => AluOp::Add,
-        (0, 32) => AluOp::Sub,
+        (0, 0x20) => AluOp::Sub,
         (1, 0) => AluOp::Sll,
         (2, 0) => AluOp::Slt,
         (3, 0) => AluOp::Sltu,
         (4, 0) => AluOp::Xor,
         (5, 0) => AluOp::Srl,
-        (5, 32) => AluOp::Sra,
+        (5, 0x20) => AluOp::Sra,
         (6, 0) => AluOp::Or,
         (7, 0) => AluOp::And,
         _ => return None,
@@ -195,7 +195,7 @@ fn decode_op(word: u32) -> Option<Instr>
 }
 
 fn decode_fence(word: u32) -> Option<Instr>
-    requires { opcode_of word ≡ 15 }
+    requires { opcode_of word ≡ 0x0f }
     ensures { result ≡ decoded word }
 {
     match funct3(word) {
@@ -207,7 +207,7 @@ fn decode_fence(word: u32) -> Option<Instr>
 }
 
 fn decode_system(word: u32) -> Option<Instr>
-    requires { opcode_of word ≡ 115 }
+    requires { opcode_of word ≡ 0x73 }
     ensures { result ≡ decoded word }
 {
     match word {
@@ -218,7 +218,7 @@ fn decode_system(word: u32) -> Option<Instr>
 }
 
 fn decode_transaction(word: u32) -> Option<Instr>
-    requires { opcode_of word ≡ 11 }
+    requires { opcode_of word ≡ 0x0b }
     ensures { result ≡ decoded word }
 {
     match word {

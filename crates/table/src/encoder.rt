@@ -1,16 +1,19 @@
-ghost use Rattle.std.specs.Prelude.{◌≡◌, ◌<◌, ◌*◌, ◌/◌, ◌%◌, ℕ, bit_and, Some};
-ghost use Rattle.table.specs.Fields.{opcode_of, rd_of, funct3_of, rs1_of, rs2_of, funct7_of, imm_i_of, imm_s_of, imm_b_of, imm_u_of, imm_j_of, fence_bits_of};
+ghost use Rattle.std.specs.Prelude.{◌≡◌, ◌<◌, ◌*◌, ◌/◌, ◌%◌, ◌^◌, ℕ, bit_and, Some};
+ghost use Rattle.operands.specs.Fields.{opcode_of, rd_of, funct3_of, rs1_of, rs2_of, funct7_of, imm_i_of, imm_s_of, imm_b_of, imm_u_of, imm_j_of, fence_bits_of};
 ghost use Rattle.table.specs.Table.{decoded};
 
 use crate::instr::{AluOp, BranchOp, ImmOp, Instr, LoadOp, ShiftOp, StoreOp};
-use crate::operand::{AbortOffset, BranchOffset, FenceBits, Imm12, JumpOffset, Shamt, UpperImm};
+use operands::{
+    AbortOffset, BranchOffset, FenceBits, Imm12, Shamt, b_word, i_word, j_word, r_word, s_word,
+    u_word,
+};
 use words::Reg;
 
 /// The word of an instruction: the only one that is decoded to it.
 #[tactic(auto, using(crate::proofs::OneWord::one_word))]
 pub fn encode(instr: Instr) -> u32
     ensures again { decoded result ≡ Some instr }
-    ensures back { (w : ℕ) → w < 4294967296 → decoded w ≡ Some instr → result ≡ w }
+    ensures back { (w : ℕ) → w < 2 ^ 32 → decoded w ≡ Some instr → result ≡ w }
 {
     word_of(instr)
 }
@@ -22,7 +25,7 @@ fn word_of(instr: Instr) -> u32
     match instr {
         Instr::Lui { rd, imm } => u_word(0x37, rd, imm),
         Instr::Auipc { rd, imm } => u_word(0x17, rd, imm),
-        Instr::Jal { rd, offset } => j_word(rd, offset),
+        Instr::Jal { rd, offset } => j_word(0x6f, rd, offset),
         Instr::Jalr { rd, rs1, imm } => i_word(0x67, rd, 0, rs1, imm),
         Instr::Branch {
             op,
@@ -87,7 +90,7 @@ fn encode_store(op: StoreOp, rs1: Reg, rs2: Reg, imm: Imm12) -> u32
         StoreOp::Half => 1,
         StoreOp::Word => 2,
     };
-    s_word(funct3, rs1, rs2, imm)
+    s_word(0x23, funct3, rs1, rs2, imm)
 }
 
 #[tactic(auto, unfolding(crate::specs::Table::decoded))]
@@ -112,7 +115,7 @@ fn encode_shift_imm(op: ShiftOp, rd: Reg, rs1: Reg, amount: Shamt) -> u32
     let (funct3, funct7) = match op {
         ShiftOp::Sll => (1, 0),
         ShiftOp::Srl => (5, 0),
-        ShiftOp::Sra => (5, 32),
+        ShiftOp::Sra => (5, 0x20),
     };
     r_word(0x13, rd, funct3, rs1, amount.value(), funct7)
 }
@@ -123,117 +126,21 @@ fn encode_op(op: AluOp, rd: Reg, rs1: Reg, rs2: Reg) -> u32
 {
     let (funct3, funct7) = match op {
         AluOp::Add => (0, 0),
-        AluOp::Sub => (0, 32),
+        AluOp::Sub => (0, 0x20),
         AluOp::Sll => (1, 0),
         AluOp::Slt => (2, 0),
         AluOp::Sltu => (3, 0),
         AluOp::Xor => (4, 0),
         AluOp::Srl => (5, 0),
-        AluOp::Sra => (5, 32),
+        AluOp::Sra => (5, 0x20),
         AluOp::Or => (6, 0),
         AluOp::And => (7, 0),
     };
-    r_word(0x33, rd, funct3, rs1, place(rs2), funct7)
-}
-
-/// The number of a register as it stands in a field.
-fn place(r: Reg) -> u32
-    ensures value { result ≡ r }
-    ensures bound { result < 32 }
-{
-    r.index() as u32
-}
-
-/// The word of the R format with these fields. Where rs2 stands, the shifts have their amount.
-fn r_word(opcode: u32, rd: Reg, funct3: u32, rs1: Reg, rs2: u32, funct7: u32) -> u32
-    requires opcode { opcode < 128 }
-    requires funct3 { funct3 < 8 }
-    requires rs2 { rs2 < 32 }
-    requires funct7 { funct7 < 128 }
-    ensures opcode { opcode_of result ≡ opcode }
-    ensures rd { rd_of result ≡ rd }
-    ensures funct3 { funct3_of result ≡ funct3 }
-    ensures rs1 { rs1_of result ≡ rs1 }
-    ensures rs2 { rs2_of result ≡ rs2 }
-    ensures funct7 { funct7_of result ≡ funct7 }
-{
-    (funct7 << 25) + (rs2 << 20) + (place(rs1) << 15) + (funct3 << 12) + (place(rd) << 7) + opcode
-}
-
-fn i_word(opcode: u32, rd: Reg, funct3: u32, rs1: Reg, imm: Imm12) -> u32
-    requires opcode { opcode < 128 }
-    requires funct3 { funct3 < 8 }
-    ensures opcode { opcode_of result ≡ opcode }
-    ensures rd { rd_of result ≡ rd }
-    ensures funct3 { funct3_of result ≡ funct3 }
-    ensures rs1 { rs1_of result ≡ rs1 }
-    ensures imm { imm_i_of result ≡ imm }
-{
-    ((imm.value() & 0xfff) << 20) + (place(rs1) << 15) + (funct3 << 12) + (place(rd) << 7) + opcode
-}
-
-fn s_word(funct3: u32, rs1: Reg, rs2: Reg, imm: Imm12) -> u32
-    requires { funct3 < 8 }
-    ensures opcode { opcode_of result ≡ 35 }
-    ensures funct3 { funct3_of result ≡ funct3 }
-    ensures rs1 { rs1_of result ≡ rs1 }
-    ensures rs2 { rs2_of result ≡ rs2 }
-    ensures imm { imm_s_of result ≡ imm }
-{
-    let bits = imm.value();
-    (((bits >> 5) & 0x7f) << 25)
-        + (place(rs2) << 20)
-        + (place(rs1) << 15)
-        + (funct3 << 12)
-        + ((bits & 0x1f) << 7)
-        + 0x23
-}
-
-fn b_word(opcode: u32, funct3: u32, rs1: Reg, rs2: Reg, offset: BranchOffset) -> u32
-    requires opcode { opcode < 128 }
-    requires funct3 { funct3 < 8 }
-    ensures opcode { opcode_of result ≡ opcode }
-    ensures funct3 { funct3_of result ≡ funct3 }
-    ensures rs1 { rs1_of result ≡ rs1 }
-    ensures rs2 { rs2_of result ≡ rs2 }
-    ensures imm { imm_b_of result ≡ offset }
-{
-    let bits = offset.value();
-    (((bits >> 12) & 1) << 31)
-        + (((bits >> 5) & 0x3f) << 25)
-        + (place(rs2) << 20)
-        + (place(rs1) << 15)
-        + (funct3 << 12)
-        + (((bits >> 1) & 0xf) << 8)
-        + (((bits >> 11) & 1) << 7)
-        + opcode
-}
-
-fn u_word(opcode: u32, rd: Reg, imm: UpperImm) -> u32
-    requires { opcode < 128 }
-    ensures opcode { opcode_of result ≡ opcode }
-    ensures rd { rd_of result ≡ rd }
-    ensures imm { imm_u_of result ≡ imm }
-{
-    imm.value() + (place(rd) << 7) + opcode
-}
-
-fn j_word(rd: Reg, offset: JumpOffset) -> u32
-    ensures opcode { opcode_of result ≡ 111 }
-    ensures rd { rd_of result ≡ rd }
-    ensures imm { imm_j_of result ≡ offset }
-{
-    let bits = offset.value();
-    (((bits >> 20) & 1) << 31)
-        + (((bits >> 1) & 0x3ff) << 21)
-        + (((bits >> 11) & 1) << 20)
-        + (((bits >> 12) & 0xff) << 12)
-        + (place(rd) << 7)
-        + 0x6f
+    r_word(0x33, rd, funct3, rs1, rs2.index() as u32, funct7)
 }
 
 fn fence_word(bits: FenceBits) -> u32
-    ensures opcode { opcode_of result ≡ 15 }
+    ensures opcode { opcode_of result ≡ 0x0f }
     ensures funct3 { funct3_of result ≡ 0 }
     ensures bits { fence_bits_of result ≡ bits }
 {
@@ -241,10 +148,10 @@ fn fence_word(bits: FenceBits) -> u32
 }
 
 /// A word of the B format in custom-0, with funct3 0 and x0 for both registers.
-#[tactic(auto, using(crate::proofs::Begin::passes_mask))]
+#[tactic(auto, using(operands::proofs::Begin::passes_mask))]
 fn begin_word(offset: AbortOffset) -> u32
-    ensures opcode { opcode_of result ≡ 11 }
-    ensures masked { bit_and result 33550719 ≡ 11 }
+    ensures opcode { opcode_of result ≡ 0x0b }
+    ensures masked { bit_and result 0x01fff17f ≡ 0x0000000b }
     ensures imm { imm_b_of result ≡ offset }
 {
     let zero = Reg::new(0);

@@ -1,4 +1,4 @@
-use crate::operand::{AbortOffset, BranchOffset, FenceBits, Imm12, JumpOffset, Shamt, UpperImm};
+use operands::{AbortOffset, BranchOffset, FenceBits, Imm12, JumpOffset, Shamt, UpperImm};
 use words::Reg;
 
 /// The test of a branch.

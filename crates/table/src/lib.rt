@@ -6,10 +6,8 @@ mod decoder;
 mod effect;
 mod encoder;
 mod executor;
-mod fields;
 mod instr;
 mod laws;
-mod operand;
 #[cfg(test)]
 mod tests;
 mod text;
@@ -23,5 +21,4 @@ pub use executor::{
 };
 pub use instr::{AluOp, BranchOp, ImmOp, Instr, LoadOp, ShiftOp, StoreOp};
 pub use laws::one_row;
-pub use operand::{AbortOffset, BranchOffset, FenceBits, Imm12, JumpOffset, Shamt, UpperImm};
 pub use text::{Segment, Text};

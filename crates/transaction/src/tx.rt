@@ -1,6 +1,7 @@
 ghost use Rattle.std.specs.Prelude.{◌≡◌, ◌↔◌, ◌<◌, ◌^◌, ◌*◌, ◌||◌, ◌&&◌, ◌++◌, ◌∷◌, [], true, Some, None, IsTrue, IsSome, IsOk, OnOk, OnErr, IfOk, IfErr};
 ghost use Rattle.undo_log.specs.declared.record.Record.{Record};
 ghost use Rattle.undo_log.specs.Log.{records, appended, newest_of, popped};
+ghost use Rattle.words.specs.Limits.{block_bytes, log_records};
 ghost use Rattle.words.specs.Stamps.{earlier};
 ghost use Rattle.transaction.specs.Transactions.{idle, begun, takes_stamp, committed, aborted, running_stamp, kept_stamp};
 
@@ -171,8 +172,8 @@ impl Tx {
 
     /// Writes a block into the undo log, as it is before a store.
     pub fn append_record(&mut self, block: BlockNo, before: &Block) -> Result<(), LogFull>
-        requires { 32 * block < 2 ^ 32 }
-        ensures room { IsOk result ↔ (self.old.log.count < 113) }
+        requires { block_bytes * block < 2 ^ 32 }
+        ensures room { IsOk result ↔ (self.old.log.count < log_records) }
         ensures ok { let r : Record = record { block = block; before = before.now } in
             OnOk result (self.new ≡ record self.old { log = appended self.old.log r }) }
         ensures records { let r : Record = record { block = block; before = before.now } in
@@ -214,7 +215,7 @@ impl Tx {
         }
     }
 
-    /// Whether the transaction gives way when its request ends refused, an earlier one among those that refused it or not.
+    /// Whether the transaction aborts when its request ends refused, an earlier one among those that refused it or not.
     pub fn must_abort(&self, earlier_refused: bool) -> bool
         ensures { result ≡ self.now.cycle && earlier_refused }
     {

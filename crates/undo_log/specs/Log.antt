@@ -1,6 +1,7 @@
 -- The records of an undo log, and what each call makes of the log.
 use Rattle.std.specs.Prelude.{ℕ, ◌+◌, ◌-◌, ◌*◌, List, map, replicate}
 use Rattle.std.specs.List.{range_with_len}
+use Rattle.words.specs.Limits.{log_bytes}
 use Rattle.undo_log.specs.declared.record.Record.{Record}
 use Rattle.undo_log.specs.Value.{Log}
 use Rattle.undo_log.specs.Bytes.{record_bytes, record_at, overwritten}
@@ -11,7 +12,7 @@ records log = map (λ k. record_at log.bytes (36 * k)) (range_with_len 0 log.cou
 
 -- a log at an address, before its first record
 abbrev pub empty_log : ℕ → Log
-empty_log base = record { base = base; bytes = replicate 4096 0; count = 0 }
+empty_log base = record { base = base; bytes = replicate log_bytes 0; count = 0 }
 
 -- the record's bytes stand at the pointer, and the pointer has moved on
 abbrev pub appended : Log → Record → Log

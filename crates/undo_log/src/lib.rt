@@ -9,5 +9,5 @@ mod log;
 mod record;
 
 pub use laws::undoing_restores;
-pub use log::{LOG_BYTES, LogFull, RECORDS, UndoLog};
+pub use log::{LogFull, UndoLog};
 pub use record::{RECORD_BYTES, Record};

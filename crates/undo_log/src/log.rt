@@ -1,4 +1,5 @@
 ghost use Rattle.std.specs.Prelude.{◌≡◌, ◌↔◌, ◌<◌, ◌≤◌, ◌+◌, ◌-◌, ◌*◌, ◌%◌, ◌^◌, [], ◌∷◌, ◌++◌, length, IsTrue, IsOk, OnOk, OnErr, IsSome, IfSome, Some, codes};
+ghost use Rattle.words.specs.Limits.{block_bytes, log_bytes, log_records};
 ghost use Rattle.undo_log.specs.Bytes.{word_at};
 ghost use Rattle.undo_log.specs.declared.record.Record.{Record};
 ghost use Rattle.undo_log.specs.Log.{records, empty_log, appended, newest_of, popped, cleared};
@@ -8,16 +9,10 @@ use crate::record::{RECORD_BYTES, Record, read_record, read_word};
 use std::error::Error;
 use std::fmt;
 use std::marker::Model;
-use words::{Addr, Block, BlockNo};
+use words::{Addr, Block, BlockNo, LOG_BYTES, LOG_RECORDS};
 
 #[cfg(test)]
 mod tests;
-
-/// How many bytes a log has.
-pub const LOG_BYTES: usize = 4096;
-
-/// How many records a log holds at most.
-pub const RECORDS: usize = 113;
 
 /// The log holds its greatest number of records.
 #[derive(Clone, Copy, Debug, PartialEq, Eq)]
@@ -43,13 +38,14 @@ pub struct UndoLog {
 
 impl Model for UndoLog {
     ghost use Rattle.std.specs.Prelude.{◌≤◌};
+    ghost use Rattle.words.specs.Limits.{log_records};
     ghost use Rattle.undo_log.specs.Value.{Log};
 
     ghost Value = { Log };
 
     ghost view = { λ a. record { base = a.base; bytes = a.bytes; count = a.count } };
 
-    ghost invariant = { λ a. a.count ≤ 113 };
+    ghost invariant = { λ a. a.count ≤ log_records };
 
     ghost inverse = { λ v. record { base = v.base; bytes = v.bytes; count = v.count } };
 }
@@ -71,7 +67,7 @@ impl UndoLog {
     pub fn len(&self) -> usize
         ensures count { result ≡ self.now.count }
         ensures records { result ≡ length (records self.now) }
-        ensures within { result ≤ 113 }
+        ensures within { result ≤ log_records }
     {
         self.count
     }
@@ -83,16 +79,16 @@ impl UndoLog {
     }
 
     pub fn is_full(&self) -> bool
-        ensures full { IsTrue result ↔ (self.now.count ≡ 113) }
-        ensures within { self.now.count ≤ 113 }
+        ensures full { IsTrue result ↔ (self.now.count ≡ log_records) }
+        ensures within { self.now.count ≤ log_records }
     {
-        self.count == RECORDS
+        self.count == LOG_RECORDS
     }
 
     /// Writes down a block as it is before a store.
     pub fn append(&mut self, block: BlockNo, before: &Block) -> Result<(), LogFull>
-        requires address { 32 * block < 2 ^ 32 }
-        ensures room { IsOk result ↔ (self.old.count < 113) }
+        requires address { block_bytes * block < 2 ^ 32 }
+        ensures room { IsOk result ↔ (self.old.count < log_records) }
         ensures ok { OnOk result (self.new ≡ appended self.old (record { block = block; before = before.now })) }
         ensures records { let r : Record = record { block = block; before = before.now } in
             OnOk result (records self.new ≡ records self.old ++ r ∷ []) }
@@ -155,7 +151,7 @@ impl UndoLog {
 
     /// The word at a multiple of 4 whose bytes lie in the log.
     pub fn word(&self, addr: Addr) -> Option<u32>
-        ensures some { IsSome result ↔ ((addr % 4 ≡ 0) × (self.now.base ≤ addr) × (addr + 4 ≤ self.now.base + 4096)) }
+        ensures some { IsSome result ↔ ((addr % 4 ≡ 0) × (self.now.base ≤ addr) × (addr + 4 ≤ self.now.base + log_bytes)) }
         ensures value { IfSome result (λ word. word ≡ word_at self.now.bytes (addr - self.now.base)) }
     {
         let place = addr.index().checked_sub(self.base.index())?;
@@ -168,10 +164,10 @@ impl UndoLog {
 
     /// Writes a record at the pointer, and moves the pointer on.
     fn push(&mut self, image: &Record)
-        requires room { self.old.count < 113 }
-        requires address { 32 * image.now.block < 2 ^ 32 }
+        requires room { self.old.count < log_records }
+        requires address { block_bytes * image.now.block < 2 ^ 32 }
         ensures new { self.new ≡ appended self.old image.now }
-        ensures size { length self.old.bytes ≡ 4096 }
+        ensures size { length self.old.bytes ≡ log_bytes }
     {
         let pointer = RECORD_BYTES * self.count;
         self.bytes[pointer..pointer + RECORD_BYTES].copy_from_slice(&image.to_bytes());

@@ -1,7 +1,8 @@
 ghost use Rattle.std.specs.Prelude.{◌≡◌, ◌+◌, ◌*◌, ◌^◌, ◌<◌, ◌≤◌, length};
+ghost use Rattle.words.specs.Limits.{block_bytes};
 ghost use Rattle.undo_log.specs.Bytes.{record_bytes, record_at, word_at};
 
-use words::{BLOCK_BYTES, Block, BlockNo};
+use words::{BLOCK_BYTES, BLOCK_WORDS, Block, BlockNo};
 
 /// How many bytes a record has: a word for the block's address, and the block's eight words.
 pub const RECORD_BYTES: usize = 36;
@@ -16,13 +17,13 @@ pub struct Record {
 impl Record {
     /// The record as it stands in a log.
     pub(crate) fn to_bytes(&self) -> [u8; RECORD_BYTES]
-        requires { 32 * self.now.block < 2 ^ 32 }
+        requires { block_bytes * self.now.block < 2 ^ 32 }
         ensures { result ≡ record_bytes self.now }
     {
         let mut bytes = [0; RECORD_BYTES];
-        let address = BLOCK_BYTES * self.block.number();
+        let address = BLOCK_BYTES as u32 * self.block.number();
         bytes[..4].copy_from_slice(&address.to_le_bytes());
-        for k in 0..8 {
+        for k in 0..BLOCK_WORDS {
             let at = 4 + 4 * k;
             bytes[at..at + 4].copy_from_slice(&self.before[k].to_le_bytes());
         }
@@ -45,12 +46,12 @@ pub fn read_record(bytes: &[u8], at: usize) -> Record
     requires { at + 36 ≤ length bytes.now }
     ensures { result ≡ record_at bytes.now at }
 {
-    let mut before = [0; 8];
-    for k in 0..8 {
+    let mut before = [0; BLOCK_WORDS];
+    for k in 0..BLOCK_WORDS {
         before[k] = read_word(bytes, at + 4 + 4 * k);
     }
     Record {
-        block: BlockNo::new(read_word(bytes, at) / BLOCK_BYTES),
+        block: BlockNo::new(read_word(bytes, at) / BLOCK_BYTES as u32),
         before,
     }
 }

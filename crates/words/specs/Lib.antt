@@ -1,4 +1,9 @@
+pub mod Bytes
 pub mod Causes
 pub mod Harts
+pub mod Limits
+pub mod LineStates
+pub mod Marks
 pub mod Stamps
 pub mod Taken
+pub mod Tests

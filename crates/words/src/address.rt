@@ -1,12 +1,16 @@
 ghost use Rattle.std.specs.Prelude.{◌≡◌, ◌<◌, ◌+◌, ◌/◌, ◌%◌, ◌^◌, ◌*◌};
+ghost use Rattle.words.specs.Limits.{block_bytes};
 
 use std::marker::Model;
 
 /// How many bytes a block has.
-pub const BLOCK_BYTES: u32 = 32;
+pub const BLOCK_BYTES: usize = 32;
+
+/// How many words a block has.
+pub const BLOCK_WORDS: usize = 8;
 
 /// The words of a block, by rising address.
-pub type Block = [u32; 8];
+pub type Block = [u32; BLOCK_WORDS];
 
 /// The address of a byte.
 #[derive(Clone, Copy, Debug, PartialEq, Eq)]
@@ -47,10 +51,10 @@ impl Addr {
 
     /// The block that the byte lies in.
     pub fn block(self) -> BlockNo
-        ensures { result ≡ self / 32 }
+        ensures { result ≡ self / block_bytes }
     {
         BlockNo {
-            number: self.value / BLOCK_BYTES,
+            number: self.value / BLOCK_BYTES as u32,
         }
     }
 

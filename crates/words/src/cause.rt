@@ -82,12 +82,12 @@ impl Cause {
     }
 }
 
-/// Why a transaction was taken back.
+/// Why a transaction was aborted.
 #[derive(Clone, Copy, Debug, PartialEq, Eq)]
 pub enum AbortCause {
     /// By TABORT.
     Asked,
-    /// It gave way to an earlier transaction.
+    /// It aborted for a conflict with an earlier transaction.
     Conflict,
     /// The undo log had no room for a store.
     LogFull,

@@ -31,7 +31,7 @@ pub enum Entry {
         load: Option<Access>,
         store: Option<Access>,
     },
-    /// A hart's transaction was taken back.
+    /// A hart aborted its transaction.
     Abort {
         hart: HartId,
         cause: AbortCause,

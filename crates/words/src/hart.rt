@@ -1,5 +1,6 @@
 ghost use Rattle.std.specs.Prelude.{◌≡◌, ◌≢◌, ◌<◌, ◌↔◌, ℕ, true, false, IsSome, IfSome, IsTrue, replicate};
 ghost use Rattle.words.specs.Harts.{names};
+ghost use Rattle.words.specs.Limits.{most_harts};
 
 use std::marker::Model;
 
@@ -14,19 +15,20 @@ pub struct HartId {
 
 impl Model for HartId {
     ghost use Rattle.std.specs.Prelude.{ℕ, ◌<◌};
+    ghost use Rattle.words.specs.Limits.{most_harts};
 
     ghost Value = { ℕ };
 
     ghost view = { λ h. h.number };
 
-    ghost invariant = { λ h. h.number < 8 };
+    ghost invariant = { λ h. h.number < most_harts };
 
     ghost inverse = { λ n. record { number = n } };
 }
 
 impl HartId {
     pub const fn new(number: u8) -> Self
-        requires { number < 8 }
+        requires { number < most_harts }
         ensures { result ≡ number }
     {
         HartId { number }
@@ -34,7 +36,7 @@ impl HartId {
 
     /// The hart with this number, if it is below 8.
     pub fn try_new(number: usize) -> Option<Self>
-        ensures some { IsSome result ↔ (number < 8) }
+        ensures some { IsSome result ↔ (number < most_harts) }
         ensures value { IfSome result (λ h. h ≡ number) }
     {
         if number < HARTS {
@@ -48,7 +50,7 @@ impl HartId {
 
     pub fn index(self) -> usize
         ensures value { result ≡ self }
-        ensures bound { result < 8 }
+        ensures bound { result < most_harts }
     {
         self.number as usize
     }
@@ -57,7 +59,7 @@ impl HartId {
 /// A set of harts.
 #[derive(Clone, Copy, Debug, PartialEq, Eq)]
 pub struct HartSet {
-    members: [bool; 8],
+    members: [bool; HARTS],
 }
 
 impl Model for HartSet {
@@ -75,7 +77,7 @@ impl HartSet {
         ensures { (h : ℕ) → names result h ≡ false }
     {
         HartSet {
-            members: [false; 8],
+            members: [false; HARTS],
         }
     }
 

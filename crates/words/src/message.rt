@@ -1,3 +1,6 @@
+ghost use Rattle.std.specs.Prelude.{◌≡◌};
+ghost use Rattle.words.specs.LineStates.{is_owned};
+
 use crate::address::{Block, BlockNo};
 use crate::hart::{HartId, HartSet};
 use crate::stamp::Stamp;
@@ -18,6 +21,18 @@ pub enum LineState {
     Exclusive,
     /// No other cache holds the block, and its content may be newer than memory's.
     Modified,
+}
+
+impl LineState {
+    /// Whether no other cache may hold the block.
+    pub fn is_owned(self) -> bool
+        ensures { result ≡ is_owned self }
+    {
+        match self {
+            LineState::Shared => false,
+            LineState::Exclusive | LineState::Modified => true,
+        }
+    }
 }
 
 /// What harts and the directory tell each other of one block.

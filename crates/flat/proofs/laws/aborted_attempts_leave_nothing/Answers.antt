@@ -1,5 +1,5 @@
 use Rattle.flat.proofs.Struck.{nothing_left, nothing_done}
-use Rattle.flat.proofs.Back.{given_back}
+use Rattle.flat.proofs.RolledBack.{given_back}
 use Rattle.flat.proofs.laws.aborted_attempts_leave_nothing.Goals as goal
 
 pub returns-clause-others : goal.returns-clause-others

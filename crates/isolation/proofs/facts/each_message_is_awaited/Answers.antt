@@ -1,5 +1,5 @@
-use Rattle.isolation.proofs.RequestLaws.{awaited}
-use Rattle.isolation.proofs.Belonging.{world, inv_of}
+use Rattle.isolation.proofs.Consequences.RequestLaws.{awaited}
+use Rattle.isolation.proofs.Belongs.Belonging.{world, inv_of}
 use Rattle.isolation.proofs.facts.each_message_is_awaited.Goals as goal
 
 pub returns : goal.returns

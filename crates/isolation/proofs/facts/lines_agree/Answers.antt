@@ -1,7 +1,7 @@
-use Rattle.isolation.proofs.Owners.{owner_is}
-use Rattle.isolation.proofs.ValueInPlace.{in_place_is}
-use Rattle.isolation.proofs.LineLaws.{lines_agree}
-use Rattle.isolation.proofs.Belonging.{world, inv_of}
+use Rattle.isolation.proofs.Consequences.Owners.{owner_is}
+use Rattle.isolation.proofs.Consequences.ValueInPlace.{in_place_is}
+use Rattle.isolation.proofs.Consequences.LineLaws.{lines_agree}
+use Rattle.isolation.proofs.Belongs.Belonging.{world, inv_of}
 use Rattle.isolation.proofs.facts.lines_agree.Goals as goal
 
 pub returns : goal.returns

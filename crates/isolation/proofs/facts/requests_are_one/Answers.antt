@@ -1,5 +1,5 @@
-use Rattle.isolation.proofs.RequestLaws.{one_request}
-use Rattle.isolation.proofs.Belonging.{world, inv_of}
+use Rattle.isolation.proofs.Consequences.RequestLaws.{one_request}
+use Rattle.isolation.proofs.Belongs.Belonging.{world, inv_of}
 use Rattle.isolation.proofs.facts.requests_are_one.Goals as goal
 
 pub returns : goal.returns

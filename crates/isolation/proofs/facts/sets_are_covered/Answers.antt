@@ -1,6 +1,6 @@
-use Rattle.isolation.proofs.Owners.{owner_is}
-use Rattle.isolation.proofs.LineLaws.{covered}
-use Rattle.isolation.proofs.Belonging.{world, inv_of}
+use Rattle.isolation.proofs.Consequences.Owners.{owner_is}
+use Rattle.isolation.proofs.Consequences.LineLaws.{covered}
+use Rattle.isolation.proofs.Belongs.Belonging.{world, inv_of}
 use Rattle.isolation.proofs.facts.sets_are_covered.Goals as goal
 
 pub returns : goal.returns

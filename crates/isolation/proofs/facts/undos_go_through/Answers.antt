@@ -1,5 +1,5 @@
-use Rattle.isolation.proofs.AckLaws.{undos}
-use Rattle.isolation.proofs.Belonging.{world, inv_of}
+use Rattle.isolation.proofs.Consequences.AckLaws.{undos}
+use Rattle.isolation.proofs.Belongs.Belonging.{world, inv_of}
 use Rattle.isolation.proofs.facts.undos_go_through.Goals as goal
 
 pub returns : goal.returns

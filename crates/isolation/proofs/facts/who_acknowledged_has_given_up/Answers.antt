@@ -1,5 +1,5 @@
-use Rattle.isolation.proofs.AckLaws.{acknowledged}
-use Rattle.isolation.proofs.Belonging.{world, inv_of}
+use Rattle.isolation.proofs.Consequences.AckLaws.{acknowledged}
+use Rattle.isolation.proofs.Belongs.Belonging.{world, inv_of}
 use Rattle.isolation.proofs.facts.who_acknowledged_has_given_up.Goals as goal
 
 pub returns : goal.returns

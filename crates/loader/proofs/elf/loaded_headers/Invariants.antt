@@ -1,7 +1,8 @@
 use Rattle.std.proofs.Common.{◌≡◌, ◌+◌, ◌-◌, ◌*◌, ◌++◌, None}
 use Rattle.std.specs.List.{filter, flat_map}
 use Rattle.loader.specs.Headers.{headers_from, is_loaded, loaded_headers}
-use Rattle.loader.specs.Checks.{first, segment_checks}
+use Rattle.words.specs.Tests.{first}
+use Rattle.loader.specs.Checks.{segment_checks}
 use Rattle.loader.proofs.elf.loaded_headers.Given as goal
 
 -- the headers so far and those that are left are all, and those so far have no fault

@@ -1,5 +1,6 @@
 use Rattle.std.proofs.Common.{◌≡◌, ℕ}
-use Rattle.flat.specs.Bytes.{laid, byte_of}
+use Rattle.words.specs.Bytes.{byte_of}
+use Rattle.flat.specs.Bytes.{laid}
 use Rattle.overlay.specs.Memory.{mem_of}
 use Rattle.overlay.proofs.bytes.lay.Given as goal
 

@@ -1,5 +1,6 @@
 use Rattle.std.proofs.Common.{◌≡◌, ℕ, Some}
-use Rattle.flat.specs.Bytes.{laid, byte_of}
+use Rattle.words.specs.Bytes.{byte_of}
+use Rattle.flat.specs.Bytes.{laid}
 use Rattle.overlay.specs.Overlays.{byte_at}
 use Rattle.overlay.proofs.overlay.put.Given as goal
 

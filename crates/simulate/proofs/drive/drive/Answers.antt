@@ -1,4 +1,4 @@
-use Rattle.std.proofs.Common.{◌≡◌, ◌-◌, ◌≤◌, refl, ap, ◌∙◌, arith}
+use Rattle.std.proofs.Common.{◌≡◌, ◌-◌, ◌≤◌, ap, ◌∙◌, arith}
 use Rattle.std.proofs.lemmas.Result.{err_from_is_err_and}
 use Rattle.reference.specs.Machines.{flat_of}
 use Rattle.simulate.proofs.Turning.{taken-none, taken-more, taken-all, taken-idle}
@@ -7,7 +7,7 @@ use Rattle.simulate.proofs.drive.drive.Goals as goal
 pub loop-init : goal.loop-init
 loop-init c =
     let f = flat_of c.args.machine.now in
-    taken-none f c.new-after.result (c.new-after.ensures ∙ c.saturating_sub.ensures ∙ ap (λ n. n - 1) (c.harts.ensures.value f refl))
+    taken-none f c.new-after.result (c.new-after.ensures ∙ c.saturating_sub.ensures ∙ ap (λ n. n - 1) c.harts.ensures.count)
 
 pub returns-in_err-id-clause-err : goal.returns-in_err-id-clause-err
 returns-in_err-id-clause-err c =

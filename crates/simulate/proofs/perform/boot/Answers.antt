@@ -1,6 +1,6 @@
 use Rattle.std.proofs.Common.{◌≡◌, None}
 use Rattle.std.proofs.lemmas.Result.{err_from_is_err_and}
-use Rattle.reference.specs.Boots.{boot_fault, booted}
+use Rattle.flat.specs.Boots.{boot_fault, booted}
 use Rattle.reference.specs.Machines.{Belongs}
 use Rattle.simulate.proofs.Starting.{booted-no_fault, refused-fault, boot-start_fault}
 use Rattle.simulate.proofs.perform.boot.Goals as goal
@@ -10,10 +10,10 @@ returns-in_err-machine c =
     let p = err_from_is_err_and c.from_residual-in_err-machine.result c.from_residual-in_err-machine.ensures.1 in
     let program = c.in_ok-program.program in
     rw (p.1, p.2) (boot-start_fault c.args.file.now c.args.harts c.args.memory program c.in_err-machine.field-0.0 c.in_ok-program.ensures.ok
-    (refused-fault (boot_fault program c.args.harts c.args.memory) c.boot.result c.in_err-machine.field-0.0 (λ m. Belongs (booted program c.args.harts c.args.memory) m) c.in_err-machine.was c.boot.ensures.refused c.boot.ensures.accepted))
+    (refused-fault (boot_fault program.segments c.args.harts c.args.memory) c.boot.result c.in_err-machine.field-0.0 (λ m. Belongs (booted program.segments program.entry c.args.harts c.args.memory) m) c.in_err-machine.was c.boot.ensures.refused c.boot.ensures.accepted))
 
 pub returns : goal.returns
 returns c =
     let program = c.in_ok-program.program in
-    let boots : boot_fault program c.args.harts c.args.memory ≡ None = booted-no_fault (boot_fault program c.args.harts c.args.memory) c.boot.result c.in_ok-machine.machine c.in_ok-machine.was c.boot.ensures.refused in
+    let boots : boot_fault program.segments c.args.harts c.args.memory ≡ None = booted-no_fault (boot_fault program.segments c.args.harts c.args.memory) c.boot.result c.in_ok-machine.machine c.in_ok-machine.was c.boot.ensures.refused in
     (program, c.in_ok-program.ensures.ok, boots, c.in_ok-machine.ensures.accepted boots)

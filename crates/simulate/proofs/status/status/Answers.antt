@@ -1,21 +1,24 @@
-use Rattle.std.proofs.Common.{◌≡◌, refl, arith, vec_len, subst, sym, ℕ}
-use Rattle.flat.specs.State.{Flat}
-use Rattle.reference.specs.Machines.{flat_of}
-use Rattle.simulate.specs.Statuses.{IsGreatest}
-use Rattle.simulate.proofs.Reported.{greatest-reported}
+use Rattle.std.proofs.Common.{◌≡◌, ◌∙◌, inl, refl, ap, arith, subst, sym, ℕ}
+use Rattle.flat.specs.State.{Setting}
+use Rattle.simulate.specs.Statuses.{status_for, IsGreatest, IsReported}
+use Rattle.simulate.proofs.Reported.{greatest-none, greatest-more, greater-reported, status_for-reported}
 use Rattle.simulate.proofs.status.status.Goals as goal
 
-pub status_of-requires : goal.status_of-requires
-status_of-requires c =
-    let all : c.harts-number-end.result ≡ vec_len c.args.machine.now.harts = c.harts-number-end.ensures.value (flat_of c.args.machine.now) refl in
-    omega arith
+pub loop-number-init : goal.loop-number-init
+loop-number-init g c = record { greatest = λ f belongs. greatest-none f; reported = inl refl }
+
+pub loop-number-preserved : goal.loop-number-preserved
+loop-number-preserved g c = rw c.max-greatest.ensures (record {
+  greatest = λ f belongs.
+      let here : c.status_for.result ≡ status_for (f.hart c.loop-number.number).status =
+      c.status_for.ensures ∙ ap status_for (c.status_of.ensures f belongs) ∙ ap (λ (k : ℕ). status_for (f.hart k).status) c.new-id.ensures in
+      greatest-more f c.loop-number.number c.status_for.result c.loop-number.greatest here (c.loop-number.invariant.greatest f belongs);
+  reported = greater-reported c.status_for.result c.loop-number.greatest
+      (subst IsReported (sym c.status_for.ensures) (status_for-reported c.status_of.result)) c.loop-number.invariant.reported;
+})
 
 pub returns-clause-greatest : goal.returns-clause-greatest
-returns-clause-greatest c = λ f belongs.
-    let all : c.harts-number-end.result ≡ vec_len c.args.machine.now.harts = c.harts-number-end.ensures.value (flat_of c.args.machine.now) refl in
-    let end : c.loop-number.number ≡ vec_len c.args.machine.now.harts = omega arith in
-    subst (λ (g : Flat). IsGreatest g g.setting.count c.loop-number.greatest) (sym belongs)
-    (subst (λ (n : ℕ). IsGreatest (flat_of c.args.machine.now) n c.loop-number.greatest) end c.loop-number.invariant)
-
-pub returns-clause-reported : goal.returns-clause-reported
-returns-clause-reported c = greatest-reported (flat_of c.args.machine.now) c.loop-number.number c.loop-number.greatest c.loop-number.invariant
+returns-clause-greatest g c = λ f belongs.
+    let count = ap (λ (s : Setting). s.count) (g.met.M.Engine.same_setting f c.args.machine.now belongs) in
+    let end : c.loop-number.number ≡ f.setting.count = omega (arith, c.harts-number-end.ensures.count) in
+    subst (λ (n : ℕ). IsGreatest f n c.loop-number.greatest) end (c.loop-number.invariant.greatest f belongs)

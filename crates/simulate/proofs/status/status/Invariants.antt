@@ -1,6 +1,9 @@
-use Rattle.reference.specs.Machines.{flat_of}
-use Rattle.simulate.specs.Statuses.{IsGreatest}
+use Rattle.flat.specs.State.{Flat}
+use Rattle.simulate.specs.Statuses.{IsGreatest, IsReported}
 use Rattle.simulate.proofs.status.status.Given as goal
 
 abbrev pub invariant-loop-number : goal.invariant-loop-number
-invariant-loop-number l = IsGreatest (flat_of l.machine) l.number l.greatest
+invariant-loop-number g l = record {
+  greatest : (f : Flat) → g.M.Engine.belongs f l.machine → IsGreatest f l.number l.greatest;
+  reported : IsReported l.greatest;
+}

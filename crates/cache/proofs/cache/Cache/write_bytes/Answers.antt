@@ -1,7 +1,7 @@
 use Rattle.std.proofs.Common.{rules, ◌≡◌, ◌/◌, ◌%◌, Some, refl, sym, ◌∙◌, ap, length}
 use Rattle.std.specs.Option.{option_map}
 use Rattle.cache.specs.declared.line.Line.{Line}
-use Rattle.cache.specs.Bytes.{bytes_in}
+use Rattle.words.specs.Bytes.{bytes_in}
 use Rattle.cache.specs.Line.{stored}
 use Rattle.cache.specs.Sets.{line_at}
 use Rattle.cache.proofs.Changes.{changes-line}

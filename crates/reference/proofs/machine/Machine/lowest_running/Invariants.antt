@@ -1,5 +1,5 @@
 use Rattle.reference.specs.Machines.{flat_of}
-use Rattle.reference.specs.Reads.{NoneRuns}
+use Rattle.flat.specs.Reads.{NoneRuns}
 use Rattle.reference.proofs.machine.Machine.lowest_running.Given as goal
 
 abbrev pub invariant-loop-i : goal.invariant-loop-i

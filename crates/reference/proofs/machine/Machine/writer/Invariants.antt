@@ -1,5 +1,5 @@
 use Rattle.reference.specs.Machines.{flat_of}
-use Rattle.reference.specs.Reads.{NoneWrote}
+use Rattle.flat.specs.Reads.{NoneWrote}
 use Rattle.reference.proofs.machine.Machine.writer.Given as goal
 
 abbrev pub invariant-loop-i : goal.invariant-loop-i

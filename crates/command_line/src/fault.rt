@@ -1,0 +1,32 @@
+ghost use Rattle.std.specs.Prelude.{◌≡◌};
+ghost use Rattle.command_line.specs.declared.fault.OrderFault.TheVariants.{NoMemory};
+
+use std::alloc::{AllocError, AllocFailed};
+
+/// Why a command line gives no order.
+#[derive(Debug, Drop)]
+pub enum OrderFault<'a> {
+    /// clap refused the words, or was asked for help: the text that it has for the user. clap has no contract on its
+    /// texts, so none says which text this is.
+    Refused(String),
+    /// The first malformed value, as the user wrote it: it stands for no number below 2^32.
+    Value(&'a str),
+    /// Memory ran out.
+    NoMemory,
+}
+
+impl<'a, T: Drop> From<AllocFailed<T>> for OrderFault<'a> {
+    ghost from_gives = { λ _ e. e ≡ NoMemory };
+
+    fn from(_error: AllocFailed<T>) -> OrderFault<'a> {
+        OrderFault::NoMemory
+    }
+}
+
+impl<'a> From<AllocError> for OrderFault<'a> {
+    ghost from_gives = { λ _ e. e ≡ NoMemory };
+
+    fn from(_error: AllocError) -> OrderFault<'a> {
+        OrderFault::NoMemory
+    }
+}

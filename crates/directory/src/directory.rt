@@ -1,0 +1,271 @@
+ghost use Rattle.std.specs.Prelude.{◌≡◌, ◌≢◌, ◌<◌, ◌≤◌, ◌↔◌, ℕ, [], None, length, vec_len, Some, OnOk, OnErr, IfOk, IfSome, IsTrue, IsSome};
+ghost use Rattle.words.specs.Limits.{most_harts};
+ghost use Rattle.protocol.specs.Messages.{shown, block_of, Get, Put};
+ghost use Rattle.protocol.specs.Directory.{first_entry, done_of, done_row};
+ghost use Rattle.directory.specs.Entries.{shown_entry, NamesBelow};
+ghost use Rattle.directory.specs.Blocks.{kept_at, entry_at, memory_at, row_of, sender_of, SetsBlock, Follows, IsInOrder, IsGet};
+
+use crate::entry::{Busy, DirEntry, Owner};
+use crate::received::{Outgoing, Received, acknowledgement};
+use crate::rules::{
+    Request, expected, forward, given, is_owned_by, owner_after, push, sharers_after, words_after,
+};
+use arrayvec::ArrayVec;
+use std::alloc::{AllocError, Global};
+use std::collections::BTreeMap;
+use std::marker::Model;
+use words::{Block, BlockNo, HartId, Message};
+
+/// The most blocks that memory has: 4 MiB.
+pub const BLOCKS: usize = 131_072;
+
+/// What the directory knows of each block, and the words of memory. An entry is kept for just those blocks whose entry isn't the
+/// first one, so the memory that it takes grows with the blocks in use.
+#[derive(Drop)]
+pub struct Directory {
+    harts: usize,
+    entries: BTreeMap<u32, DirEntry>,
+    memory: Vec<Block>,
+}
+
+impl Model for Directory {
+    ghost use Rattle.directory.specs.Blocks.{Blocks, IsSound};
+
+    ghost Value = { Blocks };
+
+    ghost view = { λ d. record { harts = d.harts; kept = d.entries.entries; memory = d.memory.items } };
+
+    ghost invariant = { λ d. IsSound (record { harts = d.harts; kept = d.entries.entries; memory = d.memory.items }) };
+}
+
+impl Directory {
+    /// The directory of a machine of so many harts, none of which holds a block. It takes no memory of its own.
+    pub fn new(alloc: Global, memory: Vec<Block>, harts: usize) -> Self
+        requires blocks { vec_len memory ≤ 131072 }
+        requires some { 0 < harts }
+        requires few { harts ≤ most_harts }
+        ensures harts { result.harts ≡ harts }
+        ensures entries { result.kept ≡ [] }
+        ensures memory { result.memory ≡ memory.items }
+    {
+        Directory {
+            harts,
+            entries: BTreeMap::new(alloc),
+            memory,
+        }
+    }
+
+    /// What the directory knows of a block.
+    pub fn entry(&self, block: BlockNo) -> DirEntry
+        ensures value { shown_entry result ≡ entry_at self.now block }
+        ensures named { NamesBelow self.now.harts (shown_entry result) }
+    {
+        match self.entries.get(&block.number()) {
+            Some(entry) => *entry,
+            None => DirEntry::first(),
+        }
+    }
+
+    /// The words of a block in memory. An owner may have newer ones.
+    pub fn memory(&self, block: BlockNo) -> Block
+        requires { block < length self.now.memory }
+        ensures { result ≡ memory_at self.now block }
+    {
+        self.memory[block.index()]
+    }
+
+    /// How many entries are kept.
+    pub fn used(&self) -> usize
+        ensures count { result ≡ length self.now.kept }
+        ensures order { IsInOrder self.now }
+        ensures exact { (b : ℕ) → IsSome (kept_at self.now b) ↔ (entry_at self.now b ≢ first_entry) }
+    {
+        self.entries.len()
+    }
+
+    /// How many harts the machine has.
+    pub fn harts(&self) -> usize
+        ensures value { result ≡ self.now.harts }
+        ensures some { 0 < result }
+        ensures bound { result ≤ most_harts }
+    {
+        self.harts
+    }
+
+    /// How many blocks memory has.
+    pub fn blocks(&self) -> usize
+        ensures value { result ≡ length self.now.memory }
+        ensures bound { result ≤ 131072 }
+    {
+        self.memory.len()
+    }
+
+    /// Does what the protocol's row for the message says. A message that isn't for the directory changes nothing. It fails only if
+    /// memory runs out, at a request for a block that has no entry yet.
+    pub fn receive(&mut self, message: Message) -> Result<Received, AllocError>
+        requires block { block_of (shown message) < length self.old.memory }
+        requires hart { IfSome (sender_of (shown message)) (λ h. h < self.old.harts) }
+        ensures ok { let row = row_of self.old (shown message) in
+            IfOk result (λ received. Follows received row (block_of (shown message)) self.old self.new) }
+        ensures err { OnErr result (self.new ≡ self.old) }
+        ensures request { OnErr result (IsGet (shown message)) }
+        ensures absent { OnErr result (kept_at self.old (block_of (shown message)) ≡ None) }
+    {
+        match message {
+            Message::Get {
+                from,
+                block,
+                kind,
+                stamp,
+            } => self.get(&Request {
+                requester: from,
+                block,
+                kind,
+                stamp,
+            }),
+            Message::Put {
+                from,
+                block,
+                content,
+                marked,
+            } => Ok(self.put(from, block, &content, marked)),
+            Message::Done {
+                from,
+                block,
+                ok,
+                content,
+            } => {
+                self.done(from, block, ok, content);
+                Ok(Received::Sent(ArrayVec::new()))
+            }
+            _ => Ok(Received::Sent(ArrayVec::new())),
+        }
+    }
+
+    /// A hart asks for a block: the grant comes first.
+    fn get(&mut self, request: &Request) -> Result<Received, AllocError>
+        requires block { request.now.block < length self.old.memory }
+        requires hart { request.now.requester < self.old.harts }
+        ensures ok { let row = row_of self.old (Get request.now.requester request.now.block request.now.kind request.now.stamp) in
+            IfOk result (λ received. Follows received row request.now.block self.old self.new) }
+        ensures err { OnErr result (self.new ≡ self.old) }
+        ensures absent { OnErr result (kept_at self.old request.now.block ≡ None) }
+    {
+        let entry = self.entry(request.block);
+        if entry.busy.is_some() {
+            return Ok(Received::Held);
+        }
+        let requester = request.requester;
+        let give = given(&entry, requester, request.kind, self.harts);
+        self.occupy(request.block, entry, Busy { requester, give })?;
+        let expect = expected(&entry, requester, request.kind);
+        let grant = Outgoing {
+            message: Message::Grant {
+                to: requester,
+                block: request.block,
+                give,
+                content: self.memory(request.block),
+                expect,
+            },
+        };
+        let mut sends = ArrayVec::new();
+        push(&mut sends, &grant);
+        forward(&mut sends, &expect, request, self.harts);
+        Ok(Received::Sent(sends))
+    }
+
+    /// Makes a block, whose entry this is, busy with a request.
+    fn occupy(&mut self, block: BlockNo, entry: DirEntry, busy: Busy) -> Result<(), AllocError>
+        requires inside { block < length self.old.memory }
+        requires named { NamesBelow self.old.harts (shown_entry (record entry { busy = Some busy })) }
+        ensures ok { let occupied = shown_entry (record entry { busy = Some busy }) in
+            OnOk result (SetsBlock self.old self.new block occupied (memory_at self.old block)) }
+        ensures err { OnErr result (self.new ≡ self.old) }
+        ensures absent { OnErr result (kept_at self.old block ≡ None) }
+    {
+        let busy = Some(busy);
+        self.entries
+            .insert(block.number(), DirEntry { busy, ..entry })?;
+        Ok(())
+    }
+
+    /// A hart gives up a block: its content becomes memory's if the hart is the owner.
+    fn put(&mut self, from: HartId, block: BlockNo, content: &Block, marked: bool) -> Received
+        requires block { block < length self.old.memory }
+        requires hart { from < self.old.harts }
+        ensures { Follows result (row_of self.old (Put from block content.now marked)) block self.old self.new }
+    {
+        let mut entry = self.entry(block);
+        if entry.busy.is_some() {
+            return Received::Held;
+        }
+        if is_owned_by(&entry, from) {
+            entry.owner = if marked {
+                Owner::Sticky(from)
+            } else {
+                Owner::Nobody
+            };
+            self.replace(block, entry);
+            self.memory[block.index()] = *content;
+        }
+        let mut sends = ArrayVec::new();
+        push(&mut sends, &acknowledgement(from, block));
+        Received::Sent(sends)
+    }
+
+    /// A request is over: it was granted (`ok`) or refused. A Done from a hart whose request the block isn't busy with changes nothing.
+    fn done(&mut self, from: HartId, block: BlockNo, ok: bool, content: Option<Block>)
+        requires block { block < length self.old.memory }
+        requires hart { from < self.old.harts }
+        ensures { let served = done_of (entry_at self.old block).busy from ok content (entry_at self.old block) (memory_at self.old block) in
+            SetsBlock self.old self.new block served.entry served.memory }
+    {
+        let entry = self.entry(block);
+        if let Some(busy) = &entry.busy {
+            if busy.requester.index() == from.index() {
+                if ok {
+                    self.settle(block, &entry, busy, content);
+                } else {
+                    self.replace(block, entry.ended());
+                }
+            }
+        }
+    }
+
+    /// A request was granted, and its hart has what it was given.
+    fn settle(&mut self, block: BlockNo, entry: &DirEntry, busy: &Busy, content: Option<Block>)
+        requires block { block < length self.old.memory }
+        requires present { IsSome (kept_at self.old block) }
+        requires named { NamesBelow self.old.harts (shown_entry entry.now) }
+        requires hart { busy.now.requester < self.old.harts }
+        ensures { let served = done_row busy.now.requester busy.now.give content (shown_entry entry.now) (memory_at self.old block) in
+            SetsBlock self.old self.new block served.entry served.memory }
+    {
+        let owner = owner_after(busy.requester, busy.give);
+        let sharers = sharers_after(entry, busy.requester, busy.give);
+        self.replace(
+            block,
+            DirEntry {
+                owner,
+                sharers,
+                busy: None,
+            },
+        );
+        let words = words_after(entry, busy.give, content, self.memory(block));
+        self.memory[block.index()] = words;
+    }
+
+    /// Puts an entry in the place of the one that a block has, and keeps it unless it is the first one again.
+    fn replace(&mut self, block: BlockNo, entry: DirEntry)
+        requires present { IsSome (kept_at self.old block) }
+        requires named { NamesBelow self.old.harts (shown_entry entry) }
+        ensures { SetsBlock self.old self.new block (shown_entry entry) (memory_at self.old block) }
+    {
+        let number = block.number();
+        if entry.is_first(self.harts) {
+            self.entries.remove(&number);
+        } else if let Some(kept) = self.entries.get_mut(&number) {
+            *kept = entry;
+        }
+    }
+}

@@ -1,0 +1,20 @@
+-- A hart's own rows.
+pub mod HartResults
+pub mod AbortRows
+pub mod UndoRows
+pub mod RetireRows
+pub mod RegisterRows
+pub mod BeginRows
+pub mod CommitRows
+pub mod Accesses
+pub mod PlainAccessRows
+pub mod TxAccessTables
+pub mod TxAccessRows
+pub mod TrapRows
+pub mod AskRows
+pub mod Spills
+pub mod EvictRows
+pub mod FetchRows
+pub mod ResultNext
+pub mod CoreMoves
+pub mod CoreRows

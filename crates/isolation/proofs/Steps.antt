@@ -1,0 +1,3 @@
+-- Every step, from the start.
+pub mod Starting
+pub mod StepNext

@@ -1,0 +1,7 @@
+pub mod Programs
+pub mod Examples
+pub mod Sharing
+pub mod Conflicts
+pub mod Aborts
+pub mod Spills
+pub mod Nesting
