@@ -25,7 +25,7 @@ values_of rows = option_to_list (first_of (codes "harts") rows)
     ++ option_to_list (first_of (codes "steps") rows)
     ++ words_of rows
 
--- the first of some texts that is no number
+-- the first malformed one of some texts: it stands for no number
 abbrev pub first_bad : List Text → Option Text
 first_bad texts = find (λ text. not (is_some (number_of text))) texts
 
@@ -58,7 +58,7 @@ AsksForRun words rows =
 abbrev pub IsOrderOf : List Text → Order → Type 0
 IsOrderOf words order = (rows : List Row) × AsksForRun words rows × IsReadingOf rows order
 
--- why the words ask for nothing: clap refuses them, a value is no number, or memory ran out
+-- why the words ask for nothing: clap refuses them, a value is malformed, or memory ran out
 abbrev pub IsFaultOf : List Text → OrderFault → Type 0
 IsFaultOf words (Refused text) = fault_of logtm words ≢ []
 IsFaultOf words (Value value) =

@@ -1,6 +1,7 @@
 -- What a program is booted with, the test that fails where it isn't booted, and the state that it begins in.
 use Rattle.std.specs.Prelude.{ℕ, Bool, cond, ◌==◌, ◌&&◌, nat_le, ◌+◌, ◌-◌, ◌*◌, ◌%◌, Option, Some, None, List}
 use Rattle.std.specs.List.{list_all}
+use Rattle.words.specs.Limits.{stack_bytes, log_bytes}
 use Rattle.table.specs.Program.{Segment}
 use Rattle.flat.specs.State.{Flat}
 use Rattle.flat.specs.Start.{first_state}
@@ -19,9 +20,9 @@ is_count n = nat_le 1 n && nat_le n 8
 abbrev pub ends_by : ℕ → Segment → Bool
 ends_by limit s = nat_le (s.addr + s.size) limit
 
--- above the segments there are 4,096 bytes of stack and 4,096 bytes of undo log a hart
+-- above the segments there are a stack and an undo log for each hart
 abbrev pub fits_below : ℕ → ℕ → List Segment → Bool
-fits_below s n segments = list_all (ends_by (s - 8192 * n)) segments
+fits_below s n segments = list_all (ends_by (s - (stack_bytes + log_bytes) * n)) segments
 
 -- the first test that fails, of a program with these segments, so many harts and bytes of memory
 abbrev pub boot_fault : List Segment → ℕ → ℕ → Option BootFault

@@ -1,7 +1,8 @@
--- Room for lines: lists of blocks, a hart's sets, the rows that fill and empty them, and the steps that there are.
+-- Room for lines: lists of blocks, a hart's sets, the rows that fill and empty them, the steps that there are, and what a victim is for.
 pub mod Blocks
 pub mod Sets
 pub mod CoreRooms
 pub mod MessageRooms
 pub mod MachineRooms
 pub mod StepsExist
+pub mod VictimRooms

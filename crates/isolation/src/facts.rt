@@ -1,7 +1,11 @@
-ghost use Rattle.std.specs.Prelude.{ℕ};
+ghost use Rattle.std.specs.Prelude.{ℕ, ◌≡◌, ◌⊎◌, Option, None};
+ghost use Rattle.words.specs.declared.entry.Entry.{Entry};
+ghost use Rattle.words.specs.declared.entry.Step.TheVariants.{Core};
+ghost use Rattle.words.specs.declared.message.Kind.{Kind};
 ghost use Rattle.flat.specs.State.{Flat};
-ghost use Rattle.protocol.specs.Caches.{Geometry};
-ghost use Rattle.protocol.specs.Machine.{Machine};
+ghost use Rattle.protocol.specs.Caches.{Geometry, HasRoom};
+ghost use Rattle.protocol.specs.Core.{Lacks, core_move};
+ghost use Rattle.protocol.specs.Machine.{Machine, Steps};
 ghost use Rattle.protocol.specs.Network.{LiesBelow};
 ghost use Rattle.isolation.specs.Belongs.{Belongs};
 ghost use Rattle.isolation.specs.Facts.{OneRequest, LinesAgree, Acknowledged, IsCovered, LogsUndo, LogsFit, UndosGoThrough, IsAwaited, RulesOutUnreachable, LinesFit};
@@ -20,6 +24,14 @@ pub fn lines_agree()
 /// No set of a cache has more lines than ways, and a hart that waits for a block has room for its line.
 pub fn lines_fit()
     ensures { (g : Geometry) (f : Flat) (w : Machine) → Belongs g f w → LinesFit g w }
+{}
+
+/// A victim is evicted for the block that is lacked: after a core step of a hart that has no line of it there is room for one, unless
+/// nothing happened.
+pub fn victims_make_room()
+    ensures { (g : Geometry) (f : Flat) (v w : Machine) (i b : ℕ) (kind : Kind) (e : Option Entry) →
+        Belongs g f v → core_move v.setting i v.stamps (v.harts i) ≡ Lacks kind b → (v.harts i).lines b ≡ None →
+        Steps g v (Core i) e w → (w ≡ v) ⊎ HasRoom g (w.harts i).lines b }
 {}
 
 /// Who acknowledged a write has no line and no claim to the block any more, and who acknowledged a read can't write it.

@@ -10,7 +10,7 @@ mod laws;
 pub use facts::{
     each_message_is_awaited, lines_agree, lines_fit, logs_fit, logs_undo_to_memory,
     requests_are_one, sets_are_covered, undos_go_through, unreachable_cases_never_occur,
-    who_acknowledged_has_given_up,
+    victims_make_room, who_acknowledged_has_given_up,
 };
 pub use laws::{
     answers_are_the_flat_machines, conflicts_have_reasons, entries_are_a_flat_run,

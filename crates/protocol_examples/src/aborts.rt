@@ -17,7 +17,7 @@ pub fn an_exit_stops_a_hart()
     ensures { Reaches 4 1 exit (cores 0 4) [] (λ w. ((w.harts 0).status ≡ Exited 0) × ((w.harts 0).pc ≡ 4108)) }
 {}
 
-/// A trap in a transaction takes it back first, and then stops the hart.
+/// A trap in a transaction rolls it back first, and then stops the hart.
 pub fn a_trap_rolls_the_transaction_back()
     ensures { Reaches 4 1 store_to_text (cores 0 5)
         (Abort 0 (Trapped StoreText 4104) ∷ [])

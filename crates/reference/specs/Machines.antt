@@ -84,7 +84,7 @@ abbrev pub KeepsOut : Flat → ℕ → ℕ → ℕ → Act → Type 0
 KeepsOut f i b j (act.Memory m) = (m.addr / 32 ≡ b) × IsFirstAgainst f i b (is_some m.store) j
 KeepsOut f i b j _ = ⊥
 
--- a cause for which a hart takes its own transaction back
+-- a cause of its own for which a hart aborts its transaction
 abbrev pub IsOwnCause : AbortCause → Type 0
 IsOwnCause Asked = Unit {0}
 IsOwnCause Conflict = ⊥

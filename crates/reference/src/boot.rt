@@ -93,7 +93,7 @@ fn fits_below(program: &Program, harts: usize, size: usize) -> bool
     requires { 8192 * harts ≤ size }
     ensures { result ≡ fits_below size harts program.now.segments }
 {
-    let limit = size - 8192 * harts;
+    let limit = size - (STACK_BYTES + LOG_BYTES) * harts;
     program
         .segments()
         .iter()

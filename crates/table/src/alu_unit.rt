@@ -1,5 +1,6 @@
-ghost use Rattle.std.specs.Prelude.{◌≡◌, ◌%◌};
+ghost use Rattle.std.specs.Prelude.{◌≡◌, ◌<◌, ◌%◌};
 ghost use Rattle.table.specs.Numbers.{is_less_signed, shifted_left, shifted_right, shifted_right_signed, bit_of};
+ghost use Rattle.table.specs.Numbers.{widened, upper_product, magnitude, with_sign, differ_in_sign, quotient, remainder, quotient_signed, remainder_signed};
 ghost use Rattle.table.specs.Table.{branch_row, imm_row, shift_row, op_row};
 
 use crate::instr::{AluOp, BranchOp, ImmOp, ShiftOp};
@@ -30,6 +31,85 @@ fn shift_right_signed(a: u32, amount: u32) -> u32
         a >> places
     } else {
         !(!a >> places)
+    }
+}
+
+/// The number extended to 64 bits with its sign.
+fn widened(a: u32) -> u64
+    ensures { result ≡ widened a }
+{
+    if a >= 0x8000_0000 {
+        u64::from(a) + 0xffff_ffff_0000_0000
+    } else {
+        u64::from(a)
+    }
+}
+
+/// The upper half of a product.
+fn upper_product(x: u64, y: u64) -> u32
+    ensures { result ≡ upper_product x y }
+{
+    (x.wrapping_mul(y) >> 32) as u32
+}
+
+/// How far a signed number is from 0.
+fn magnitude(a: u32) -> u32
+    ensures value { result ≡ magnitude a }
+    ensures some { 0 < a → 0 < result }
+{
+    if a >= 0x8000_0000 {
+        u32::MAX - a + 1
+    } else {
+        a
+    }
+}
+
+/// The signed number that is so far from 0, below it or not.
+fn with_sign(below: bool, magnitude: u32) -> u32
+    ensures { result ≡ with_sign below magnitude }
+{
+    if below {
+        magnitude.wrapping_neg()
+    } else {
+        magnitude
+    }
+}
+
+fn differ_in_sign(a: u32, b: u32) -> bool
+    ensures { result ≡ differ_in_sign a b }
+{
+    (a >= 0x8000_0000) != (b >= 0x8000_0000)
+}
+
+fn divide(a: u32, b: u32) -> u32
+    ensures { result ≡ quotient a b }
+{
+    if b == 0 { u32::MAX } else { a / b }
+}
+
+fn remainder(a: u32, b: u32) -> u32
+    ensures { result ≡ remainder a b }
+{
+    if b == 0 { a } else { a % b }
+}
+
+fn divide_signed(a: u32, b: u32) -> u32
+    ensures { result ≡ quotient_signed a b }
+{
+    if b == 0 {
+        u32::MAX
+    } else {
+        with_sign(differ_in_sign(a, b), magnitude(a) / magnitude(b))
+    }
+}
+
+fn remainder_signed(a: u32, b: u32) -> u32
+    ensures { result ≡ remainder_signed a b }
+{
+    if b == 0 {
+        a
+    } else {
+        with_sign(a >= 0x8000_0000, magnitude(a) % magnitude(b))
     }
 }
 
@@ -83,5 +163,13 @@ pub fn alu(op: AluOp, a: u32, b: u32) -> u32
         AluOp::Sra => shift_right_signed(a, b),
         AluOp::Or => a | b,
         AluOp::And => a & b,
+        AluOp::Mul => a.wrapping_mul(b),
+        AluOp::Mulh => upper_product(widened(a), widened(b)),
+        AluOp::Mulhsu => upper_product(widened(a), u64::from(b)),
+        AluOp::Mulhu => upper_product(u64::from(a), u64::from(b)),
+        AluOp::Div => divide_signed(a, b),
+        AluOp::Divu => divide(a, b),
+        AluOp::Rem => remainder_signed(a, b),
+        AluOp::Remu => remainder(a, b),
     }
 }

@@ -184,6 +184,14 @@ fn decode_op(word: u32) -> Option<Instr>
         (5, 0x20) => AluOp::Sra,
         (6, 0) => AluOp::Or,
         (7, 0) => AluOp::And,
+        (0, 1) => AluOp::Mul,
+        (1, 1) => AluOp::Mulh,
+        (2, 1) => AluOp::Mulhsu,
+        (3, 1) => AluOp::Mulhu,
+        (4, 1) => AluOp::Div,
+        (5, 1) => AluOp::Divu,
+        (6, 1) => AluOp::Rem,
+        (7, 1) => AluOp::Remu,
         _ => return None,
     };
     Some(Instr::Op {

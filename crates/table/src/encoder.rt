@@ -135,6 +135,14 @@ fn encode_op(op: AluOp, rd: Reg, rs1: Reg, rs2: Reg) -> u32
         AluOp::Sra => (5, 0x20),
         AluOp::Or => (6, 0),
         AluOp::And => (7, 0),
+        AluOp::Mul => (0, 1),
+        AluOp::Mulh => (1, 1),
+        AluOp::Mulhsu => (2, 1),
+        AluOp::Mulhu => (3, 1),
+        AluOp::Div => (4, 1),
+        AluOp::Divu => (5, 1),
+        AluOp::Rem => (6, 1),
+        AluOp::Remu => (7, 1),
     };
     r_word(0x33, rd, funct3, rs1, rs2.index() as u32, funct7)
 }

@@ -62,9 +62,17 @@ pub enum AluOp {
     Sra,
     Or,
     And,
+    Mul,
+    Mulh,
+    Mulhsu,
+    Mulhu,
+    Div,
+    Divu,
+    Rem,
+    Remu,
 }
 
-/// An instruction of RV32I (RISC-V Unprivileged ISA 20191213, chapter 2), or one of the three words for
+/// An instruction of RV32IM (RISC-V Unprivileged ISA 20191213, chapters 2 and 7), or one of the three words for
 /// transactions, which stand in the custom-0 opcode. Each value has one word, and each legal word one value.
 #[derive(Clone, Copy, Debug, PartialEq, Eq)]
 pub enum Instr {

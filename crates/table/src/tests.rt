@@ -113,6 +113,14 @@ fn alu_name(op: AluOp) -> &'static str {
         AluOp::Sra => "sra",
         AluOp::Or => "or",
         AluOp::And => "and",
+        AluOp::Mul => "mul",
+        AluOp::Mulh => "mulh",
+        AluOp::Mulhsu => "mulhsu",
+        AluOp::Mulhu => "mulhu",
+        AluOp::Div => "div",
+        AluOp::Divu => "divu",
+        AluOp::Rem => "rem",
+        AluOp::Remu => "remu",
     }
 }
 
@@ -143,7 +151,7 @@ fn other_words_are_illegal(rt: HostRuntime) -> Result<(), Fail> {
         0x0000_2063, // no branch has funct3 2
         0x0000_3003, // LD
         0x0000_3023, // SD
-        0x0200_0033, // MUL
+        0x0400_0033, // funct7 2
         0x0000_1067, // JALR with funct3 1
         0x0020_0073, // URET
         0x0000_00f3, // ECALL with rd 1

@@ -59,7 +59,7 @@ flat_after Outside p m = p m
 flat_after Running p m = m
 flat_after Aborting p m = m
 
--- an abort takes the newest record back
+-- an abort undoes the newest record
 abbrev pub put_back : Block → Copy → Copy
 put_back v Absent = Absent
 put_back v (Has s d m) = Has Modified v m

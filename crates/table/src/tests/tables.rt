@@ -1,7 +1,7 @@
 //! Values from outside: an assembler and a C compiler.
 
 /// What a compiled C program gives for these: a word over x5 and x6 that writes x7, x5, x6, and the value.
-pub const VALUES: [(u32, u32, u32, u32); 73] = [
+pub const VALUES: [(u32, u32, u32, u32); 121] = [
     (0x0062_83b3, 0x8000_0000, 0xffff_ffff, 0x7fff_ffff), // add x7, x5, x6
     (0x0062_83b3, 0x7fff_ffff, 1, 0x8000_0000), // add x7, x5, x6
     (0x0062_83b3, 0xdead_beef, 0xffff_fff1, 0xdead_bee0), // add x7, x5, x6
@@ -75,6 +75,54 @@ pub const VALUES: [(u32, u32, u32, u32); 73] = [
     (0x41f2_d393, 0x8000_0001, 0, 0xffff_ffff), // srai x7, x5, 31
     (0x4042_d393, 0xdead_beef, 0, 0xfdea_dbee), // srai x7, x5, 4
     (0x4002_d393, 0x7fff_ffff, 0, 0x7fff_ffff), // srai x7, x5, 0
+    (0x0262_83b3, 0x8000_0000, 0xffff_ffff, 0x8000_0000), // mul x7, x5, x6
+    (0x0262_83b3, 0x7fff_ffff, 1, 0x7fff_ffff), // mul x7, x5, x6
+    (0x0262_83b3, 0xdead_beef, 0xffff_fff1, 0xf3d1_cfff), // mul x7, x5, x6
+    (0x0262_83b3, 5, 5, 0x19), // mul x7, x5, x6
+    (0x0262_83b3, 0xffff_fff9, 2, 0xffff_fff2), // mul x7, x5, x6
+    (0x0262_83b3, 0xffff_fff9, 0, 0), // mul x7, x5, x6
+    (0x0262_93b3, 0x8000_0000, 0xffff_ffff, 0), // mulh x7, x5, x6
+    (0x0262_93b3, 0x7fff_ffff, 1, 0), // mulh x7, x5, x6
+    (0x0262_93b3, 0xdead_beef, 0xffff_fff1, 1), // mulh x7, x5, x6
+    (0x0262_93b3, 5, 5, 0), // mulh x7, x5, x6
+    (0x0262_93b3, 0xffff_fff9, 2, 0xffff_ffff), // mulh x7, x5, x6
+    (0x0262_93b3, 0xffff_fff9, 0, 0), // mulh x7, x5, x6
+    (0x0262_a3b3, 0x8000_0000, 0xffff_ffff, 0x8000_0000), // mulhsu x7, x5, x6
+    (0x0262_a3b3, 0x7fff_ffff, 1, 0), // mulhsu x7, x5, x6
+    (0x0262_a3b3, 0xdead_beef, 0xffff_fff1, 0xdead_bef0), // mulhsu x7, x5, x6
+    (0x0262_a3b3, 5, 5, 0), // mulhsu x7, x5, x6
+    (0x0262_a3b3, 0xffff_fff9, 2, 0xffff_ffff), // mulhsu x7, x5, x6
+    (0x0262_a3b3, 0xffff_fff9, 0, 0), // mulhsu x7, x5, x6
+    (0x0262_b3b3, 0x8000_0000, 0xffff_ffff, 0x7fff_ffff), // mulhu x7, x5, x6
+    (0x0262_b3b3, 0x7fff_ffff, 1, 0), // mulhu x7, x5, x6
+    (0x0262_b3b3, 0xdead_beef, 0xffff_fff1, 0xdead_bee1), // mulhu x7, x5, x6
+    (0x0262_b3b3, 5, 5, 0), // mulhu x7, x5, x6
+    (0x0262_b3b3, 0xffff_fff9, 2, 1), // mulhu x7, x5, x6
+    (0x0262_b3b3, 0xffff_fff9, 0, 0), // mulhu x7, x5, x6
+    (0x0262_c3b3, 0x8000_0000, 0xffff_ffff, 0x8000_0000), // div x7, x5, x6
+    (0x0262_c3b3, 0x7fff_ffff, 1, 0x7fff_ffff), // div x7, x5, x6
+    (0x0262_c3b3, 0xdead_beef, 0xffff_fff1, 0x0238_af01), // div x7, x5, x6
+    (0x0262_c3b3, 5, 5, 1), // div x7, x5, x6
+    (0x0262_c3b3, 0xffff_fff9, 2, 0xffff_fffd), // div x7, x5, x6
+    (0x0262_c3b3, 0xffff_fff9, 0, 0xffff_ffff), // div x7, x5, x6
+    (0x0262_d3b3, 0x8000_0000, 0xffff_ffff, 0), // divu x7, x5, x6
+    (0x0262_d3b3, 0x7fff_ffff, 1, 0x7fff_ffff), // divu x7, x5, x6
+    (0x0262_d3b3, 0xdead_beef, 0xffff_fff1, 0), // divu x7, x5, x6
+    (0x0262_d3b3, 5, 5, 1), // divu x7, x5, x6
+    (0x0262_d3b3, 0xffff_fff9, 2, 0x7fff_fffc), // divu x7, x5, x6
+    (0x0262_d3b3, 0xffff_fff9, 0, 0xffff_ffff), // divu x7, x5, x6
+    (0x0262_e3b3, 0x8000_0000, 0xffff_ffff, 0), // rem x7, x5, x6
+    (0x0262_e3b3, 0x7fff_ffff, 1, 0), // rem x7, x5, x6
+    (0x0262_e3b3, 0xdead_beef, 0xffff_fff1, 0xffff_fffe), // rem x7, x5, x6
+    (0x0262_e3b3, 5, 5, 0), // rem x7, x5, x6
+    (0x0262_e3b3, 0xffff_fff9, 2, 0xffff_ffff), // rem x7, x5, x6
+    (0x0262_e3b3, 0xffff_fff9, 0, 0xffff_fff9), // rem x7, x5, x6
+    (0x0262_f3b3, 0x8000_0000, 0xffff_ffff, 0x8000_0000), // remu x7, x5, x6
+    (0x0262_f3b3, 0x7fff_ffff, 1, 0), // remu x7, x5, x6
+    (0x0262_f3b3, 0xdead_beef, 0xffff_fff1, 0xdead_beef), // remu x7, x5, x6
+    (0x0262_f3b3, 5, 5, 0), // remu x7, x5, x6
+    (0x0262_f3b3, 0xffff_fff9, 2, 1), // remu x7, x5, x6
+    (0x0262_f3b3, 0xffff_fff9, 0, 0xffff_fff9), // remu x7, x5, x6
 ];
 
 /// Branches over x5 and x6 by 16 bytes: the word, x5, x6, and whether the branch is taken.
@@ -100,7 +148,7 @@ pub const BRANCHES: [(u32, u32, u32, bool); 18] = [
 ];
 
 /// What an assembler (LLVM 14, for riscv32) made of the lines below. The words of custom-0 were written by `.insn`.
-pub const WORDS: [u32; 132] = [
+pub const WORDS: [u32; 140] = [
     0x0050_0093,
     0xfe20_8ee3,
     0x1234_6537,
@@ -233,6 +281,14 @@ pub const WORDS: [u32; 132] = [
     0xfa00_0a8b,
     0x0000_100b,
     0x0000_200b,
+    0x02c5_8533,
+    0x02c5_9533,
+    0x02c5_a533,
+    0x02c5_b533,
+    0x02c5_c533,
+    0x02c5_d533,
+    0x02c5_e533,
+    0x02c5_f533,
 ];
 
 /// Each line is a name and three operands in the order rd, rs1, rs2, immediate, as far as the row has them, else 0. A
@@ -370,4 +426,12 @@ tbegin 4294963200 0 0\n\
 tbegin 4294967220 0 0\n\
 tcommit 0 0 0\n\
 tabort 0 0 0\n\
+mul 10 11 12\n\
+mulh 10 11 12\n\
+mulhsu 10 11 12\n\
+mulhu 10 11 12\n\
+div 10 11 12\n\
+divu 10 11 12\n\
+rem 10 11 12\n\
+remu 10 11 12\n\
 ";
