@@ -2,6 +2,7 @@ pub mod Found
 pub mod OneWay
 pub mod Sound
 pub mod Changes
+pub mod Rooms
 pub mod Victims
 pub mod Fresh
 pub mod Cleared

@@ -33,13 +33,13 @@ line_at-here count size sets s w l sound hw here =
     rw ((sound.lines s w l here).placed) (line_in-at l.block (get_or sets s []) w l hw here (holds-own l) (λ v h. alone-holds count size sets s w v l sound here (omega arith)))
 
 -- where no way is free, each way has a line
-none-free : (ways : List (Option Line)) (w : ℕ) → is_some (position is_free ways) ≡ false → w < length ways → get_or ways w None ≡ None → ⊥
+pub none-free : (ways : List (Option Line)) (w : ℕ) → is_some (position is_free ways) ≡ false → w < length ways → get_or ways w None ≡ None → ⊥
 none-free ways w e hw none =
     let free : is_free (get_or ways w None) ≡ true = rw none refl in
     let room : is_some (position is_free ways) ≡ true = some-position is_free ways w hw free in cc
 
 -- the first way that passes, or way 0, is a way
-unwrap_or-inside : (p : Option Line → Bool) (ways : List (Option Line)) → 0 < length ways → unwrap_or (position p ways) 0 < length ways
+pub unwrap_or-inside : (p : Option Line → Bool) (ways : List (Option Line)) → 0 < length ways → unwrap_or (position p ways) 0 < length ways
 unwrap_or-inside p ways some =
     elim (cases_lt (position_or_len p ways) (length ways)) [
       | inl k ↦ rw (lt-ltb (position_or_len p ways) (length ways) k) k

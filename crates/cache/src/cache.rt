@@ -6,7 +6,7 @@ ghost use Rattle.words.specs.Bytes.{bytes_in};
 ghost use Rattle.cache.specs.Bytes.{word_at};
 ghost use Rattle.cache.specs.Line.{filled, marked_read, marked_written, in_state, stored, without_marks};
 ghost use Rattle.cache.specs.Ways.{holds, is_free};
-ghost use Rattle.cache.specs.Sets.{line_at, HasRoom, GoesFor, victim_at, SetsLine, FillsLine, ChangesLine, RemovesLine, StoresBytes};
+ghost use Rattle.cache.specs.Sets.{line_at, HasRoom, GoesFor, victim_at, SetsLine, FillsLine, ChangesLine, RemovesLine, StoresBytes, IsSound};
 
 use crate::bytes::with_bytes;
 use crate::line::Line;
@@ -144,10 +144,11 @@ impl<const SETS: usize, const WAYS: usize> Cache<SETS, WAYS> {
 
     /// Puts a line in the place of the one that its block has.
     #[tactic(auto, unfolding(crate::specs::Sets::line_at))]
-    fn replace(&mut self, line: Line)
+    pub fn replace(&mut self, line: Line)
         requires present { IsSome (line_at SETS self.old line.block) }
         requires owned { IsTrue line.marks.written → line.state ≡ Modified }
-        ensures { SetsLine (holds line.block) SETS self.old self.new line.block (Some line) }
+        ensures line { SetsLine (holds line.block) SETS self.old self.new line.block (Some line) }
+        ensures rooms { (b : ℕ) → HasRoom SETS self.old b → HasRoom SETS self.new b }
     {
         let sets = &mut self.sets[..];
         let ways = &mut sets[line.block.index() % SETS];
@@ -176,6 +177,7 @@ impl<const SETS: usize, const WAYS: usize> Cache<SETS, WAYS> {
     pub fn invalidate(&mut self, block: BlockNo)
         ensures line { RemovesLine SETS self.old self.new block }
         ensures room { IsSome (line_at SETS self.old block) → (b : ℕ) → b % SETS ≡ block % SETS → HasRoom SETS self.new b }
+        ensures rooms { (b : ℕ) → HasRoom SETS self.old b → HasRoom SETS self.new b }
     {
         let sets = &mut self.sets[..];
         let ways = &mut sets[block.index() % SETS];
@@ -201,6 +203,13 @@ impl<const SETS: usize, const WAYS: usize> Cache<SETS, WAYS> {
     {
         let sets = &self.sets[..];
         victim_of(&sets[block.index() % SETS])
+    }
+
+    /// What every cache keeps, as a fact that callers can use.
+    pub fn keeps(&self)
+        ensures { IsSound SETS WAYS self.now }
+    {
+        let _sets = &self.sets;
     }
 
     /// Takes all marks away, as at the end of a transaction.

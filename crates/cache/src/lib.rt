@@ -9,6 +9,7 @@ mod line;
 mod tests;
 mod ways;
 
+pub use bytes::with_bytes;
 pub use cache::Cache;
 pub use line::Line;
 pub use ways::Victim;

@@ -1,8 +1,8 @@
 -- Which flat states belong to a machine.
-use Rattle.std.specs.Prelude.{ℕ, ◌≡◌, ◌<◌, List, [], ◌∷◌, slice_index, IsSome, IsSomeAnd}
+use Rattle.std.specs.Prelude.{ℕ, ◌≡◌, List, IsSome, IsSomeAnd}
 use Rattle.words.specs.declared.entry.Entry.{Entry}
 use Rattle.words.specs.declared.entry.Step.{Step}
-use Rattle.table.specs.Program.{Segment}
+use Rattle.table.specs.Program.{AreBytes}
 use Rattle.flat.specs.State.{Setting, Flat, FlatHart}
 use Rattle.flat.specs.Start.{first_state}
 use Rattle.flat.specs.Steps.{IsRun}
@@ -10,11 +10,6 @@ use Rattle.protocol.specs.Hart.{Hart}
 use Rattle.protocol.specs.Caches.{Geometry}
 use Rattle.protocol.specs.Machine.{Machine, Runs}
 use Rattle.protocol.specs.Start.{start}
-
--- what a program's segments begin with are bytes
-abbrev pub AreBytes : List Segment → Type 0
-AreBytes [] = Unit {0}
-AreBytes (s ∷ ss) = ((k : ℕ) → slice_index s.bytes k < 256) × AreBytes ss
 
 -- from the start of a program, whatever its memory and its number of harts, steps lead to this machine, and their entries lead the
 -- flat machine to this state

@@ -13,7 +13,8 @@ ghost use Rattle.protocol.specs.Caches.{Geometry};
 ghost use Rattle.protocol.specs.Machine.{Machine, Steps, Runs};
 ghost use Rattle.protocol.specs.Network.{LiesBelow};
 ghost use Rattle.protocol.specs.Start.{start};
-ghost use Rattle.isolation.specs.Belongs.{AreBytes, Belongs};
+ghost use Rattle.table.specs.Program.{AreBytes};
+ghost use Rattle.isolation.specs.Belongs.{Belongs};
 ghost use Rattle.isolation.specs.Answers.{AnswersAs, IsRow};
 
 /// Isolation: for every program, number of harts and size of memory, and for every list of core, eviction and delivery steps, the

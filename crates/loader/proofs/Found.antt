@@ -3,7 +3,7 @@ use Rattle.std.proofs.Common.{◌≡◌, ◌≢◌, Bool, true, false, cond, Lis
 use Rattle.std.specs.List.{AllByRecursion}
 use Rattle.loader.specs.declared.fault.LoadFault.{LoadFault}
 use Rattle.loader.specs.declared.fault.LoadFault.TheVariants.{NoMemory}
-use Rattle.words.specs.Tests.{first}
+use Rattle.words.specs.First.{first}
 use Rattle.loader.specs.Checks.{IsFault}
 
 -- the first check finds nothing, and so do the others

@@ -7,7 +7,7 @@ use Rattle.std.proofs.lemmas.Bool.{not-false, and_parts, and_from, eqb-true, eq-
 use Rattle.std.proofs.lemmas.List.{length-map}
 use Rattle.table.specs.Program.{word_at}
 use Rattle.loader.specs.Headers.{file_header, loaded_headers, segment_of, segments_of}
-use Rattle.words.specs.Tests.{first}
+use Rattle.words.specs.First.{first}
 use Rattle.loader.specs.Checks.{file_checks, segment_checks, some_share, table_checks, can_begin, entry_checks, fault_of}
 use Rattle.loader.specs.declared.fault.LoadFault.TheVariants.{SegmentOverlap}
 use Rattle.loader.specs.Programs.{Program, AreApart, IsProgram}

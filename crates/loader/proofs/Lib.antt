@@ -7,4 +7,7 @@ pub mod Loading
 pub mod Passed
 pub mod Reading
 pub mod Rising
+pub mod Room
+pub mod RoundTrip
 pub mod Table
+pub mod Written

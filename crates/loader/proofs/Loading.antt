@@ -5,7 +5,7 @@ use Rattle.table.specs.Program.{Segment}
 use Rattle.loader.specs.declared.fault.LoadFault.{LoadFault}
 use Rattle.loader.specs.declared.fault.LoadFault.TheVariants.{SegmentOverlap, BadEntry}
 use Rattle.loader.specs.Headers.{file_header, loaded_headers, segments_of}
-use Rattle.words.specs.Tests.{first}
+use Rattle.words.specs.First.{first}
 use Rattle.loader.specs.Checks.{file_checks, segment_checks, some_share, table_checks, can_begin, entry_checks, fault_of, IsFault}
 use Rattle.loader.specs.Programs.{IsProgram}
 use Rattle.loader.specs.Elf.{program_of}

@@ -5,7 +5,7 @@ use Rattle.std.specs.List.{AllByRecursion, flat_map}
 use Rattle.std.proofs.lemmas.Bool.{not-false, or_parts, or_from, ltb-false, le-ltb, eqb-true, eq-eqb}
 use Rattle.loader.specs.declared.headers.SegmentHeader.{SegmentHeader}
 use Rattle.loader.specs.Headers.{file_header, is_compressed, has_sizes, table_end, is_writable, is_executable, memory_end}
-use Rattle.words.specs.Tests.{first}
+use Rattle.words.specs.First.{first}
 use Rattle.loader.specs.Checks.{is_elf32, file_checks, segment_checks}
 use Rattle.loader.specs.Elf.{CanLoad}
 use Rattle.loader.proofs.Found.{first-all_false, all_false-first, first-append_none, first-append_parts}

@@ -6,7 +6,7 @@ use Rattle.std.proofs.lemmas.Grind.{flat_map-append}
 use Rattle.loader.specs.declared.fault.LoadFault.{LoadFault}
 use Rattle.loader.specs.declared.headers.SegmentHeader.{SegmentHeader}
 use Rattle.loader.specs.Headers.{segment_header, headers_from, is_loaded}
-use Rattle.words.specs.Tests.{first}
+use Rattle.words.specs.First.{first}
 use Rattle.loader.specs.Checks.{segment_checks}
 use Rattle.loader.proofs.Found.{first-append_none, first-append_some}
 

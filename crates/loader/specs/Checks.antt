@@ -2,7 +2,7 @@
 use Rattle.std.specs.Prelude.{◌≡◌, ◌==◌, ◌&&◌, ◌||◌, not, ℕ, ◌%◌, nat_lt, nat_eq, Bool, false, List, [], ◌∷◌, ◌++◌, length, Option, Some}
 use Rattle.std.specs.List.{flat_map, list_any, starts_with}
 use Rattle.std.specs.Option.{is_some}
-use Rattle.words.specs.Tests.{first}
+use Rattle.words.specs.First.{first}
 use Rattle.table.specs.Program.{Segment, word_at}
 use Rattle.loader.specs.declared.fault.LoadFault.{LoadFault}
 use Rattle.loader.specs.declared.fault.LoadFault.TheVariants.{Truncated, NotElf32, NotRiscv, NotExec, Compressed, BadHeaderSize, SegmentOutside, SegmentOverlap, WritableText, BadEntry, NoMemory}

@@ -3,3 +3,4 @@ pub mod Elf
 pub mod Faults
 pub mod Headers
 pub mod Programs
+pub mod Writing

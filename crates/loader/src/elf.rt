@@ -3,7 +3,7 @@ ghost use Rattle.std.specs.Result.{IfErr};
 ghost use Rattle.std.specs.List.{flat_map, AllByRecursion, IsAllAdjacentAnswer};
 ghost use Rattle.std.specs.List.Sorted.{IsPermutation, IsNonDecreasingBy};
 ghost use Rattle.loader.specs.Headers.{file_header, table_end, loaded_headers, segment_of, share};
-ghost use Rattle.words.specs.Tests.{first};
+ghost use Rattle.words.specs.First.{first};
 ghost use Rattle.loader.specs.Checks.{is_elf32, file_checks, segment_checks, some_share, table_checks, can_begin, fault_of, IsFault};
 ghost use Rattle.loader.specs.Elf.{IsElfOf, program_of};
 ghost use Rattle.loader.specs.Programs.{Program as ProgramValue};
@@ -20,13 +20,13 @@ use words::Addr;
 const MEMORY_END: usize = 4_194_304;
 
 /// How the file begins: the magic number, and then 32-bit, little-endian and version 1.
-const IDENT: [u8; 7] = [0x7f, b'E', b'L', b'F', 1, 1, 1];
+pub const IDENT: [u8; 7] = [0x7f, b'E', b'L', b'F', 1, 1, 1];
 
 /// EM_RISCV
-const RISCV: u16 = 243;
+pub const RISCV: u16 = 243;
 
 /// ET_EXEC
-const EXECUTABLE: u16 = 2;
+pub const EXECUTABLE: u16 = 2;
 
 /// Whether the file is of this format.
 fn is_elf32(bytes: &[u8]) -> bool

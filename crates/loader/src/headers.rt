@@ -10,7 +10,7 @@ pub const FILE_HEADER_BYTES: usize = 52;
 pub const SEGMENT_HEADER_BYTES: usize = 32;
 
 /// The kind of a header whose segment is loaded, PT_LOAD.
-const LOADED: u32 = 1;
+pub const LOADED: u32 = 1;
 
 /// What of the file's header is read: the Elf32_Ehdr of the System V ABI.
 #[derive(Clone, Copy, Debug)]

@@ -1,14 +1,16 @@
-//! Programs, and the ELF files that they are read from.
+//! Programs, and the ELF files that they are read from and written to.
 #![tactic(auto)]
 
 mod elf;
 mod fault;
 mod headers;
 mod program;
+mod writer;
 
 pub use elf::read_elf;
 pub use fault::LoadFault;
 pub use program::Program;
+pub use writer::write_elf;
 
 #[cfg(test)]
 mod tests;

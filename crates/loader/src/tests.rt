@@ -1,15 +1,35 @@
 use super::*;
-use elf_samples::elf_file;
 use std::alloc::{AllocError, Global};
 use std::test::*;
 use table::Segment;
 use words::Addr;
 
-/// a7 = 93, a0 = 0, and ECALL: as words, and as bytes.
-const TEXT: [u32; 3] = [0x05d0_0893, 0x0000_0513, 0x0000_0073];
-
-const TEXT_BYTES: [u8; 12] = [
+/// One text segment at 0x1000, where the program begins: a7 = 93, a0 = 0, and ECALL.
+#[rattlefmt::skip]
+const SAMPLE: [u8; 96] = [
+    0x7f, 0x45, 0x4c, 0x46, 0x01, 0x01, 0x01, 0x00, 0x00, 0x00, 0x00, 0x00, 0x00, 0x00, 0x00, 0x00,
+    0x02, 0x00, 0xf3, 0x00, 0x01, 0x00, 0x00, 0x00, 0x00, 0x10, 0x00, 0x00, 0x34, 0x00, 0x00, 0x00,
+    0x00, 0x00, 0x00, 0x00, 0x00, 0x00, 0x00, 0x00, 0x34, 0x00, 0x20, 0x00, 0x01, 0x00, 0x00, 0x00,
+    0x00, 0x00, 0x00, 0x00,
+    0x01, 0x00, 0x00, 0x00, 0x54, 0x00, 0x00, 0x00, 0x00, 0x10, 0x00, 0x00, 0x00, 0x10, 0x00, 0x00,
+    0x0c, 0x00, 0x00, 0x00, 0x0c, 0x00, 0x00, 0x00, 0x05, 0x00, 0x00, 0x00, 0x01, 0x00, 0x00, 0x00,
     0x93, 0x08, 0xd0, 0x05, 0x13, 0x05, 0x00, 0x00, 0x73, 0x00, 0x00, 0x00,
+];
+
+/// What clang and ld.lld made of a text of five instructions, a word 7 of data and 8 bytes behind it, once llvm-objcopy had taken
+/// its sections off. readelf and llvm-readelf accept it, also with 1 for the alignment of text.
+#[rattlefmt::skip]
+const LINKED: [u8; 140] = [
+    0x7f, 0x45, 0x4c, 0x46, 0x01, 0x01, 0x01, 0x00, 0x00, 0x00, 0x00, 0x00, 0x00, 0x00, 0x00, 0x00,
+    0x02, 0x00, 0xf3, 0x00, 0x01, 0x00, 0x00, 0x00, 0x00, 0x10, 0x00, 0x00, 0x34, 0x00, 0x00, 0x00,
+    0x00, 0x00, 0x00, 0x00, 0x00, 0x00, 0x00, 0x00, 0x34, 0x00, 0x20, 0x00, 0x02, 0x00, 0x00, 0x00,
+    0x00, 0x00, 0x00, 0x00,
+    0x01, 0x00, 0x00, 0x00, 0x74, 0x00, 0x00, 0x00, 0x00, 0x10, 0x00, 0x00, 0x00, 0x10, 0x00, 0x00,
+    0x14, 0x00, 0x00, 0x00, 0x14, 0x00, 0x00, 0x00, 0x05, 0x00, 0x00, 0x00, 0x04, 0x00, 0x00, 0x00,
+    0x01, 0x00, 0x00, 0x00, 0x88, 0x00, 0x00, 0x00, 0x00, 0x20, 0x00, 0x00, 0x00, 0x20, 0x00, 0x00,
+    0x04, 0x00, 0x00, 0x00, 0x0c, 0x00, 0x00, 0x00, 0x06, 0x00, 0x00, 0x00, 0x01, 0x00, 0x00, 0x00,
+    0xb7, 0x22, 0x00, 0x00, 0x03, 0xa5, 0x02, 0x00, 0x23, 0xa2, 0xa2, 0x00, 0x93, 0x08, 0xd0, 0x05, 0x73, 0x00, 0x00, 0x00,
+    0x07, 0x00, 0x00, 0x00,
 ];
 
 /// Places in the sample.
@@ -27,6 +47,8 @@ const MEMORY_SIZE: usize = 72;
 
 const FLAGS: usize = 76;
 
+const ALIGN: usize = 80;
+
 /// How much later a place lies in the second header.
 const SECOND: usize = 32;
 
@@ -42,16 +64,15 @@ fn set(bytes: &mut [u8], changes: &[(usize, u32)]) {
 }
 
 fn sample_with(alloc: Global, changes: &[(usize, u32)]) -> Result<Vec<u8>, AllocError> {
-    let mut bytes = elf_file(alloc, &TEXT)?;
+    let mut bytes = Vec::from_slice(alloc, &SAMPLE)?;
     set(&mut bytes, changes);
     Ok(bytes)
 }
 
 /// The sample with its segment's header twice, the second at 0x2000 and for data.
 fn two_headers_with(alloc: Global, changes: &[(usize, u32)]) -> Result<Vec<u8>, AllocError> {
-    let sample = elf_file(alloc, &TEXT)?;
-    let mut bytes = Vec::from_slice(alloc, &sample[..84])?;
-    bytes.extend_from_slice(&sample[52..])?;
+    let mut bytes = Vec::from_slice(alloc, &SAMPLE[..84])?;
+    bytes.extend_from_slice(&SAMPLE[52..])?;
     let offset = KIND + 4;
     let second = [
         (TABLE_LEN, 2),
@@ -76,7 +97,7 @@ fn is_sample(program: &Program) -> bool {
                 segment.addr == 0x1000
                     && segment.size == 12
                     && segment.exec
-                    && segment.bytes[..] == TEXT_BYTES[..]
+                    && segment.bytes[..] == SAMPLE[84..]
             }
             _ => false,
         }
@@ -84,7 +105,7 @@ fn is_sample(program: &Program) -> bool {
 
 #[test]
 fn reads_the_sample(rt: HostRuntime) -> Result<(), Fail> {
-    let program = read_elf(rt.alloc(), &elf_file(rt.alloc(), &TEXT)?)
+    let program = read_elf(rt.alloc(), &SAMPLE)
         .ok()
         .ok_or("the sample is a program")?;
     assert!(rt; is_sample(&program));
@@ -96,10 +117,9 @@ fn reads_the_sample(rt: HostRuntime) -> Result<(), Fail> {
 
 #[test]
 fn prefixes_are_truncated(rt: HostRuntime) -> Result<(), Fail> {
-    let sample = elf_file(rt.alloc(), &TEXT)?;
-    for len in 0..sample.len() {
+    for len in 0..SAMPLE.len() {
         assert_eq!(rt;
-            fault(rt.alloc(), &sample[..len]),
+            fault(rt.alloc(), &SAMPLE[..len]),
             Some(LoadFault::Truncated),
             "{len} bytes"
         );
@@ -201,10 +221,9 @@ fn memory_beyond_the_file_is_zero(rt: HostRuntime) -> Result<(), Fail> {
 #[test]
 fn any_byte_may_be_any_value(rt: HostRuntime) -> Result<(), Fail> {
     let mut read: u32 = 0;
-    let sample = elf_file(rt.alloc(), &TEXT)?;
-    for at in 0..sample.len() {
+    for at in 0..SAMPLE.len() {
         for value in 0..=u8::MAX {
-            let mut bytes = sample.clone()?;
+            let mut bytes = Vec::from_slice(rt.alloc(), &SAMPLE)?;
             if let Some(byte) = bytes.get_mut(at) {
                 *byte = value;
             }
@@ -233,7 +252,7 @@ fn faults_are_numbered(rt: HostRuntime) -> Result<(), Fail> {
 
 #[test]
 fn copies_are_the_same(rt: HostRuntime) -> Result<(), Fail> {
-    let program = read_elf(rt.alloc(), &elf_file(rt.alloc(), &TEXT)?)
+    let program = read_elf(rt.alloc(), &SAMPLE)
         .ok()
         .ok_or("the sample is a program")?;
     let copy = program.copy(rt.alloc())?;
@@ -250,10 +269,9 @@ fn copies_are_the_same(rt: HostRuntime) -> Result<(), Fail> {
 /// The sample's header with as many segments as a file can have: the sample's, and others of a byte
 /// each, one after another from the last address down.
 fn full_table(alloc: Global) -> Result<Vec<u8>, AllocError> {
-    let sample = elf_file(alloc, &TEXT)?;
-    let mut bytes = Vec::from_slice(alloc, &sample[..KIND])?;
+    let mut bytes = Vec::from_slice(alloc, &SAMPLE[..KIND])?;
     let mut header = [0; 32];
-    header.copy_from_slice(&sample[KIND..KIND + SECOND]);
+    header.copy_from_slice(&SAMPLE[KIND..KIND + SECOND]);
     bytes.extend_from_slice(&header)?;
     set(
         &mut header,
@@ -267,7 +285,7 @@ fn full_table(alloc: Global) -> Result<Vec<u8>, AllocError> {
         set(&mut header, &[(ADDR - KIND, 0x0040_0000 - 4 * i)]);
         bytes.extend_from_slice(&header)?;
     }
-    bytes.extend_from_slice(&sample[84..])?;
+    bytes.extend_from_slice(&SAMPLE[84..])?;
     let end = KIND + SECOND * usize::from(u16::MAX);
     set(&mut bytes, &[(TABLE_LEN, 0xffff), (KIND + 4, end as u32)]);
     Ok(bytes)
@@ -280,5 +298,57 @@ fn a_full_table_is_read(rt: HostRuntime) -> Result<(), Fail> {
         .ok()
         .ok_or("a full table is read")?;
     assert_eq!(rt; program.segments().len(), 65_535);
+    let written = write_elf(rt.alloc(), &program)?;
+    let again = read_elf(rt.alloc(), &written)
+        .ok()
+        .ok_or("what was written is read")?;
+    assert!(rt; again.same(&program));
+    Ok(())
+}
+
+#[test]
+fn a_linked_file_is_read(rt: HostRuntime) -> Result<(), Fail> {
+    let program = read_elf(rt.alloc(), &LINKED)
+        .ok()
+        .ok_or("the linker's file is a program")?;
+    assert_eq!(rt; program.entry(), Addr::new(0x1000));
+    match program.segments() {
+        [text, data] => {
+            assert!(rt; text.exec && !data.exec);
+            assert_eq!(rt; (text.addr, text.size), (0x1000, 20));
+            assert_eq!(rt; (data.addr, data.size), (0x2000, 12));
+            assert_eq!(rt; text.bytes.len(), 20);
+            assert_eq!(rt; data.bytes.as_slice(), [7, 0, 0, 0].as_slice());
+        }
+        _ => assert!(rt; false, "the linker's file has two segments"),
+    }
+    Ok(())
+}
+
+#[test]
+fn writes_files(rt: HostRuntime) -> Result<(), Fail> {
+    let program = read_elf(rt.alloc(), &SAMPLE)
+        .ok()
+        .ok_or("the sample is a program")?;
+    assert_eq!(rt; write_elf(rt.alloc(), &program)?[..], SAMPLE[..]);
+    let program = read_elf(rt.alloc(), &LINKED)
+        .ok()
+        .ok_or("the linker's file is a program")?;
+    let mut want = LINKED;
+    want[ALIGN] = 1;
+    assert_eq!(rt; write_elf(rt.alloc(), &program)?[..], want[..]);
+    Ok(())
+}
+
+// For `rt try --test --fail-alloc N`: a file is read and written whole, or memory ran out.
+#[test]
+fn copies_a_file_or_wants_memory(rt: HostRuntime) -> Result<(), Fail> {
+    match read_elf(rt.alloc(), &SAMPLE) {
+        Ok(program) => match write_elf(rt.alloc(), &program) {
+            Ok(file) => assert_eq!(rt; file[..], SAMPLE[..]),
+            Err(AllocError) => {}
+        },
+        Err(fault) => assert_eq!(rt; fault, LoadFault::NoMemory),
+    }
     Ok(())
 }

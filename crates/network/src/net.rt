@@ -1,4 +1,4 @@
-ghost use Rattle.std.specs.Prelude.{◌≡◌, ◌≢◌, ◌+◌, ◌<◌, ◌≤◌, ℕ, Some, None, min, OnOk, OnErr, IfSome, IfNone};
+ghost use Rattle.std.specs.Prelude.{◌≡◌, ◌≢◌, ◌+◌, ◌<◌, ◌≤◌, ℕ, Some, None, min, OnOk, OnErr, IsSome, IfSome, IfNone};
 ghost use Rattle.std.specs.Fn.{FnReturnsAt};
 ghost use Rattle.network.specs.Flights.{message_at, flight_at, IsOldest, NonePasses, first_of};
 ghost use Rattle.slab.specs.Slab.{HasRoomFor, Updates, get, slab_len};
@@ -93,7 +93,8 @@ impl Net {
         ensures taken { flight_at self.new key ≡ None }
         ensures others { (other : ℕ) → other ≢ key → flight_at self.new other ≡ flight_at self.old other }
         ensures number { self.new.next ≡ self.old.next }
-        ensures room { self.old.room ≤ self.new.room }
+        ensures room { IsSome result → self.new.room ≡ self.old.room + 1 }
+        ensures none { result ≡ None → self.new ≡ self.old }
     {
         match self.slab.try_remove(key) {
             Some(flight) => Some(flight.message),

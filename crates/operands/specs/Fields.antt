@@ -1,6 +1,6 @@
 -- The fields of an instruction word, as whole numbers (RISC-V Unprivileged ISA 20191213, sections 2.2 and 2.3).
 -- The number that stands in n bits of w from bit b up is w / 2 ^ b % 2 ^ n, and k * 2 ^ b puts a number there.
-use Rattle.std.specs.Prelude.{ℕ, ◌+◌, ◌-◌, ◌*◌, ◌/◌, ◌%◌, ◌^◌, ◌<◌}
+use Rattle.std.specs.Prelude.{ℕ, Bool, ◌+◌, ◌-◌, ◌*◌, ◌/◌, ◌%◌, ◌^◌, ◌<◌, ◌==◌}
 
 -- bits 6 to 0
 abbrev pub opcode_of : ℕ → ℕ
@@ -25,6 +25,18 @@ rs2_of w = w / 2 ^ 20 % 2 ^ 5
 -- bits 31 to 25
 abbrev pub funct7_of : ℕ → ℕ
 funct7_of w = w / 2 ^ 25
+
+-- bits 31 to 27: an atomic operation has two bits, aq and rl, in the rest of funct7's place
+abbrev pub funct5_of : ℕ → ℕ
+funct5_of w = w / 2 ^ 27
+
+-- bit 26
+abbrev pub aq_of : ℕ → Bool
+aq_of w = w / 2 ^ 26 % 2 == 1
+
+-- bit 25
+abbrev pub rl_of : ℕ → Bool
+rl_of w = w / 2 ^ 25 % 2 == 1
 
 -- bit 31 in each place from a bit up
 abbrev pub sign_from : ℕ → ℕ → ℕ

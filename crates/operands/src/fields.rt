@@ -1,5 +1,5 @@
-ghost use Rattle.std.specs.Prelude.{◌≡◌, ◌<◌, ◌*◌, ◌/◌, ◌%◌, ◌^◌, bit_and};
-ghost use Rattle.operands.specs.Fields.{opcode_of, rd_of, funct3_of, rs1_of, rs2_of, funct7_of, imm_i_of, imm_s_of, imm_b_of, imm_u_of, imm_j_of, fence_bits_of};
+ghost use Rattle.std.specs.Prelude.{◌≡◌, ◌<◌, ◌*◌, ◌/◌, ◌%◌, ◌^◌, ◌==◌, bit_and};
+ghost use Rattle.operands.specs.Fields.{opcode_of, rd_of, funct3_of, rs1_of, rs2_of, funct7_of, funct5_of, aq_of, rl_of, imm_i_of, imm_s_of, imm_b_of, imm_u_of, imm_j_of, fence_bits_of};
 
 use crate::operand::{AbortOffset, BranchOffset, FenceBits, Imm12, JumpOffset, Shamt, UpperImm};
 use words::Reg;
@@ -20,6 +20,27 @@ pub fn funct7(word: u32) -> u32
     ensures { result ≡ funct7_of word }
 {
     word >> 25
+}
+
+/// What selects an atomic operation, above its bits aq and rl.
+pub fn funct5(word: u32) -> u32
+    ensures { result ≡ funct5_of word }
+{
+    word >> 27
+}
+
+/// Whether an atomic operation acquires.
+pub fn aq(word: u32) -> bool
+    ensures { result ≡ aq_of word }
+{
+    (word >> 26) & 1 == 1
+}
+
+/// Whether an atomic operation releases.
+pub fn rl(word: u32) -> bool
+    ensures { result ≡ rl_of word }
+{
+    (word >> 25) & 1 == 1
 }
 
 pub fn rd(word: u32) -> Reg

@@ -5,3 +5,4 @@ pub mod ConflictTraces
 pub mod AbortTraces
 pub mod SpillTraces
 pub mod NestingTraces
+pub mod AtomicTraces

@@ -48,6 +48,11 @@ loads_word i pc word rd addr v = Retire i pc word (Some (rd, v)) (Some (record {
 abbrev pub stores_word : ℕ → ℕ → ℕ → ℕ → ℕ → Entry
 stores_word i pc word addr v = Retire i pc word None None (Some (record { addr = addr; width = Word; value = v }))
 
+-- a word that is both, by an atomic operation: the old one, which is loaded, and the new one
+abbrev pub operates_on_word : ℕ → ℕ → ℕ → ℕ → ℕ → ℕ → ℕ → Entry
+operates_on_word i pc word rd addr old new =
+    Retire i pc word (Some (rd, old)) (Some (record { addr = addr; width = Word; value = old })) (Some (record { addr = addr; width = Word; value = new }))
+
 -- all entries but those of instructions without an access
 abbrev pub is_of_note : Entry → Bool
 is_of_note (Retire i pc w x None None) = false

@@ -5,3 +5,4 @@ pub mod Conflicts
 pub mod Aborts
 pub mod Spills
 pub mod Nesting
+pub mod Atomics

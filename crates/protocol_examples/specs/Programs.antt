@@ -64,6 +64,9 @@ slli_x7_x7_5 = 0x00539393  -- slli x7, x7, 5
 abbrev pub add_x7_x5_x7 : ℕ
 add_x7_x5_x7 = 0x007283b3  -- add x7, x5, x7
 
+abbrev pub amoadd_x7_x5_x5 : ℕ
+amoadd_x7_x5_x5 = 0x0052a3af  -- amoadd.w x7, x5, (x5)
+
 abbrev pub li_x17_93 : ℕ
 li_x17_93 = 0x05d00893  -- li x17, 93
 
@@ -116,6 +119,12 @@ commit_twice = tbegin ∷ tbegin ∷ lui_x5_2 ∷ sw_x5_x5 ∷ tcommit ∷ tcomm
 
 abbrev pub abort_within : List ℕ
 abort_within = lui_x5_2 ∷ tbegin ∷ lui_x6_3 ∷ tbegin ∷ sw_x5_x5 ∷ tabort ∷ []
+
+abbrev pub load_and_add : List ℕ
+load_and_add = lui_x5_2 ∷ lw_x6_x5 ∷ amoadd_x7_x5_x5 ∷ []
+
+abbrev pub add_twice_and_abort : List ℕ
+add_twice_and_abort = tbegin ∷ lui_x5_2 ∷ amoadd_x7_x5_x5 ∷ amoadd_x7_x5_x5 ∷ tabort ∷ []
 
 -- a store to the text
 abbrev pub store_to_text : List ℕ

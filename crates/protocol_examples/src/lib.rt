@@ -6,6 +6,7 @@
 #![tactic(auto)]
 
 mod aborts;
+mod atomics;
 mod conflicts;
 mod nesting;
 mod sharing;
@@ -15,6 +16,7 @@ pub use aborts::{
     a_full_log_starts_an_abort, a_trap_rolls_the_transaction_back, an_abort_keeps_others_out,
     an_exit_stops_a_hart, the_newest_record_is_undone_first,
 };
+pub use atomics::{an_atomic_operation_asks_to_write, an_atomic_operation_is_undone};
 pub use conflicts::{
     a_store_is_kept_until_the_commit, one_refusal_is_enough, the_later_of_two_gives_way,
 };

@@ -111,12 +111,12 @@ if_some (Some x) P Q f p = f x p
 if_some None P Q f p = tt
 
 -- a hart whose transaction was rolled back
-pub taken_back : (m n : Machine) (i : ℕ) (h new : Hart) (cause : AbortCause)
+pub rolled_back : (m n : Machine) (i : ℕ) (h new : Hart) (cause : AbortCause)
     → i < vec_len m.harts → h ≡ get_or m.harts.items i h
     → setting_of n ≡ setting_of m → vec_len n.memory ≡ vec_len m.memory → n.memory.items ≡ m.memory.items → n.harts.items ≡ set m.harts.items i new
     → ((size : ℕ) → IfSome (hart_of size h).tx (λ t. hart_of size new ≡ hart_aborted (hart_of size h) cause t))
     → IfSome ((flat_of m).hart i).tx (λ t. flat_of n ≡ aborted (flat_of m) i cause t)
-taken_back m n i h new cause lt is setting size mem harts back =
+rolled_back m n i h new cause lt is setting size mem harts back =
     let f = flat_of m in
     let Q = λ (x : FlatHart) (t : Tx). hart_of (vec_len m.memory) new ≡ hart_aborted x cause t in
     let P = λ (x : FlatHart). IfSome x.tx (Q x) in

@@ -4,7 +4,6 @@
 //! carries the flat state on. It has no caches, keeps no logs and sends no messages.
 #![tactic(auto)]
 
-mod boot;
 mod changes;
 mod check;
 mod conflicts;
@@ -12,6 +11,7 @@ mod hart;
 mod machine;
 mod reads;
 mod room;
+mod start;
 mod step;
 
 pub use machine::Machine;

@@ -1,9 +1,8 @@
 ghost use Rattle.std.specs.Prelude.{◌≡◌};
 
 use crate::Machine;
-use elf_samples::elf_file;
+use elf_samples::program;
 use flat::{BootFault, Engine};
-use loader::read_elf;
 use std::alloc::{AllocError, Global};
 use std::test::Fail;
 use words::{AbortCause, Access, Addr, BlockNo, Cause, Entry, HartId, Reg, Status, Step, Width};
@@ -58,6 +57,31 @@ const COUNTS: [u32; 12] = [
     0x0000_0073,
 ];
 
+/// Adds 1 to the word at 0x2000 a hundred times, each time by AMOADD.W outside transactions, and exits with 0.
+const ADDS: [u32; 9] = [
+    0x0640_0413,
+    0x0000_24b7,
+    0x0010_0313,
+    0x0064_a02f,
+    0xfff4_0413,
+    0xfe04_1ce3,
+    0x05d0_0893,
+    0x0000_0513,
+    0x0000_0073,
+];
+
+/// Swaps 7 with the word at 0x2000 in a transaction, by AMOSWAP.W into t2, aborts it, and exits with 0.
+const SWAPS: [u32; 8] = [
+    0x0000_0a0b,
+    0x0000_22b7,
+    0x0070_0313,
+    0x0862_a3af,
+    0x0000_200b,
+    0x05d0_0893,
+    0x0000_0513,
+    0x0000_0073,
+];
+
 /// Stores to one block after another in a transaction, for ever.
 const STORES: [u32; 5] = [
     0x0000_080b,
@@ -91,8 +115,7 @@ fn make_turns(
 }
 
 fn booted(alloc: Global, words: &[u32], harts: u32) -> Result<Machine, Fail> {
-    let program = read_elf(alloc, &elf_file(alloc, words)?)?;
-    Ok(Machine::boot(alloc, program, harts, 65536)?)
+    Ok(Machine::boot(alloc, program(alloc, words)?, harts, 65536)?)
 }
 
 /// Whether the entries are those of a run of the program.
@@ -157,7 +180,7 @@ fn a_transaction_commits(rt: HostRuntime) -> Result<(), Fail> {
 }
 
 #[test]
-fn a_transaction_is_taken_back(rt: HostRuntime) -> Result<(), Fail> {
+fn a_transaction_is_rolled_back(rt: HostRuntime) -> Result<(), Fail> {
     let mut machine = booted(rt.alloc(), &ABORTS, 1)?;
     let mut entries = Vec::new(rt.alloc());
     make_turns(rt.alloc(), &mut machine, zero(), 5, &mut entries)?;
@@ -220,6 +243,60 @@ fn two_harts_count(rt: HostRuntime) -> Result<(), Fail> {
     Ok(())
 }
 
+/// An access to the word at 0x2000.
+fn access(value: u32) -> Access {
+    Access {
+        addr: Addr::new(0x2000),
+        width: Width::Word,
+        value,
+    }
+}
+
+#[test]
+fn two_harts_add_atomically(rt: HostRuntime) -> Result<(), Fail> {
+    let mut machine = booted(rt.alloc(), &ADDS, 2)?;
+    let mut entries = Vec::new(rt.alloc());
+    make_turns(rt.alloc(), &mut machine, one(), 5000, &mut entries)?;
+    assert_eq!(rt; entries.len(), 612);
+    for entry in &entries {
+        assert!(rt; matches!(entry, Entry::Retire { .. }));
+    }
+    assert_eq!(rt; machine.peek(Addr::new(0x2000)), Some(0x0000_00c8));
+    assert!(rt; is_run(rt.alloc(), &ADDS, 2, &entries)?);
+    let second = Entry::Retire {
+        hart: one(),
+        pc: Addr::new(0x100c),
+        word: 0x0064_a02f,
+        write: None,
+        load: Some(access(1)),
+        store: Some(access(2)),
+    };
+    assert_eq!(rt; entries.get(7).copied(), Some(second));
+    Ok(())
+}
+
+#[test]
+fn a_swap_is_taken_back(rt: HostRuntime) -> Result<(), Fail> {
+    let mut machine = booted(rt.alloc(), &SWAPS, 1)?;
+    let mut entries = Vec::new(rt.alloc());
+    make_turns(rt.alloc(), &mut machine, zero(), 4, &mut entries)?;
+    let swap = Entry::Retire {
+        hart: zero(),
+        pc: Addr::new(0x100c),
+        word: 0x0862_a3af,
+        write: Some((Reg::new(7), 0)),
+        load: Some(access(0)),
+        store: Some(access(7)),
+    };
+    assert_eq!(rt; entries.get(3).copied(), Some(swap));
+    assert_eq!(rt; register(&machine, zero(), 7), Some(0));
+    assert_eq!(rt; memory(&machine), (Some(7), Some(0), Some(7), None));
+    make_turns(rt.alloc(), &mut machine, zero(), 1, &mut entries)?;
+    assert_eq!(rt; memory(&machine), (Some(0), Some(0), Some(0), None));
+    assert!(rt; is_run(rt.alloc(), &SWAPS, 1, &entries)?);
+    Ok(())
+}
+
 #[test]
 fn a_full_log_is_an_abort(rt: HostRuntime) -> Result<(), Fail> {
     let full = [Entry::Abort {
@@ -266,7 +343,7 @@ fn transactions_nest_255_deep(rt: HostRuntime) -> Result<(), Fail> {
 #[test]
 fn what_cannot_be_retired_traps(rt: HostRuntime) -> Result<(), Fail> {
     // The first instructions put an address into t0; with one hart and 65,536 bytes the logs begin at 61,440.
-    let cases: [([u32; 3], Cause); 7] = [
+    let cases: [([u32; 3], Cause); 11] = [
         ([0x0000_12b7, 0x0000_0013, 0x0002_a023], Cause::StoreText),
         ([0x0001_02b7, 0x0000_0013, 0xffc2_a303], Cause::LogRegion),
         ([0x0001_02b7, 0x0000_0013, 0x0002_a303], Cause::LoadOutside),
@@ -283,6 +360,14 @@ fn what_cannot_be_retired_traps(rt: HostRuntime) -> Result<(), Fail> {
             Cause::OutsideTransaction,
         ),
         ([0x0000_22b7, 0x0000_0013, 0x0000_0000], Cause::Illegal),
+        // What is both a load and a store, here AMOADD.W, has the causes of a store.
+        (
+            [0x0000_22b7, 0x0022_8293, 0x0072_a32f],
+            Cause::StoreMisaligned,
+        ),
+        ([0x0000_12b7, 0x0000_0013, 0x0072_a32f], Cause::StoreText),
+        ([0x0001_02b7, 0x0000_0013, 0x0072_a32f], Cause::StoreOutside),
+        ([0x0000_f2b7, 0x0000_0013, 0x0072_a32f], Cause::LogRegion),
     ];
     for (words, cause) in &cases {
         let mut machine = booted(rt.alloc(), words, 1)?;
@@ -318,8 +403,7 @@ fn boot_gives_stacks_and_refuses_in_order(rt: HostRuntime) -> Result<(), Fail> {
         (0, 65536, BootFault::BadHarts),
         (8, 65536, BootFault::DoesNotFit),
     ] {
-        let program = read_elf(rt.alloc(), &elf_file(rt.alloc(), &COMMITS)?)?;
-        match Machine::boot(rt.alloc(), program, harts, size) {
+        match Machine::boot(rt.alloc(), program(rt.alloc(), &COMMITS)?, harts, size) {
             Ok(_) => assert!(rt; false, "booted with {harts} harts and {size} bytes"),
             Err(refused) => assert_eq!(rt; refused, fault),
         }

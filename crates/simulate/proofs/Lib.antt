@@ -1,5 +1,3 @@
-pub mod Putting
-pub mod Pieces
 pub mod Reading
 pub mod Turning
 pub mod Reported

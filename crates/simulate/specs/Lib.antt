@@ -1,5 +1,4 @@
 pub mod Sinks
-pub mod Numerals
 pub mod Reports
 pub mod Faults
 pub mod Statuses

@@ -8,7 +8,7 @@ use Rattle.words.specs.declared.entry.Width.TheVariants.{Word}
 use Rattle.words.specs.Bytes.{number_at}
 use Rattle.flat.specs.State.{Flat, Setting}
 use Rattle.flat.specs.Reads.{is_readable}
-use Rattle.simulate.specs.Numerals.{hexadecimal}
+use Rattle.texts.specs.Numerals.{hexadecimal}
 
 abbrev pub line_end : List ℕ
 line_end = 10 ∷ []

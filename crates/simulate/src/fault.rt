@@ -1,14 +1,15 @@
 ghost use Rattle.std.specs.Prelude.{◌≡◌};
 ghost use Rattle.simulate.specs.Faults.{fault_status, fault_text, line, refusal_line, of_order, of_load, of_boot};
-ghost use Rattle.simulate.specs.Sinks.{IsPut, Puts};
+ghost use Rattle.simulate.specs.Sinks.{IsPut};
+ghost use Rattle.texts.specs.Puts.{Puts};
 ghost use Rattle.simulate.specs.declared.fault.Fault.TheVariants.{NoMemory, Unwritten};
 
-use crate::lines::put_all;
 use command_line::OrderFault;
 use flat::BootFault;
 use itoa::Buffer;
 use loader::LoadFault;
 use std::alloc::{AllocError, AllocFailed};
+use texts::put_all;
 use words::{Sink, SinkFault};
 
 /// Why the program didn't do what it was asked for.

@@ -4,7 +4,6 @@
 mod asked;
 mod drive;
 mod fault;
-mod lines;
 mod perform;
 mod readable;
 mod report;

@@ -5,12 +5,12 @@ ghost use Rattle.words.specs.Bytes.{number_at};
 ghost use Rattle.flat.specs.State.{Flat};
 ghost use Rattle.flat.specs.Reads.{is_readable};
 ghost use Rattle.simulate.specs.Reports.{output_text, status_text, hart_text, harts_text, word_text, words_text, report_of, AllReadable};
-ghost use Rattle.simulate.specs.Sinks.{Puts};
+ghost use Rattle.texts.specs.Puts.{Puts};
 
-use crate::lines::{hexadecimal, put_all};
 use crate::status::status_of;
 use flat::Engine;
 use itoa::Buffer;
+use texts::{hexadecimal, put_all};
 use words::{Addr, Cause, HartId, Sink, SinkFault, Status};
 
 /// Puts what became of a machine: for each hart in order its output, if there is any, and whether it runs or how it

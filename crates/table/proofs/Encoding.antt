@@ -1,10 +1,11 @@
 -- The word of an instruction, put together from its fields. It shows that an instruction has one word at most.
 use Rattle.std.proofs.Common.{ℕ, ◌≡◌, ◌+◌, ◌*◌, ◌/◌, ◌%◌, ◌^◌, arith}
 use Rattle.operands.specs.Fields.{opcode_of, funct3_of, fence_bits_of}
-use Rattle.operands.proofs.Layouts.{r_word, i_word, s_word, b_word, u_word, j_word}
+use Rattle.operands.proofs.Layouts.{r_word, amo_word, i_word, s_word, b_word, u_word, j_word}
 use Rattle.table.specs.Table.{branch_row, load_row, store_row, imm_row, shift_row, op_row}
+use Rattle.table.specs.Atomics.{amo_row}
 use Rattle.table.specs.declared.instr.Instr.{Instr}
-use Rattle.table.specs.declared.instr.Instr.TheVariants.{Lui, Auipc, Jal, Jalr, Branch, Load, Store, OpImm, ShiftImm, Op, Fence, Ecall, Ebreak, TBegin, TCommit, TAbort}
+use Rattle.table.specs.declared.instr.Instr.TheVariants.{Lui, Auipc, Jal, Jalr, Branch, Load, Store, OpImm, ShiftImm, Op, Amo, Fence, Ecall, Ebreak, TBegin, TCommit, TAbort}
 
 -- a fence's word, from its other bits
 abbrev pub fence_word : ℕ → ℕ
@@ -22,6 +23,7 @@ encoded (Store op s t i) = s_word 0x23 (store_row op).funct3 s t i
 encoded (OpImm op d s i) = i_word 0x13 d (imm_row op).funct3 s i
 encoded (ShiftImm op d s k) = r_word 0x13 d (shift_row op).funct3 s k (shift_row op).funct7
 encoded (Op op d s t) = r_word 0x33 d (op_row op).funct3 s t (op_row op).funct7
+encoded (Amo op d s t a r) = amo_word 0x2f d 0x2 s t (amo_row op).funct5 a r
 encoded (Fence r) = fence_word r
 encoded Ecall = 0x00000073
 encoded Ebreak = 0x00100073

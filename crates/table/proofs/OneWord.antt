@@ -1,14 +1,15 @@
 -- No two words are decoded to one instruction.
 use Rattle.std.proofs.Common.{◌≡◌, ℕ, ◌<◌, ◌^◌, Bool, true, false, cond, List, [], ◌∷◌, Option, Some, refl, sym, ◌∙◌}
 use Rattle.std.proofs.lemmas.Option.{same_Some}
-use Rattle.operands.specs.Fields.{opcode_of, rd_of, rs1_of, rs2_of, imm_i_of, imm_s_of, imm_b_of, imm_u_of, imm_j_of, fence_bits_of}
+use Rattle.operands.specs.Fields.{opcode_of, rd_of, rs1_of, rs2_of, aq_of, rl_of, imm_i_of, imm_s_of, imm_b_of, imm_u_of, imm_j_of, fence_bits_of}
 use Rattle.table.specs.Table.{Row, fits, key, instr, table, instr_in, decoded, branch_row, load_row, store_row, imm_row, shift_row, op_row}
-use Rattle.table.specs.Table.Key.{Opcode, Funct3, Funct7, Word, Masked}
-use Rattle.table.specs.Table.Row.{LUI, AUIPC, JAL, JALR, BRANCH, LOAD, STORE, OP_IMM, SHIFT_IMM, OP, FENCE, ECALL, EBREAK, TBEGIN, TCOMMIT, TABORT}
+use Rattle.table.specs.Atomics.{amo_row}
+use Rattle.table.specs.Table.Key.{Opcode, Funct3, Funct7, Funct5, Word, Masked}
+use Rattle.table.specs.Table.Row.{LUI, AUIPC, JAL, JALR, BRANCH, LOAD, STORE, OP_IMM, SHIFT_IMM, OP, AMO, FENCE, ECALL, EBREAK, TBEGIN, TCOMMIT, TABORT}
 use Rattle.table.specs.declared.instr.Instr.{Instr}
-use Rattle.operands.proofs.Layouts.{r_word, i_word, s_word, b_word, u_word, j_word, r_word-fields, i_word-fields, s_word-fields, b_word-fields, u_word-fields, j_word-fields}
+use Rattle.operands.proofs.Layouts.{r_word, amo_word, i_word, s_word, b_word, u_word, j_word, r_word-fields, amo_word-fields, i_word-fields, s_word-fields, b_word-fields, u_word-fields, j_word-fields}
 use Rattle.table.proofs.Encoding.{fence_word, encoded, fence_word-fields}
-use Rattle.table.proofs.Keys.{op_fits, f3_fits, f7_fits, word_fits, masked_fits, FitsF3, FitsF3F7}
+use Rattle.table.proofs.Keys.{op_fits, f3_fits, f7_fits, f5_fits, word_fits, masked_fits, FitsF3, FitsF3F7, FitsF3F5}
 use Rattle.operands.proofs.Begin.{passing_fields, BeginFields}
 
 -- a row's words are those of its instructions
@@ -33,6 +34,9 @@ b_row o f w h fit = let e : FitsF3 o f w = f3_fits o f w fit in rw (← e.opcode
 r_row : (o f g w : ℕ) → w < 2 ^ 32 → fits (Funct7 o f g) w ≡ true → r_word o (rd_of w) f (rs1_of w) (rs2_of w) g ≡ w
 r_row o f g w h fit = let e : FitsF3F7 o f g w = f7_fits o f g w fit in rw (← e.opcode, ← e.funct3, ← e.funct7) (r_word-fields w)
 
+amo_word_row : (o f g w : ℕ) → w < 2 ^ 32 → fits (Funct5 o f g) w ≡ true → amo_word o (rd_of w) f (rs1_of w) (rs2_of w) g (aq_of w) (rl_of w) ≡ w
+amo_word_row o f g w h fit = let e : FitsF3F5 o f g w = f5_fits o f g w fit in rw (← e.opcode, ← e.funct3, ← e.funct5) (amo_word-fields w)
+
 fence_row : (w : ℕ) → w < 2 ^ 32 → fits (Funct3 0x0f 0x0) w ≡ true → fence_word (fence_bits_of w) ≡ w
 fence_row w h fit = let e : FitsF3 0x0f 0x0 w = f3_fits 0x0f 0x0 w fit in fence_word-fields w e.opcode e.funct3
 
@@ -53,6 +57,7 @@ is_back (STORE op) = s_row 0x23 (store_row op).funct3
 is_back (OP_IMM op) = i_row 0x13 (imm_row op).funct3
 is_back (SHIFT_IMM op) = r_row 0x13 (shift_row op).funct3 (shift_row op).funct7
 is_back (OP op) = r_row 0x33 (op_row op).funct3 (op_row op).funct7
+is_back (AMO op) = amo_word_row 0x2f 0x2 (amo_row op).funct5
 is_back FENCE = fence_row
 is_back ECALL = word_row 0x00000073
 is_back EBREAK = word_row 0x00100073

@@ -1,3 +1,4 @@
+pub mod Atomics
 pub mod Effects
 pub mod Numbers
 pub mod Program

@@ -1,5 +1,5 @@
 -- The segments of a program, and the words of its text.
-use Rattle.std.specs.Prelude.{ℕ, Bool, cond, ◌&&◌, nat_le, nat_lt, ◌+◌, ◌-◌, Option, Some, None, List, [], ◌∷◌, slice_index}
+use Rattle.std.specs.Prelude.{ℕ, ◌<◌, Bool, cond, ◌&&◌, nat_le, nat_lt, ◌+◌, ◌-◌, Option, Some, None, List, [], ◌∷◌, slice_index}
 use Rattle.std.specs.List.{list_any}
 use Rattle.words.specs.declared.entry.Width.TheVariants.{Word}
 use Rattle.words.specs.Bytes.{number_at}
@@ -11,6 +11,11 @@ pub record Segment : Type 0 where
   pub bytes : List ℕ
   pub size : ℕ
   pub exec : Bool
+
+-- what segments begin with are bytes
+abbrev pub AreBytes : List Segment → Type 0
+AreBytes [] = Unit {0}
+AreBytes (s ∷ ss) = ((k : ℕ) → slice_index s.bytes k < 256) × AreBytes ss
 
 -- whether a number of bytes from an address on lie in a segment
 abbrev pub holds : Segment → ℕ → ℕ → Bool

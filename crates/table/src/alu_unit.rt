@@ -1,14 +1,27 @@
 ghost use Rattle.std.specs.Prelude.{◌≡◌, ◌<◌, ◌%◌};
-ghost use Rattle.table.specs.Numbers.{is_less_signed, shifted_left, shifted_right, shifted_right_signed, bit_of};
+ghost use Rattle.table.specs.Numbers.{is_less_signed, min_signed, max_signed, shifted_left, shifted_right, shifted_right_signed, bit_of};
 ghost use Rattle.table.specs.Numbers.{widened, upper_product, magnitude, with_sign, differ_in_sign, quotient, remainder, quotient_signed, remainder_signed};
+ghost use Rattle.table.specs.Atomics.{amo_row};
 ghost use Rattle.table.specs.Table.{branch_row, imm_row, shift_row, op_row};
 
-use crate::instr::{AluOp, BranchOp, ImmOp, ShiftOp};
+use crate::instr::{AluOp, AmoOp, BranchOp, ImmOp, ShiftOp};
 
 fn is_less(a: u32, b: u32) -> bool
     ensures { result ≡ is_less_signed a b }
 {
     a.wrapping_add(0x8000_0000) < b.wrapping_add(0x8000_0000)
+}
+
+fn min_signed(a: u32, b: u32) -> u32
+    ensures { result ≡ min_signed a b }
+{
+    if is_less(a, b) { a } else { b }
+}
+
+fn max_signed(a: u32, b: u32) -> u32
+    ensures { result ≡ max_signed a b }
+{
+    if is_less(a, b) { b } else { a }
 }
 
 fn shift_left(a: u32, amount: u32) -> u32
@@ -171,5 +184,22 @@ pub fn alu(op: AluOp, a: u32, b: u32) -> u32
         AluOp::Divu => divide(a, b),
         AluOp::Rem => remainder_signed(a, b),
         AluOp::Remu => remainder(a, b),
+    }
+}
+
+/// What an atomic operation puts in the place of the old word.
+pub fn finish_amo(op: AmoOp, old: u32, b: u32) -> u32
+    ensures { result ≡ (amo_row op).value old b }
+{
+    match op {
+        AmoOp::Add => old.wrapping_add(b),
+        AmoOp::Swap => b,
+        AmoOp::Xor => old ^ b,
+        AmoOp::Or => old | b,
+        AmoOp::And => old & b,
+        AmoOp::Min => min_signed(old, b),
+        AmoOp::Max => max_signed(old, b),
+        AmoOp::Minu => old.min(b),
+        AmoOp::Maxu => old.max(b),
     }
 }

@@ -4,10 +4,10 @@ ghost use Rattle.std.specs.Prelude.{◌≡◌};
 ghost use Rattle.operands.specs.Fields.{opcode_of, funct3_of};
 ghost use Rattle.table.specs.Table.{decoded};
 
-use crate::instr::{AluOp, BranchOp, ImmOp, Instr, LoadOp, ShiftOp, StoreOp};
+use crate::instr::{AluOp, AmoOp, BranchOp, ImmOp, Instr, LoadOp, ShiftOp, StoreOp};
 use operands::{
-    abort_offset, fence_bits, funct3, funct7, imm_b, imm_i, imm_j, imm_s, imm_u, opcode, rd, rs1,
-    rs2, shamt,
+    abort_offset, aq, fence_bits, funct3, funct5, funct7, imm_b, imm_i, imm_j, imm_s, imm_u,
+    opcode, rd, rl, rs1, rs2, shamt,
 };
 
 /// The instruction that a word is, or `None` if it is illegal.
@@ -33,6 +33,7 @@ pub fn decode(word: u32) -> Option<Instr>
         0x23 => decode_store(word),
         0x13 => decode_op_imm(word),
         0x33 => decode_op(word),
+        0x2f => decode_amo(word),
         0x0f => decode_fence(word),
         0x73 => decode_system(word),
         0x0b => decode_transaction(word),
@@ -199,6 +200,35 @@ fn decode_op(word: u32) -> Option<Instr>
         rd: rd(word),
         rs1: rs1(word),
         rs2: rs2(word),
+    })
+}
+
+fn decode_amo(word: u32) -> Option<Instr>
+    requires { opcode_of word ≡ 0x2f }
+    ensures { result ≡ decoded word }
+{
+    if funct3(word) != 2 {
+        return None;
+    }
+    let op = match funct5(word) {
+        0x00 => AmoOp::Add,
+        0x01 => AmoOp::Swap,
+        0x04 => AmoOp::Xor,
+        0x08 => AmoOp::Or,
+        0x0c => AmoOp::And,
+        0x10 => AmoOp::Min,
+        0x14 => AmoOp::Max,
+        0x18 => AmoOp::Minu,
+        0x1c => AmoOp::Maxu,
+        _ => return None,
+    };
+    Some(Instr::Amo {
+        op,
+        rd: rd(word),
+        rs1: rs1(word),
+        rs2: rs2(word),
+        aq: aq(word),
+        rl: rl(word),
     })
 }
 

@@ -1,11 +1,11 @@
 ghost use Rattle.std.specs.Prelude.{◌≡◌, ◌<◌, ◌*◌, ◌/◌, ◌%◌, ◌^◌, ℕ, bit_and, Some};
-ghost use Rattle.operands.specs.Fields.{opcode_of, rd_of, funct3_of, rs1_of, rs2_of, funct7_of, imm_i_of, imm_s_of, imm_b_of, imm_u_of, imm_j_of, fence_bits_of};
+ghost use Rattle.operands.specs.Fields.{opcode_of, rd_of, funct3_of, rs1_of, rs2_of, funct7_of, funct5_of, aq_of, rl_of, imm_i_of, imm_s_of, imm_b_of, imm_u_of, imm_j_of, fence_bits_of};
 ghost use Rattle.table.specs.Table.{decoded};
 
-use crate::instr::{AluOp, BranchOp, ImmOp, Instr, LoadOp, ShiftOp, StoreOp};
+use crate::instr::{AluOp, AmoOp, BranchOp, ImmOp, Instr, LoadOp, ShiftOp, StoreOp};
 use operands::{
-    AbortOffset, BranchOffset, FenceBits, Imm12, Shamt, b_word, i_word, j_word, r_word, s_word,
-    u_word,
+    AbortOffset, BranchOffset, FenceBits, Imm12, Shamt, amo_word, b_word, i_word, j_word, r_word,
+    s_word, u_word,
 };
 use words::Reg;
 
@@ -43,6 +43,14 @@ fn word_of(instr: Instr) -> u32
             amount,
         } => encode_shift_imm(op, rd, rs1, amount),
         Instr::Op { op, rd, rs1, rs2 } => encode_op(op, rd, rs1, rs2),
+        Instr::Amo {
+            op,
+            rd,
+            rs1,
+            rs2,
+            aq,
+            rl,
+        } => encode_amo(op, rd, rs1, rs2, aq, rl),
         Instr::Fence { bits } => fence_word(bits),
         Instr::Ecall => 0x0000_0073,
         Instr::Ebreak => 0x0010_0073,
@@ -145,6 +153,24 @@ fn encode_op(op: AluOp, rd: Reg, rs1: Reg, rs2: Reg) -> u32
         AluOp::Remu => (7, 1),
     };
     r_word(0x33, rd, funct3, rs1, rs2.index() as u32, funct7)
+}
+
+#[tactic(auto, unfolding(crate::specs::Table::decoded))]
+fn encode_amo(op: AmoOp, rd: Reg, rs1: Reg, rs2: Reg, aq: bool, rl: bool) -> u32
+    ensures { decoded result ≡ Some (Instr.Amo op rd rs1 rs2 aq rl) }
+{
+    let funct5 = match op {
+        AmoOp::Add => 0x00,
+        AmoOp::Swap => 0x01,
+        AmoOp::Xor => 0x04,
+        AmoOp::Or => 0x08,
+        AmoOp::And => 0x0c,
+        AmoOp::Min => 0x10,
+        AmoOp::Max => 0x14,
+        AmoOp::Minu => 0x18,
+        AmoOp::Maxu => 0x1c,
+    };
+    amo_word(0x2f, rd, 2, rs1, rs2, funct5, aq, rl)
 }
 
 fn fence_word(bits: FenceBits) -> u32

@@ -72,7 +72,21 @@ pub enum AluOp {
     Remu,
 }
 
-/// An instruction of RV32IM (RISC-V Unprivileged ISA 20191213, chapters 2 and 7), or one of the three words for
+/// An atomic operation on a word of memory.
+#[derive(Clone, Copy, Debug, PartialEq, Eq)]
+pub enum AmoOp {
+    Add,
+    Swap,
+    Xor,
+    Or,
+    And,
+    Min,
+    Max,
+    Minu,
+    Maxu,
+}
+
+/// An instruction of RV32IM or an AMO.W (RISC-V Unprivileged ISA 20191213, chapters 2, 7 and 8), or one of the three words for
 /// transactions, which stand in the custom-0 opcode. Each value has one word, and each legal word one value.
 #[derive(Clone, Copy, Debug, PartialEq, Eq)]
 pub enum Instr {
@@ -128,6 +142,15 @@ pub enum Instr {
         rd: Reg,
         rs1: Reg,
         rs2: Reg,
+    },
+    /// `aq` and `rl` are kept and have no effect: each access is in order already.
+    Amo {
+        op: AmoOp,
+        rd: Reg,
+        rs1: Reg,
+        rs2: Reg,
+        aq: bool,
+        rl: bool,
     },
     Fence {
         bits: FenceBits,

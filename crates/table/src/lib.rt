@@ -12,6 +12,7 @@ mod laws;
 mod tests;
 mod text;
 
+pub use alu_unit::finish_amo;
 pub use decoder::decode;
 pub use effect::{Act, Effect, Load, MemoryAct, Store};
 pub use encoder::encode;
@@ -19,6 +20,6 @@ pub use executor::{
     byte_count, effect_at, execute, extend_load, finish_load, finish_store, register,
     write_register, write_to,
 };
-pub use instr::{AluOp, BranchOp, ImmOp, Instr, LoadOp, ShiftOp, StoreOp};
+pub use instr::{AluOp, AmoOp, BranchOp, ImmOp, Instr, LoadOp, ShiftOp, StoreOp};
 pub use laws::one_row;
 pub use text::{Segment, Text};

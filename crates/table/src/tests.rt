@@ -1,13 +1,13 @@
 mod tables;
 
 use crate::{
-    Act, AluOp, BranchOp, Effect, ImmOp, Instr, Load, LoadOp, MemoryAct, Segment, ShiftOp, Store,
-    StoreOp, Text, byte_count, decode, effect_at, encode, execute, extend_load, finish_load,
-    finish_store, one_row, register, write_register, write_to,
+    Act, AluOp, AmoOp, BranchOp, Effect, ImmOp, Instr, Load, LoadOp, MemoryAct, Segment, ShiftOp,
+    Store, StoreOp, Text, byte_count, decode, effect_at, encode, execute, extend_load, finish_amo,
+    finish_load, finish_store, one_row, register, write_register, write_to,
 };
 use std::fmt::Write;
 use std::test::Fail;
-use tables::{BRANCHES, LINES, VALUES, WORDS};
+use tables::{ATOMICS, BRANCHES, LINES, VALUES, WORDS};
 use words::{Addr, Cause, Reg, Regs, Width};
 
 /// The assembler's name of an instruction, and its operands in the order of the table `LINES`.
@@ -37,6 +37,13 @@ fn name_and_operands(instr: &Instr) -> (&'static str, [u32; 3]) {
             amount,
         } => (shift_name(op), [number(rd), number(rs1), amount.value()]),
         Instr::Op { op, rd, rs1, rs2 } => (alu_name(op), [number(rd), number(rs1), number(rs2)]),
+        Instr::Amo {
+            op,
+            rd,
+            rs1,
+            rs2,
+            ..
+        } => (amo_name(op), [number(rd), number(rs1), number(rs2)]),
         Instr::Fence { bits } => (
             "fence",
             [(bits.value() >> 14) & 0xf, (bits.value() >> 10) & 0xf, 0],
@@ -124,6 +131,20 @@ fn alu_name(op: AluOp) -> &'static str {
     }
 }
 
+fn amo_name(op: AmoOp) -> &'static str {
+    match op {
+        AmoOp::Add => "amoadd.w",
+        AmoOp::Swap => "amoswap.w",
+        AmoOp::Xor => "amoxor.w",
+        AmoOp::Or => "amoor.w",
+        AmoOp::And => "amoand.w",
+        AmoOp::Min => "amomin.w",
+        AmoOp::Max => "amomax.w",
+        AmoOp::Minu => "amominu.w",
+        AmoOp::Maxu => "amomaxu.w",
+    }
+}
+
 #[test]
 fn words_are_the_assemblers(rt: HostRuntime) -> Result<(), Fail> {
     let mut lines = String::new(rt.alloc());
@@ -152,6 +173,10 @@ fn other_words_are_illegal(rt: HostRuntime) -> Result<(), Fail> {
         0x0000_3003, // LD
         0x0000_3023, // SD
         0x0400_0033, // funct7 2
+        0x1002_a52f, // LR.W
+        0x18b2_a52f, // SC.W
+        0x28b2_a52f, // funct5 5
+        0x00b2_b52f, // AMOADD.D
         0x0000_1067, // JALR with funct3 1
         0x0020_0073, // URET
         0x0000_00f3, // ECALL with rd 1
@@ -214,6 +239,56 @@ fn values_are_the_c_compilers(rt: HostRuntime) -> Result<(), Fail> {
             want,
             "{word:08x} at {a:x} {b:x}"
         );
+    }
+    Ok(())
+}
+
+#[test]
+fn atomic_operations_load_and_store(rt: HostRuntime) -> Result<(), Fail> {
+    let pc = Addr::new(0x1000);
+    for (word, op, old, b, new) in ATOMICS {
+        let want = Act::Memory(MemoryAct {
+            addr: Addr::new(0x2004),
+            width: Width::Word,
+            load: Some(Load {
+                rd: Reg::new(7),
+                signed: false,
+            }),
+            store: Some(Store::Atomic(op, b)),
+        });
+        assert_eq!(rt;
+            effect_at(word, pc, &with_values(0x2004, b)),
+            goes_on(None, want),
+            "{word:08x}"
+        );
+        assert_eq!(rt; finish_amo(op, old, b), new, "{word:08x} at {old:x} {b:x}");
+        assert_eq!(rt; finish_store(Store::Atomic(op, b), old), new);
+    }
+    Ok(())
+}
+
+/// amoadd.w x10, x11, (x5), with these bits.
+fn add_in_order(aq: bool, rl: bool) -> Instr {
+    Instr::Amo {
+        op: AmoOp::Add,
+        rd: Reg::new(10),
+        rs1: Reg::new(5),
+        rs2: Reg::new(11),
+        aq,
+        rl,
+    }
+}
+
+#[test]
+fn order_bits_are_operands(rt: HostRuntime) -> Result<(), Fail> {
+    for (word, aq, rl) in [
+        (0x00b2_a52f, false, false),
+        (0x04b2_a52f, true, false),
+        (0x02b2_a52f, false, true),
+        (0x06b2_a52f, true, true),
+    ] {
+        assert_eq!(rt; decode(word), Some(add_in_order(aq, rl)));
+        assert_eq!(rt; encode(add_in_order(aq, rl)), word);
     }
     Ok(())
 }

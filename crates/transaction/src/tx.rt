@@ -134,9 +134,8 @@ impl Tx {
         Ok(())
     }
 
-    /// Starts to abort the whole transaction.
+    /// Starts to abort the whole transaction. One that is being aborted goes on with this cause.
     pub fn start_abort(&mut self, cause: AbortCause) -> Result<(), TxFault>
-        requires { self.old.aborting ≡ None }
         ensures inside { IsOk result ↔ (0 < self.old.depth) }
         ensures ok { OnOk result (self.new ≡ record self.old { aborting = Some cause }) }
         ensures fault { IfErr result (λ fault. fault ≡ TxFault.Outside) }

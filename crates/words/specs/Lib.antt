@@ -1,9 +1,9 @@
 pub mod Bytes
 pub mod Causes
+pub mod First
 pub mod Harts
 pub mod Limits
 pub mod LineStates
 pub mod Marks
 pub mod Stamps
 pub mod Taken
-pub mod Tests

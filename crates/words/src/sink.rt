@@ -1,5 +1,6 @@
 ghost use Rattle.std.specs.Prelude.{◌≡◌, ◌+◌, ◌≤◌, ◌++◌, ℕ, List, Option, Some, None, min, length, take, OnOk, OnErr, codes};
 ghost use Rattle.std.specs.Option.{option_map};
+ghost use Rattle.std.specs.Io.KnownBytes.{Appends};
 ghost use Rattle.words.specs.Taken.{TookBeginning};
 
 use std::fmt;
@@ -56,7 +57,8 @@ impl Sink for Taken {
     }
 }
 
-/// A sink over a writer, as a file or standard output, which tells only how many puts failed.
+/// A sink over a writer, as a file or standard output. As a sink it tells only how many puts failed, since a write that fails says nothing of
+/// what was written before.
 pub struct Counted<W> {
     pub writer: W,
     pub failed: u64,
@@ -67,7 +69,12 @@ impl<W: Write> Sink for Counted<W> {
 
     ghost taken = { λ _. None };
 
-    fn put(&mut self, bytes: &[u8]) -> Result<(), SinkFault> {
+    fn put(&mut self, bytes: &[u8]) -> Result<(), SinkFault>
+        ensures clean { OnOk result (self.new.failed ≡ self.old.failed) }
+        ensures fault { OnErr result (self.new.failed ≡ min (self.old.failed + 1) 18446744073709551615) }
+        // What the writer tells of its bytes.
+        ensures written { OnOk result (Appends (W.contents self.old.writer) (W.contents self.new.writer) bytes.now) }
+    {
         match self.writer.write_all(bytes) {
             Ok(()) => Ok(()),
             Err(_) => {

@@ -17,7 +17,8 @@ use Rattle.protocol.specs.Machine.{Machine, Steps, Runs}
 use Rattle.protocol.specs.Network.{LiesBelow}
 use Rattle.protocol.specs.Start.{start}
 use Rattle.protocol.proofs.Splits.{runs_then, runs_at}
-use Rattle.isolation.specs.Belongs.{AreBytes, Belongs}
+use Rattle.table.specs.Program.{AreBytes}
+use Rattle.isolation.specs.Belongs.{Belongs}
 use Rattle.isolation.specs.Answers.{AnswersAs}
 use Rattle.isolation.specs.Facts.{LogsUndo, LogsFit}
 use Rattle.isolation.proofs.Machine.Slots.{Mail}

@@ -8,7 +8,7 @@ use Rattle.protocol.specs.Hart.{LogRecord, log_of}
 use Rattle.protocol.specs.Network.{LiesBelow}
 use Rattle.protocol.specs.Values.{restored, all_restored, committed, is_logged, raw, peek, view}
 use Rattle.one_block.proofs.Model.State.{Aborting, Own}
-use Rattle.one_block.proofs.Invariant.Laws.{restored as image_of, taken_back, view_by, seen as seen_by}
+use Rattle.one_block.proofs.Invariant.Laws.{restored as image_of, rolled_back, view_by, seen as seen_by}
 use Rattle.one_block.proofs.Invariant.Each.{is_at, Logs}
 use Rattle.isolation.proofs.Machine.World.{World, tx_at, images_of, project}
 use Rattle.isolation.proofs.Machine.Invariant.{Inv}
@@ -27,11 +27,11 @@ restored_is (r ∷ rest) b words = go (r.block == b) (restored_is rest b)
     go false same = same words
 
 -- the same with the logs of all harts below n
-all_is : (x : World) (b n : ℕ) (words : Block) → all_restored n x.machine b words ≡ taken_back n (project b x) words
+all_is : (x : World) (b n : ℕ) (words : Block) → all_restored n x.machine b words ≡ rolled_back n (project b x) words
 all_is x b zero words = refl
 all_is x b (suc n) words =
     ap (restored (log_of (x.machine.harts n).tx) b) (all_is x b n words)
-    ∙ restored_is (log_of (x.machine.harts n).tx) b (taken_back n (project b x) words)
+    ∙ restored_is (log_of (x.machine.harts n).tx) b (rolled_back n (project b x) words)
 
 -- a hart sees the value in place where its log has a record of the block, and else memory without running transactions
 shown_is : (log : List LogRecord) (b p q a : ℕ) (u w : Block) → p ≡ byte_in u a → q ≡ byte_in w a → cond (is_logged log b) p q ≡ byte_in (view_by (images_of b log) u w) a

@@ -12,7 +12,7 @@ use Rattle.one_block.proofs.Model.Start.{at_rest}
 use Rattle.one_block.proofs.Model.Start as one_block
 use Rattle.one_block.proofs.Invariant.Each.{Good}
 use Rattle.one_block.proofs.Facts.Runs.{begins}
-use Rattle.isolation.specs.Belongs.{AreBytes}
+use Rattle.table.specs.Program.{AreBytes}
 use Rattle.isolation.proofs.Machine.Sends.{Carried}
 use Rattle.isolation.proofs.Machine.World.{World, writes_at, access_at, project}
 use Rattle.isolation.proofs.Machine.Invariant.{TxIs, HartIs, Inv}

@@ -18,7 +18,7 @@ use Rattle.flat.proofs.Covered.{act_covered}
 use Rattle.flat.proofs.Entries.{retired_by, aborted_by, hart_retired, hart_back, others_stay}
 use Rattle.flat.proofs.Maps.{one_number, two_numbers, put_there}
 use Rattle.flat.proofs.Next.{next_ok}
-use Rattle.isolation.specs.Belongs.{AreBytes}
+use Rattle.table.specs.Program.{AreBytes}
 use Rattle.isolation.proofs.Machine.Invariant.{IsByte, HasBytes}
 use Rattle.isolation.proofs.Words.Laying.{WritesBytes, WritesWithin, seen_small}
 

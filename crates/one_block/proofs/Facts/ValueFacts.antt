@@ -11,7 +11,7 @@ use Rattle.one_block.proofs.Model.Core.{enough}
 use Rattle.one_block.proofs.Model.Directory.{Rights, Owns, Shares, Sticks, Nothing, standing}
 use Rattle.one_block.proofs.Invariant.Roles.{Role, Aside, Told, Acking, Nacking, Answered, Refused, Asks, Ends, Fails, Ghost, rights}
 use Rattle.one_block.proofs.Invariant.Parts.{Ctx, Part}
-use Rattle.one_block.proofs.Invariant.Laws.{seen, restored, taken_back, view_by, Values, Accesses}
+use Rattle.one_block.proofs.Invariant.Laws.{seen, restored, rolled_back, view_by, Values, Accesses}
 use Rattle.one_block.proofs.Invariant.Each.{is_at, oldest, IsLogged, Logs, Sound, Agree, ctx, Inv}
 use Rattle.one_block.proofs.Rows.ValueChanges.{sole, sole_rights, nothing_unwritten, nothing_unread}
 use Rattle.one_block.proofs.Steps.KeepsOwn.{alone}
@@ -114,7 +114,7 @@ module _ (n : ℕ) (s : One) (b : Option (ℕ × LineState)) (a : Role) (cur : B
 
   -- the logs rolled back
   Back : ℕ → Type 0
-  Back k = (taken_back k s cur ≡ s.flat) ⊎ ((taken_back k s cur ≡ cur) × ((h : ℕ) → h < k → (s.hart h).own.images ≡ []))
+  Back k = (rolled_back k s cur ≡ s.flat) ⊎ ((rolled_back k s cur ≡ cur) × ((h : ℕ) → h < k → (s.hart h).own.images ≡ []))
 
   back : (k : ℕ) → ((h : ℕ) → h < k → h < n) → Back k
   unfolding Back
@@ -124,8 +124,8 @@ module _ (n : ℕ) (s : One) (b : Option (ℕ × LineState)) (a : Role) (cur : B
       o : k < n
       o = f k (omega arith)
 
-      here : (s.hart k).own.images ≡ [] → restored (s.hart k).own.images (taken_back k s cur) ≡ taken_back k s cur
-      here e = ap (λ z. restored z (taken_back k s cur)) e
+      here : (s.hart k).own.images ≡ [] → restored (s.hart k).own.images (rolled_back k s cur) ≡ rolled_back k s cur
+      here e = ap (λ z. restored z (rolled_back k s cur)) e
 
       all : (s.hart k).own.images ≡ [] → ((h : ℕ) → h < k → (s.hart h).own.images ≡ []) → (h : ℕ) → h < suc k → (s.hart h).own.images ≡ []
       all e t h p = at (cases_eq h k)
@@ -134,8 +134,8 @@ module _ (n : ℕ) (s : One) (b : Option (ℕ × LineState)) (a : Role) (cur : B
           at (inl z) = subst (λ j. (s.hart j).own.images ≡ []) (sym z) e
           at (inr z) = t h (omega arith)
 
-      go : IsLogged (s.hart k).own.images ⊎ ((s.hart k).own.images ≡ []) → ((taken_back k s cur ≡ s.flat) ⊎ ((taken_back k s cur ≡ cur) × ((h : ℕ) → h < k → (s.hart h).own.images ≡ []))) → (restored (s.hart k).own.images (taken_back k s cur) ≡ s.flat) ⊎ ((restored (s.hart k).own.images (taken_back k s cur) ≡ cur) × ((h : ℕ) → h < suc k → (s.hart h).own.images ≡ []))
-      go (inl e) r = inl (restored_any (s.hart k).own.images (taken_back k s cur) cur e ∙ same_image (s.hart k).own.images cur ∙ (v.each k o).logs.image (is_logged cur s.flat w k (s.hart k).own (v.each k o).logs e))
+      go : IsLogged (s.hart k).own.images ⊎ ((s.hart k).own.images ≡ []) → ((rolled_back k s cur ≡ s.flat) ⊎ ((rolled_back k s cur ≡ cur) × ((h : ℕ) → h < k → (s.hart h).own.images ≡ []))) → (restored (s.hart k).own.images (rolled_back k s cur) ≡ s.flat) ⊎ ((restored (s.hart k).own.images (rolled_back k s cur) ≡ cur) × ((h : ℕ) → h < suc k → (s.hart h).own.images ≡ []))
+      go (inl e) r = inl (restored_any (s.hart k).own.images (rolled_back k s cur) cur e ∙ same_image (s.hart k).own.images cur ∙ (v.each k o).logs.image (is_logged cur s.flat w k (s.hart k).own (v.each k o).logs e))
       go (inr e) (inl r) = inl (here e ∙ r)
       go (inr e) (inr r) = inr (here e ∙ r.0, all e r.1)
 
@@ -153,11 +153,11 @@ module _ (n : ℕ) (s : One) (b : Option (ℕ × LineState)) (a : Role) (cur : B
           let l = (v.each q o).logs in
           sym (ap (λ z. oldest z cur) (f q o)) ∙ l.image (l.writer_is ∙ at_it q e)
 
-  peeked : taken_back n s cur ≡ s.flat
+  peeked : rolled_back n s cur ≡ s.flat
   unfolding Back
   peeked = go (back n (λ h o. o))
     where
-      go : ((taken_back n s cur ≡ s.flat) ⊎ ((taken_back n s cur ≡ cur) × ((h : ℕ) → h < n → (s.hart h).own.images ≡ []))) → taken_back n s cur ≡ s.flat
+      go : ((rolled_back n s cur ≡ s.flat) ⊎ ((rolled_back n s cur ≡ cur) × ((h : ℕ) → h < n → (s.hart h).own.images ≡ []))) → rolled_back n s cur ≡ s.flat
       go (inl e) = e
       go (inr e) = e.0 ∙ unlogged e.1
 

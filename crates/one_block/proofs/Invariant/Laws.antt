@@ -120,9 +120,9 @@ restored [] v = v
 restored (x ∷ xs) v = restored xs x
 
 -- with the logs of all harts below n rolled back
-abbrev pub taken_back : ℕ → One → Block → Block
-taken_back zero s v = v
-taken_back (suc n) s v = restored (s.hart n).own.images (taken_back n s v)
+abbrev pub rolled_back : ℕ → One → Block → Block
+rolled_back zero s v = v
+rolled_back (suc n) s v = restored (s.hart n).own.images (rolled_back n s v)
 
 -- what a hart sees, if it isn't in the middle of an abort: the value in place if its log has the block
 abbrev pub view_by : List Block → Block → Block → Block
@@ -130,7 +130,7 @@ view_by [] cur mem = mem
 view_by (x ∷ xs) cur mem = cur
 
 pub record Values (n : ℕ) (s : One) (cur : Block) : Type 0 where
-  pub peeked : taken_back n s cur ≡ s.flat
+  pub peeked : rolled_back n s cur ≡ s.flat
   pub viewed : (h : ℕ) → h < n → (s.hart h).own.tx ≢ Aborting → view_by (s.hart h).own.images cur s.flat ≡ seen s h
   pub written : (h : ℕ) → h < n → (s.hart h).own.tx ≢ Aborting → (s.hart h).own.in_w ≡ true → cur ≡ seen s h
   pub unwritten : ((h : ℕ) → h < n → (s.hart h).own.in_w ≡ false) → cur ≡ s.flat

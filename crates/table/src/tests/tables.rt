@@ -1,5 +1,7 @@
 //! Values from outside: an assembler and a C compiler.
 
+use crate::AmoOp;
+
 /// What a compiled C program gives for these: a word over x5 and x6 that writes x7, x5, x6, and the value.
 pub const VALUES: [(u32, u32, u32, u32); 121] = [
     (0x0062_83b3, 0x8000_0000, 0xffff_ffff, 0x7fff_ffff), // add x7, x5, x6
@@ -147,8 +149,160 @@ pub const BRANCHES: [(u32, u32, u32, bool); 18] = [
     (0x0062_f863, 7, 7, true), // bgeu x5, x6, 16
 ];
 
+/// What a compiled C program gives for these: a word that operates on memory at x5 with x6, its operation, the old word there, x6, and the
+/// new word.
+pub const ATOMICS: [(u32, AmoOp, u32, u32, u32); 45] = [
+    (0x0062_a3af, AmoOp::Add, 0xffff_ffff, 1, 0), // amoadd.w x7, x6, (x5)
+    (0x0062_a3af, AmoOp::Add, 1, 0xffff_ffff, 0), // amoadd.w x7, x6, (x5)
+    (
+        0x0062_a3af,
+        AmoOp::Add,
+        0x8000_0000,
+        0x7fff_ffff,
+        0xffff_ffff,
+    ), // amoadd.w x7, x6, (x5)
+    (
+        0x0062_a3af,
+        AmoOp::Add,
+        0xdead_beef,
+        0xffff_fff1,
+        0xdead_bee0,
+    ), // amoadd.w x7, x6, (x5)
+    (0x0062_a3af, AmoOp::Add, 5, 5, 0xa), // amoadd.w x7, x6, (x5)
+    (0x0862_a3af, AmoOp::Swap, 0xffff_ffff, 1, 1), // amoswap.w x7, x6, (x5)
+    (0x0862_a3af, AmoOp::Swap, 1, 0xffff_ffff, 0xffff_ffff), // amoswap.w x7, x6, (x5)
+    (
+        0x0862_a3af,
+        AmoOp::Swap,
+        0x8000_0000,
+        0x7fff_ffff,
+        0x7fff_ffff,
+    ), // amoswap.w x7, x6, (x5)
+    (
+        0x0862_a3af,
+        AmoOp::Swap,
+        0xdead_beef,
+        0xffff_fff1,
+        0xffff_fff1,
+    ), // amoswap.w x7, x6, (x5)
+    (0x0862_a3af, AmoOp::Swap, 5, 5, 5), // amoswap.w x7, x6, (x5)
+    (0x2062_a3af, AmoOp::Xor, 0xffff_ffff, 1, 0xffff_fffe), // amoxor.w x7, x6, (x5)
+    (0x2062_a3af, AmoOp::Xor, 1, 0xffff_ffff, 0xffff_fffe), // amoxor.w x7, x6, (x5)
+    (
+        0x2062_a3af,
+        AmoOp::Xor,
+        0x8000_0000,
+        0x7fff_ffff,
+        0xffff_ffff,
+    ), // amoxor.w x7, x6, (x5)
+    (
+        0x2062_a3af,
+        AmoOp::Xor,
+        0xdead_beef,
+        0xffff_fff1,
+        0x2152_411e,
+    ), // amoxor.w x7, x6, (x5)
+    (0x2062_a3af, AmoOp::Xor, 5, 5, 0), // amoxor.w x7, x6, (x5)
+    (0x4062_a3af, AmoOp::Or, 0xffff_ffff, 1, 0xffff_ffff), // amoor.w x7, x6, (x5)
+    (0x4062_a3af, AmoOp::Or, 1, 0xffff_ffff, 0xffff_ffff), // amoor.w x7, x6, (x5)
+    (
+        0x4062_a3af,
+        AmoOp::Or,
+        0x8000_0000,
+        0x7fff_ffff,
+        0xffff_ffff,
+    ), // amoor.w x7, x6, (x5)
+    (
+        0x4062_a3af,
+        AmoOp::Or,
+        0xdead_beef,
+        0xffff_fff1,
+        0xffff_ffff,
+    ), // amoor.w x7, x6, (x5)
+    (0x4062_a3af, AmoOp::Or, 5, 5, 5), // amoor.w x7, x6, (x5)
+    (0x6062_a3af, AmoOp::And, 0xffff_ffff, 1, 1), // amoand.w x7, x6, (x5)
+    (0x6062_a3af, AmoOp::And, 1, 0xffff_ffff, 1), // amoand.w x7, x6, (x5)
+    (0x6062_a3af, AmoOp::And, 0x8000_0000, 0x7fff_ffff, 0), // amoand.w x7, x6, (x5)
+    (
+        0x6062_a3af,
+        AmoOp::And,
+        0xdead_beef,
+        0xffff_fff1,
+        0xdead_bee1,
+    ), // amoand.w x7, x6, (x5)
+    (0x6062_a3af, AmoOp::And, 5, 5, 5), // amoand.w x7, x6, (x5)
+    (0x8062_a3af, AmoOp::Min, 0xffff_ffff, 1, 0xffff_ffff), // amomin.w x7, x6, (x5)
+    (0x8062_a3af, AmoOp::Min, 1, 0xffff_ffff, 0xffff_ffff), // amomin.w x7, x6, (x5)
+    (
+        0x8062_a3af,
+        AmoOp::Min,
+        0x8000_0000,
+        0x7fff_ffff,
+        0x8000_0000,
+    ), // amomin.w x7, x6, (x5)
+    (
+        0x8062_a3af,
+        AmoOp::Min,
+        0xdead_beef,
+        0xffff_fff1,
+        0xdead_beef,
+    ), // amomin.w x7, x6, (x5)
+    (0x8062_a3af, AmoOp::Min, 5, 5, 5), // amomin.w x7, x6, (x5)
+    (0xa062_a3af, AmoOp::Max, 0xffff_ffff, 1, 1), // amomax.w x7, x6, (x5)
+    (0xa062_a3af, AmoOp::Max, 1, 0xffff_ffff, 1), // amomax.w x7, x6, (x5)
+    (
+        0xa062_a3af,
+        AmoOp::Max,
+        0x8000_0000,
+        0x7fff_ffff,
+        0x7fff_ffff,
+    ), // amomax.w x7, x6, (x5)
+    (
+        0xa062_a3af,
+        AmoOp::Max,
+        0xdead_beef,
+        0xffff_fff1,
+        0xffff_fff1,
+    ), // amomax.w x7, x6, (x5)
+    (0xa062_a3af, AmoOp::Max, 5, 5, 5), // amomax.w x7, x6, (x5)
+    (0xc062_a3af, AmoOp::Minu, 0xffff_ffff, 1, 1), // amominu.w x7, x6, (x5)
+    (0xc062_a3af, AmoOp::Minu, 1, 0xffff_ffff, 1), // amominu.w x7, x6, (x5)
+    (
+        0xc062_a3af,
+        AmoOp::Minu,
+        0x8000_0000,
+        0x7fff_ffff,
+        0x7fff_ffff,
+    ), // amominu.w x7, x6, (x5)
+    (
+        0xc062_a3af,
+        AmoOp::Minu,
+        0xdead_beef,
+        0xffff_fff1,
+        0xdead_beef,
+    ), // amominu.w x7, x6, (x5)
+    (0xc062_a3af, AmoOp::Minu, 5, 5, 5), // amominu.w x7, x6, (x5)
+    (0xe062_a3af, AmoOp::Maxu, 0xffff_ffff, 1, 0xffff_ffff), // amomaxu.w x7, x6, (x5)
+    (0xe062_a3af, AmoOp::Maxu, 1, 0xffff_ffff, 0xffff_ffff), // amomaxu.w x7, x6, (x5)
+    (
+        0xe062_a3af,
+        AmoOp::Maxu,
+        0x8000_0000,
+        0x7fff_ffff,
+        0x8000_0000,
+    ), // amomaxu.w x7, x6, (x5)
+    (
+        0xe062_a3af,
+        AmoOp::Maxu,
+        0xdead_beef,
+        0xffff_fff1,
+        0xffff_fff1,
+    ), // amomaxu.w x7, x6, (x5)
+    (0xe062_a3af, AmoOp::Maxu, 5, 5, 5), // amomaxu.w x7, x6, (x5)
+];
+
 /// What an assembler (LLVM 14, for riscv32) made of the lines below. The words of custom-0 were written by `.insn`.
-pub const WORDS: [u32; 140] = [
+pub const WORDS: [u32; 152] = [
     0x0050_0093,
     0xfe20_8ee3,
     0x1234_6537,
@@ -289,10 +443,23 @@ pub const WORDS: [u32; 140] = [
     0x02c5_d533,
     0x02c5_e533,
     0x02c5_f533,
+    0x00b2_a52f,
+    0x08b2_a52f,
+    0x20b2_a52f,
+    0x40b2_a52f,
+    0x60b2_a52f,
+    0x80b2_a52f,
+    0xa0b2_a52f,
+    0xc0b2_a52f,
+    0xe0b2_a52f,
+    0x04b2_a52f,
+    0x0a81_2faf,
+    0xe7fd_a02f,
 ];
 
 /// Each line is a name and three operands in the order rd, rs1, rs2, immediate, as far as the row has them, else 0. A
 /// negative immediate stands as the 32-bit number; the two of a fence are its predecessor and its successor bits.
+/// The last three words have aq, rl and both, which their lines don't tell.
 pub const LINES: &str = "\
 addi 1 0 5\n\
 beq 1 2 4294967292\n\
@@ -434,4 +601,16 @@ div 10 11 12\n\
 divu 10 11 12\n\
 rem 10 11 12\n\
 remu 10 11 12\n\
+amoadd.w 10 5 11\n\
+amoswap.w 10 5 11\n\
+amoxor.w 10 5 11\n\
+amoor.w 10 5 11\n\
+amoand.w 10 5 11\n\
+amomin.w 10 5 11\n\
+amomax.w 10 5 11\n\
+amominu.w 10 5 11\n\
+amomaxu.w 10 5 11\n\
+amoadd.w 10 5 11\n\
+amoswap.w 31 2 8\n\
+amomaxu.w 0 27 31\n\
 ";

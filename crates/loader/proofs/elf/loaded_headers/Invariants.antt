@@ -1,7 +1,7 @@
 use Rattle.std.proofs.Common.{◌≡◌, ◌+◌, ◌-◌, ◌*◌, ◌++◌, None}
 use Rattle.std.specs.List.{filter, flat_map}
 use Rattle.loader.specs.Headers.{headers_from, is_loaded, loaded_headers}
-use Rattle.words.specs.Tests.{first}
+use Rattle.words.specs.First.{first}
 use Rattle.loader.specs.Checks.{segment_checks}
 use Rattle.loader.proofs.elf.loaded_headers.Given as goal
 

@@ -1,6 +1,6 @@
 use Rattle.std.proofs.Common.{ap}
 use Rattle.simulate.specs.Reports.{output_text, status_text}
-use Rattle.simulate.proofs.Putting.{puts-both, puts-cut, puts-same}
+use Rattle.texts.proofs.Putting.{puts-both, puts-cut, puts-same}
 use Rattle.simulate.proofs.report.put_hart.Goals as goal
 
 pub returns-in_err-put_output : goal.returns-in_err-put_output

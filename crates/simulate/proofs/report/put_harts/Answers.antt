@@ -1,7 +1,7 @@
 use Rattle.std.proofs.Common.{◌≡◌, ◌<◌, ap, arith, Ok}
 use Rattle.flat.specs.State.{Setting}
 use Rattle.simulate.specs.Reports.{hart_text, harts_text}
-use Rattle.simulate.proofs.Putting.{puts-nothing, puts-same, puts-cut_first, puts-one_first}
+use Rattle.texts.proofs.Putting.{puts-nothing, puts-same, puts-cut_first, puts-one_first}
 use Rattle.simulate.proofs.report.put_harts.Goals as goal
 
 pub loop-number-init : goal.loop-number-init

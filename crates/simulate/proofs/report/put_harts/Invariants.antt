@@ -1,7 +1,7 @@
 use Rattle.std.proofs.Common.{Ok}
 use Rattle.flat.specs.State.{Flat}
 use Rattle.simulate.specs.Reports.{harts_text}
-use Rattle.simulate.specs.Sinks.{Puts}
+use Rattle.texts.specs.Puts.{Puts}
 use Rattle.simulate.proofs.report.put_harts.Given as goal
 
 abbrev pub invariant-loop-number : goal.invariant-loop-number

@@ -1,6 +1,6 @@
 use Rattle.std.proofs.Common.{ap, Ok}
 use Rattle.simulate.specs.Reports.{word_text}
-use Rattle.simulate.proofs.Putting.{puts-nothing, puts-same, puts-cut_at, puts-one_more}
+use Rattle.texts.proofs.Putting.{puts-nothing, puts-same, puts-cut_at, puts-one_more}
 use Rattle.simulate.proofs.report.put_words.Goals as goal
 
 pub loop-addr-init : goal.loop-addr-init

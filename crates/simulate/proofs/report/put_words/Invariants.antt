@@ -1,7 +1,7 @@
 use Rattle.std.proofs.Common.{Ok, take}
 use Rattle.flat.specs.State.{Flat}
 use Rattle.simulate.specs.Reports.{words_text}
-use Rattle.simulate.specs.Sinks.{Puts}
+use Rattle.texts.specs.Puts.{Puts}
 use Rattle.simulate.proofs.report.put_words.Given as goal
 
 abbrev pub invariant-loop-addr : goal.invariant-loop-addr

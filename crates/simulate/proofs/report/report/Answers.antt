@@ -1,5 +1,5 @@
 use Rattle.simulate.specs.Reports.{words_text}
-use Rattle.simulate.proofs.Putting.{puts-both, puts-cut}
+use Rattle.texts.proofs.Putting.{puts-both, puts-cut}
 use Rattle.simulate.proofs.report.report.Goals as goal
 
 pub returns-in_err-put_harts : goal.returns-in_err-put_harts

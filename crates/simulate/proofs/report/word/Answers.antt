@@ -1,7 +1,6 @@
 use Rattle.std.proofs.Common.{◌≡◌, Some, true, ap, sym, ◌∙◌}
 use Rattle.words.specs.declared.entry.Width.TheVariants.{Word}
 use Rattle.words.specs.Bytes.{number_at}
-use Rattle.reference.specs.Machines.{flat_of}
 use Rattle.flat.specs.State.{Setting}
 use Rattle.flat.specs.Reads.{is_readable}
 use Rattle.simulate.proofs.Reading.{word_if-readable}

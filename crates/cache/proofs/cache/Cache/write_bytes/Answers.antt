@@ -11,7 +11,7 @@ use Rattle.cache.proofs.cache.Cache.write_bytes.Goals as goal
 pub returns-in-Some-clause-line : goal.returns-in-Some-clause-line
 returns-in-Some-clause-line g c =
     let is : Some c.in-Some.line ≡ line_at g.row.SETS c.args.self.now (c.args.addr / 32) = rw c.block.ensures at c.in-Some.ensures.value in
-    changes-line g.row.SETS c.args.self.now c.replace.new.self (c.args.addr / 32) (stored c.args.addr c.args.width c.args.value) c.in-Some.line _ is (c.in-Some.ensures.block ∙ c.block.ensures) (rw (c.with_bytes.ensures, c.index-in-Some.ensures.value, c.index.ensures.value) refl) c.replace.ensures
+    changes-line g.row.SETS c.args.self.now c.replace.new.self (c.args.addr / 32) (stored c.args.addr c.args.width c.args.value) c.in-Some.line _ is (c.in-Some.ensures.block ∙ c.block.ensures) (rw (c.with_bytes.ensures, c.index-in-Some.ensures.value, c.index.ensures.value) refl) c.replace.ensures.line
 
 pub returns-in-Some-clause-bytes : goal.returns-in-Some-clause-bytes
 returns-in-Some-clause-bytes g c =

@@ -1,6 +1,6 @@
 use Rattle.std.proofs.Common.{ap, sym}
 use Rattle.simulate.specs.Faults.{fault_text}
-use Rattle.simulate.proofs.Putting.{puts-same}
+use Rattle.texts.proofs.Putting.{puts-same}
 use Rattle.simulate.proofs.fault.Fault.put.Goals as goal
 
 pub returns-in-Load : goal.returns-in-Load

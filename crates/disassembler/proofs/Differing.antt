@@ -1,0 +1,122 @@
+-- No two words share a text.
+use Rattle.std.proofs.Common.{◌≡◌, ℕ, ◌<◌, ◌^◌, ◌⊎◌, inl, inr, Bool, true, false, cond, List, [], ◌∷◌, ◌++◌, Option, Some, None, codes, refl, sym, ap, ◌∙◌, append-nil}
+use Rattle.std.proofs.lemmas.List.{append_cancel_left}
+use Rattle.std.proofs.lemmas.Option.{same_Some}
+use Rattle.operands.specs.Fields.{aq_of, rl_of}
+use Rattle.table.specs.declared.instr.Instr.{Instr}
+use Rattle.table.specs.Table.{Row, fits, key, instr, table, instr_in, decoded}
+use Rattle.table.specs.Table.Row.{LUI, AUIPC, JAL, JALR, BRANCH, LOAD, STORE, OP_IMM, SHIFT_IMM, OP, AMO, FENCE, ECALL, EBREAK, TBEGIN, TCOMMIT, TABORT}
+use Rattle.table.proofs.OneWord.{one_word}
+use Rattle.texts.specs.Numerals.{hexadecimal}
+use Rattle.texts.proofs.Digits.{hexadecimal-same}
+use Rattle.disassembler.specs.Canonical.{spelled, spelled_if, text_or, plain, canonical}
+use Rattle.disassembler.proofs.Cutting.{first_word, first_word-followed, first_word-alone}
+use Rattle.disassembler.proofs.Rows.{row_name, row_named, named-row, row_name-lacks, word-named}
+use Rattle.disassembler.proofs.Apart.{unordered, same-instr}
+
+-- a row with the text of its word
+record Spelt (w : ℕ) : Type 0 where
+  row : Row
+  is : decoded w ≡ Some (instr row w)
+  text : spelled (instr row w) ≡ Some (canonical w)
+
+at_row : (row : Row) (w : ℕ) (i : Instr) (here : Bool) (later : Option Instr) → (later ≡ Some i → (r : Row) × (instr r w ≡ i))
+    → cond here (Some (instr row w)) later ≡ Some i → (r : Row) × (instr r w ≡ i)
+at_row row w i true later rest found = (row, same_Some _ _ found)
+at_row row w i false later rest found = rest found
+
+row-of : (rows : List Row) (w : ℕ) (i : Instr) → instr_in rows w ≡ Some i → (r : Row) × (instr r w ≡ i)
+row-of [] w i found = absurd (cc)
+row-of (row ∷ rows) w i found = at_row row w i (fits (key row) w) (instr_in rows w) (row-of rows w i) found
+
+row-of_decoded : (w : ℕ) (i : Instr) → decoded w ≡ Some i → (r : Row) × (instr r w ≡ i)
+unfolding decoded
+row-of_decoded w i found = row-of table w i found
+
+canonical-is : (w : ℕ) (o : Option Instr) (text : Option (List ℕ)) → decoded w ≡ o → spelled_if o ≡ text
+    → canonical w ≡ text_or (plain w) text
+unfolding canonical
+canonical-is w o text found spelling = ap (λ i. text_or (plain w) (spelled_if i)) found ∙ ap (text_or (plain w)) spelling
+
+by_text : (w : ℕ) (i : Instr) (text : Option (List ℕ)) → decoded w ≡ Some i → spelled i ≡ text → (canonical w ≡ plain w) ⊎ Spelt w
+by_text w i None found text = inl (canonical-is w (Some i) None found text)
+by_text w i (Some t) found text =
+    let r = row-of_decoded w i found in
+    let is : decoded w ≡ Some (instr r.0 w) = found ∙ ap (λ j. Some j) (sym r.1) in
+    let whole : canonical w ≡ t = canonical-is w (Some i) (Some t) found text in
+    inr (record { row = r.0; is = is; text = ap spelled r.1 ∙ text ∙ ap (λ l. Some l) (sym whole) })
+
+by_instr : (w : ℕ) (o : Option Instr) → decoded w ≡ o → (canonical w ≡ plain w) ⊎ Spelt w
+by_instr w None found = inl (canonical-is w None None found refl)
+by_instr w (Some i) found = by_text w i (spelled i) found refl
+
+-- a word has the text of its row, or no other than its digits
+spelt-or_plain : (w : ℕ) → (canonical w ≡ plain w) ⊎ Spelt w
+spelt-or_plain w = by_instr w (decoded w) refl
+
+followed : (row : Row) (rest t : List ℕ) → row_name row ++ 32 ∷ rest ≡ t → first_word t ≡ row_name row
+followed row rest t e = ap first_word (sym e) ∙ first_word-followed (row_name row) rest (row_name-lacks row)
+
+alone : (row : Row) (t : List ℕ) → row_name row ≡ t → first_word t ≡ row_name row
+alone row t e = ap first_word (sym e) ∙ first_word-alone (row_name row) (row_name-lacks row)
+
+fence-text : (b : Bool) (x t : List ℕ) → cond b (Some x) None ≡ Some t → x ≡ t
+fence-text true x t e = same_Some x t e
+fence-text false x t e = absurd (cc)
+
+-- a text of a row begins with its name
+first_word-named : (row : Row) (w : ℕ) (t : List ℕ) → spelled (instr row w) ≡ Some t → first_word t ≡ row_name row
+first_word-named LUI w t e = followed LUI _ t (same_Some _ t e)
+first_word-named AUIPC w t e = followed AUIPC _ t (same_Some _ t e)
+first_word-named JAL w t e = followed JAL _ t (same_Some _ t e)
+first_word-named JALR w t e = followed JALR _ t (same_Some _ t e)
+first_word-named (BRANCH op) w t e = followed (BRANCH op) _ t (same_Some _ t e)
+first_word-named (LOAD op) w t e = followed (LOAD op) _ t (same_Some _ t e)
+first_word-named (STORE op) w t e = followed (STORE op) _ t (same_Some _ t e)
+first_word-named (OP_IMM op) w t e = followed (OP_IMM op) _ t (same_Some _ t e)
+first_word-named (SHIFT_IMM op) w t e = followed (SHIFT_IMM op) _ t (same_Some _ t e)
+first_word-named (OP op) w t e = followed (OP op) _ t (same_Some _ t e)
+first_word-named (AMO op) w t e = followed (AMO op) _ t (unordered (aq_of w) (rl_of w) _ t e).2
+first_word-named FENCE w t e = alone FENCE t (fence-text _ _ t e)
+first_word-named ECALL w t e = alone ECALL t (same_Some _ t e)
+first_word-named EBREAK w t e = alone EBREAK t (same_Some _ t e)
+first_word-named TBEGIN w t e = followed TBEGIN _ t (same_Some _ t e)
+first_word-named TCOMMIT w t e = alone TCOMMIT t (same_Some _ t e)
+first_word-named TABORT w t e = alone TABORT t (same_Some _ t e)
+
+first_word-plain : (w : ℕ) → first_word (plain w) ≡ codes ".word"
+unfolding plain
+first_word-plain w = refl
+
+spelt-row : (w : ℕ) (s : Spelt w) → row_named (first_word (canonical w)) ≡ Some s.row
+spelt-row w s = ap row_named (first_word-named s.row w (canonical w) s.text) ∙ named-row s.row
+
+plain-row : (w : ℕ) → canonical w ≡ plain w → row_named (first_word (canonical w)) ≡ None
+plain-row w is = ap (λ t. row_named (first_word t)) is ∙ ap row_named (first_word-plain w) ∙ word-named
+
+plain-same : (v w : ℕ) → v < 2 ^ 32 → w < 2 ^ 32 → plain v ≡ plain w → v ≡ w
+unfolding plain
+plain-same v w hv hw same =
+    let digits = append_cancel_left (codes ".word 0x") _ _ same in
+    hexadecimal-same v w hv hw (sym (append-nil (hexadecimal v)) ∙ digits ∙ append-nil (hexadecimal w))
+
+spelt-same : (v w : ℕ) → v < 2 ^ 32 → w < 2 ^ 32 → canonical v ≡ canonical w → Spelt v → Spelt w → v ≡ w
+spelt-same v w hv hw same s t =
+    let rows : s.row ≡ t.row = same_Some s.row t.row (sym (spelt-row v s) ∙ ap (λ l. row_named (first_word l)) same ∙ spelt-row w t) in
+    let is : decoded w ≡ Some (instr s.row w) = t.is ∙ ap (λ (r : Row). Some (instr r w)) (sym rows) in
+    let text : spelled (instr s.row w) ≡ Some (canonical v) = ap (λ (r : Row). spelled (instr r w)) rows ∙ t.text ∙ ap (λ l. Some l) (sym same) in
+    let one : instr s.row v ≡ instr s.row w = same-instr s.row v w (canonical v) hv hw s.text text in
+    one_word v w (instr s.row v) hv hw s.is (is ∙ ap (λ i. Some i) (sym one))
+
+-- two words with one text are the same
+pub texts_differ : (v w : ℕ) → v < 2 ^ 32 → w < 2 ^ 32 → canonical v ≡ canonical w → v ≡ w
+texts_differ v w hv hw same = elim (spelt-or_plain v) [
+  | inl pv ↦ elim (spelt-or_plain w) [
+    | inl pw ↦ plain-same v w hv hw (sym pv ∙ same ∙ pw)
+    | inr t ↦ let a = plain-row v pv in let b = spelt-row w t in let c = ap (λ l. row_named (first_word l)) same in absurd (cc)
+  ]
+  | inr s ↦ elim (spelt-or_plain w) [
+    | inl pw ↦ let a = spelt-row v s in let b = plain-row w pw in let c = ap (λ l. row_named (first_word l)) same in absurd (cc)
+    | inr t ↦ spelt-same v w hv hw same s t
+  ]
+]

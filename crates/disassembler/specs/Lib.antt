@@ -1,0 +1,3 @@
+pub mod Mnemonics
+pub mod Canonical
+pub mod Listing

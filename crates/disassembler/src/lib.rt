@@ -1,0 +1,15 @@
+//! Words as text: the canonical text of an instruction word, and the listing of a program.
+#![tactic(auto)]
+
+mod laws;
+mod lister;
+mod names;
+mod numbers;
+mod printer;
+mod shapes;
+#[cfg(test)]
+mod tests;
+
+pub use laws::texts_differ;
+pub use lister::listing;
+pub use printer::text;

@@ -1,0 +1,47 @@
+-- What `==` says of a hart's request and Put.
+use Rattle.std.proofs.Common.{rules, ◌≡◌, Decides}
+use Rattle.std.specs.Cmp.{booleans_Decides}
+use Rattle.std.specs.Cmp.Lexicographic.{pointwise_decides}
+use Rattle.std.proofs.lemmas.Bool.Decides.{Decides-eqb, Decides-and, Decides-like}
+use Rattle.words.specs.declared.message.Kind.{Kind}
+use Rattle.words.specs.declared.message.LineState.{LineState}
+use Rattle.words.specs.contracts.message.KindPartialEq.TheImpl as kind
+use Rattle.words.specs.contracts.message.LineStatePartialEq.TheImpl as state
+use Rattle.transaction.proofs.Equal.{decides_option}
+use Rattle.hart.specs.declared.request.Granted.{Granted}
+use Rattle.hart.specs.declared.request.Request.{Request}
+use Rattle.hart.specs.declared.request.PutOut.{PutOut}
+use Rattle.hart.specs.contracts.request.GrantedPartialEq.TheImpl as granted
+use Rattle.hart.specs.contracts.request.RequestPartialEq.TheImpl as request
+use Rattle.hart.specs.contracts.request.PutOutPartialEq.TheImpl as put
+
+decides_kind : (a b : Kind) → Decides ((kind.ghosts).eq a b) (a ≡ b)
+decides_kind a b = search rules
+
+decides_state : (a b : LineState) → Decides ((state.ghosts).eq a b) (a ≡ b)
+decides_state a b = search rules
+
+decides_granted : (a b : Granted) → Decides ((granted.ghosts).eq a b) (a ≡ b)
+decides_granted a b =
+    Decides-like _ (λ h. search rules) (λ e. search rules)
+    (Decides-and _ _ (decides_state a.give b.give)
+    (Decides-and _ _ (pointwise_decides Decides-eqb a.content b.content)
+    (pointwise_decides booleans_Decides a.expect b.expect)))
+
+pub decides_request : (a b : Request) → Decides ((request.ghosts).eq a b) (a ≡ b)
+decides_request a b =
+    Decides-like _ (λ h. search rules) (λ e. search rules)
+    (Decides-and _ _ (Decides-eqb a.block b.block)
+    (Decides-and _ _ (decides_kind a.kind b.kind)
+    (Decides-and _ _ (decides_option decides_granted a.grant b.grant)
+    (Decides-and _ _ (pointwise_decides booleans_Decides a.answered b.answered)
+    (Decides-and _ _ (booleans_Decides a.refused b.refused)
+    (Decides-and _ _ (decides_option (pointwise_decides Decides-eqb) a.content b.content)
+    (booleans_Decides a.earlier b.earlier)))))))
+
+pub decides_put : (a b : PutOut) → Decides ((put.ghosts).eq a b) (a ≡ b)
+decides_put a b =
+    Decides-like _ (λ h. search rules) (λ e. search rules)
+    (Decides-and _ _ (Decides-eqb a.block b.block)
+    (Decides-and _ _ (pointwise_decides Decides-eqb a.content b.content)
+    (booleans_Decides a.marked b.marked)))

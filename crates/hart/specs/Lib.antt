@@ -1,0 +1,4 @@
+pub mod Parts
+pub mod Shown
+pub mod Rows
+pub mod Locals

@@ -1,0 +1,185 @@
+ghost use Rattle.std.specs.Prelude.{◌≡◌, ◌<◌, ◌%◌, ◌^◌, ℕ, length, slice_index, IsTrue, Option, Some};
+ghost use Rattle.words.specs.Limits.{block_words};
+ghost use Rattle.words.specs.Bytes.{bytes_in, cut};
+ghost use Rattle.words.specs.declared.message.LineState.TheVariants.{Modified};
+ghost use Rattle.table.specs.declared.effect.Act.TheVariants.{Memory};
+ghost use Rattle.cache.specs.Bytes.{block_with};
+ghost use Rattle.flat.specs.Effects.{old_of, put_by, load_by, store_by, loaded_by};
+ghost use Rattle.protocol.specs.Lines.{byte_in, words_put, state_put, marks_used, line_used, is_enough};
+ghost use Rattle.protocol.specs.Core.{kind_of, is_log_due};
+ghost use Rattle.hart.specs.Shown.{shown_line};
+
+use cache::{Line, with_bytes};
+use table::{MemoryAct, extend_load, finish_load, finish_store, write_to};
+use words::{Access, BLOCK_WORDS, Block, Kind, LineState, Marks, Reg, Width};
+
+/// An access needs what a store needs, if it is also one.
+pub(crate) fn kind_of(m: &MemoryAct) -> Kind
+    ensures { result ≡ kind_of m.now }
+{
+    if m.store.is_some() {
+        Kind::Write
+    } else {
+        Kind::Read
+    }
+}
+
+/// Whether a line is enough for an access.
+pub(crate) fn is_enough(m: &MemoryAct, line: &Line) -> bool
+    ensures { result ≡ is_enough (kind_of m.now) (Some (shown_line line.now)) }
+{
+    m.store.is_none() || line.state.is_owned()
+}
+
+/// Whether a block has to be logged before an access in a transaction: it is a store, to a line without the W mark.
+pub(crate) fn is_log_due(m: &MemoryAct, line: &Line) -> bool
+    ensures { result ≡ is_log_due m.now (shown_line line.now) }
+{
+    m.store.is_some() && !line.marks.written
+}
+
+/// The number that stands at an access's place, in the words of its block.
+fn number(content: &Block, m: &MemoryAct) -> u32
+    requires { m.now.addr % bytes_in m.now.width ≡ 0 }
+    ensures value { result ≡ old_of (byte_in content.now) m.now }
+    ensures bound { result < 256 ^ bytes_in m.now.width }
+{
+    let word = content[m.addr.index() / 4 % BLOCK_WORDS];
+    finish_load(m.width, false, word, m.addr)
+}
+
+/// The low bytes of a number, as many as a width has.
+fn cut_to(width: Width, value: u32) -> u32
+    ensures { result ≡ cut width value }
+{
+    match width {
+        Width::Byte => value % 0x100,
+        Width::Half => value % 0x1_0000,
+        Width::Word => value,
+    }
+}
+
+/// The number that an access stores, if it does.
+fn put_by(content: &Block, m: &MemoryAct) -> Option<u32>
+    requires { m.now.addr % bytes_in m.now.width ≡ 0 }
+    ensures { result ≡ put_by (byte_in content.now) m.now }
+{
+    match &m.store {
+        Some(store) => Some(cut_to(m.width, finish_store(*store, number(content, m)))),
+        None => None,
+    }
+}
+
+/// The register that an access writes.
+pub(crate) fn loaded_by(content: &Block, m: &MemoryAct) -> Option<(Reg, u32)>
+    requires { m.now.addr % bytes_in m.now.width ≡ 0 }
+    ensures { result ≡ loaded_by (byte_in content.now) m.now }
+{
+    match &m.load {
+        Some(load) => write_to(
+            load.rd,
+            extend_load(load.signed, m.width, number(content, m)),
+        ),
+        None => None,
+    }
+}
+
+/// The load that an entry shows.
+pub(crate) fn load_by(content: &Block, m: &MemoryAct) -> Option<Access>
+    requires { m.now.addr % bytes_in m.now.width ≡ 0 }
+    ensures { result ≡ load_by (byte_in content.now) (Memory m.now) }
+{
+    match &m.load {
+        Some(_) => Some(Access {
+            addr: m.addr,
+            width: m.width,
+            value: number(content, m),
+        }),
+        None => None,
+    }
+}
+
+/// The store that an entry shows.
+pub(crate) fn store_by(content: &Block, m: &MemoryAct) -> Option<Access>
+    requires { m.now.addr % bytes_in m.now.width ≡ 0 }
+    ensures { result ≡ store_by (byte_in content.now) (Memory m.now) }
+{
+    match put_by(content, m) {
+        Some(value) => Some(Access {
+            addr: m.addr,
+            width: m.width,
+            value,
+        }),
+        None => None,
+    }
+}
+
+/// The words of a block after an access that stores a number.
+fn words_put(content: &Block, m: &MemoryAct, value: Option<u32>) -> Block
+    requires { m.now.addr % bytes_in m.now.width ≡ 0 }
+    ensures { result ≡ words_put m.now value content.now }
+{
+    let Some(value) = value else {
+        return *content;
+    };
+    let words = stored(content, m, value);
+    words
+}
+
+/// The words of a block with the low bytes of a value at an access's place.
+fn stored(content: &Block, m: &MemoryAct, value: u32) -> Block
+    requires { m.now.addr % bytes_in m.now.width ≡ 0 }
+    ensures value { result ≡ block_with content.now m.now.addr m.now.width value }
+    ensures fits { (k : ℕ) → slice_index result k < 2 ^ 32 }
+    ensures len { length result ≡ block_words }
+{
+    let word = m.addr.index() / 4 % BLOCK_WORDS;
+    let mut words = *content;
+    words[word] = with_bytes(content[word], m.addr.index() % 4, m.width, value);
+    words
+}
+
+/// A line after an access, in a transaction or outside.
+pub(crate) fn line_used(line: &Line, in_transaction: bool, m: &MemoryAct) -> Line
+    requires aligned { m.now.addr % bytes_in m.now.width ≡ 0 }
+    requires owned { IsTrue line.now.marks.written → line.now.state ≡ Modified }
+    ensures line { shown_line result ≡ line_used in_transaction m.now (shown_line line.now) }
+    ensures block { result.block ≡ line.now.block }
+    ensures owned { IsTrue result.marks.written → result.state ≡ Modified }
+{
+    let content = words_put(&line.content, m, put_by(&line.content, m));
+    let state = state_put(m, line.state);
+    let marks = if in_transaction {
+        marks_used(m, line.marks)
+    } else {
+        line.marks
+    };
+    Line {
+        block: line.block,
+        content,
+        state,
+        marks,
+    }
+}
+
+/// A store makes a line modified.
+fn state_put(m: &MemoryAct, state: LineState) -> LineState
+    ensures { result ≡ state_put m.now.store state }
+{
+    if m.store.is_some() {
+        LineState::Modified
+    } else {
+        state
+    }
+}
+
+/// The marks after an access in a transaction.
+fn marks_used(m: &MemoryAct, marks: Marks) -> Marks
+    ensures { result ≡ marks_used m.now marks }
+{
+    Marks {
+        read: marks.read || m.load.is_some(),
+        written: marks.written || m.store.is_some(),
+        ..marks
+    }
+}

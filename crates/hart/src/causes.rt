@@ -1,0 +1,146 @@
+ghost use Rattle.std.specs.Prelude.{◌≡◌, ◌<◌, ◌≤◌, ◌%◌, [], Some, None, Ok, Err, IfOk, IfErr};
+ghost use Rattle.words.specs.Bytes.{bytes_in};
+ghost use Rattle.table.specs.Program.{word_at};
+ghost use Rattle.flat.specs.Causes.{logs_from, load_cause, store_cause, memory_cause, act_cause, effect_or_cause, next_of};
+
+use crate::hart::Hart;
+use table::{Act, Effect, MemoryAct, Text, byte_count, effect_at, register};
+use words::{Addr, Cause, LOG_BYTES, Reg};
+
+/// The word at a hart's pc, which can be retired, and what it does.
+#[derive(Clone, Copy, Debug, PartialEq, Eq)]
+pub(crate) struct Instruction {
+    pub word: u32,
+    pub effect: Effect,
+}
+
+/// What the word at the hart's pc does, or why it can't be retired.
+impl<const SETS: usize, const WAYS: usize> Hart<SETS, WAYS> {
+    ghost use Rattle.hart.specs.Rows.{setting_of, seen_hart, Fits};
+
+    /// The first address of the undo logs.
+    fn logs_from(&self) -> usize
+        ensures { result ≡ logs_from (setting_of [] self.now) }
+    {
+        self.size.saturating_sub(self.harts * LOG_BYTES)
+    }
+
+    /// A load's cause, whatever the program's text is.
+    fn load_cause(&self, addr: Addr, count: usize) -> Option<Cause>
+        requires some { 0 < count }
+        requires few { count ≤ 4 }
+        ensures value { result ≡ load_cause (setting_of [] self.now) addr count }
+        ensures aligned { result ≡ None → addr % count ≡ 0 }
+    {
+        let address = addr.index();
+        if address % count != 0 {
+            Some(Cause::LoadMisaligned)
+        } else if address + count > self.size {
+            Some(Cause::LoadOutside)
+        } else if address + count > self.logs_from() {
+            Some(Cause::LogRegion)
+        } else {
+            None
+        }
+    }
+
+    fn store_cause(&self, text: &Text, m: &MemoryAct) -> Option<Cause>
+        ensures value { result ≡ store_cause (setting_of text.now.segments.now self.now) m.now.addr (bytes_in m.now.width) }
+        ensures aligned { result ≡ None → m.now.addr % bytes_in m.now.width ≡ 0 }
+    {
+        let address = m.addr.index();
+        let count = byte_count(m.width) as usize;
+        if address % count != 0 {
+            Some(Cause::StoreMisaligned)
+        } else if address + count > self.size {
+            Some(Cause::StoreOutside)
+        } else if address + count > self.logs_from() {
+            Some(Cause::LogRegion)
+        } else if text.touches(m.addr, m.width) {
+            Some(Cause::StoreText)
+        } else {
+            None
+        }
+    }
+
+    fn memory_cause(&self, text: &Text, m: &MemoryAct) -> Option<Cause>
+        ensures value { result ≡ memory_cause (setting_of text.now.segments.now self.now) m.now }
+        ensures aligned { result ≡ None → m.now.addr % bytes_in m.now.width ≡ 0 }
+    {
+        if m.store.is_some() {
+            self.store_cause(text, m)
+        } else {
+            self.load_cause(m.addr, byte_count(m.width) as usize)
+        }
+    }
+
+    fn act_cause(&self, text: &Text, act: &Act) -> Option<Cause>
+        ensures value { result ≡ act_cause (setting_of text.now.segments.now self.now) (seen_hart SETS self.now) act.now }
+        ensures fits { result ≡ None → Fits self.now.tx act.now }
+    {
+        let depth = self.tx.depth();
+        match act {
+            Act::Nothing => None,
+            Act::Memory(m) => self.memory_cause(text, m),
+            Act::Begin(_) => {
+                if depth == 255 {
+                    Some(Cause::TooDeep)
+                } else {
+                    None
+                }
+            }
+            Act::Commit | Act::Abort => {
+                if depth == 0 {
+                    Some(Cause::OutsideTransaction)
+                } else {
+                    None
+                }
+            }
+            Act::Call => {
+                let call = register(&self.regs, Reg::new(17));
+                if depth > 0 {
+                    Some(Cause::CallInTransaction)
+                } else if call == 93 || call == 1 {
+                    None
+                } else {
+                    Some(Cause::BadCall)
+                }
+            }
+            Act::Break => {
+                if depth > 0 {
+                    Some(Cause::CallInTransaction)
+                } else {
+                    Some(Cause::Breakpoint)
+                }
+            }
+        }
+    }
+
+    /// What a word does at the hart's pc, or its cause.
+    fn effect(&self, text: &Text, word: u32) -> Result<Effect, Cause>
+        ensures value { result ≡ effect_or_cause (setting_of text.now.segments.now self.now) (seen_hart SETS self.now) word }
+        ensures fits { IfOk result (λ effect. Fits self.now.tx effect.act) }
+    {
+        let effect = effect_at(word, self.pc, &self.regs)?;
+        match self.act_cause(text, &effect.act) {
+            None => Ok(effect),
+            Some(cause) => Err(cause),
+        }
+    }
+
+    /// The word at the hart's pc and what it does, or its cause.
+    pub(crate) fn instruction(&self, text: &Text) -> Result<Instruction, Cause>
+        ensures word { IfOk result (λ next. word_at text.now.segments.now self.now.pc ≡ Some next.word) }
+        ensures effect { IfOk result (λ next.
+            next_of (setting_of text.now.segments.now self.now) (seen_hart SETS self.now) ≡ Ok next.effect) }
+        ensures fits { IfOk result (λ next. Fits self.now.tx next.effect.act) }
+        ensures cause { IfErr result (λ cause.
+            next_of (setting_of text.now.segments.now self.now) (seen_hart SETS self.now) ≡ Err cause) }
+    {
+        let Some(word) = text.word(self.pc) else {
+            return Err(Cause::FetchOutside);
+        };
+        let effect = self.effect(text, word)?;
+        Ok(Instruction { word, effect })
+    }
+}

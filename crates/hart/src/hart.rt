@@ -1,0 +1,125 @@
+ghost use Rattle.std.specs.Prelude.{◌≡◌, ◌<◌, ◌≤◌, ◌+◌, ◌-◌, ◌*◌, ◌^◌, ◌↔◌, ℕ, [], IsTrue, IsSome, Option};
+ghost use Rattle.std.specs.Option.{option_map};
+ghost use Rattle.words.specs.Limits.{most_harts, log_bytes};
+ghost use Rattle.flat.specs.State.{Setting};
+ghost use Rattle.flat.specs.Start.{first_regs};
+ghost use Rattle.protocol.specs.Start.{start};
+
+use crate::request::{PutOut, Request};
+use cache::{Cache, Line};
+use std::marker::Model;
+use transaction::Tx;
+use words::{Addr, BlockNo, HartId, LOG_BYTES, Regs, STACK_BYTES, Status};
+
+/// A hart, with a cache of SETS sets of WAYS lines. What it has put out stands in its machine.
+#[derive(Clone, Copy, Debug, PartialEq, Eq)]
+pub struct Hart<const SETS: usize, const WAYS: usize> {
+    pub(crate) index: HartId,
+    pub(crate) harts: usize,
+    pub(crate) size: usize,
+    pub(crate) pc: Addr,
+    pub(crate) status: Status,
+    pub(crate) fresh: bool,
+    pub(crate) request: Option<Request>,
+    pub(crate) put: Option<PutOut>,
+    pub(crate) regs: Regs,
+    pub(crate) tx: Tx,
+    pub(crate) cache: Cache<SETS, WAYS>,
+}
+
+impl<const SETS: usize, const WAYS: usize> Model for Hart<SETS, WAYS> {
+    ghost use Rattle.hart.specs.Parts.{Parts, IsSound};
+
+    ghost Value = { Parts };
+
+    ghost view = { λ h. record {
+      index = h.index;
+      harts = h.harts;
+      size = h.size;
+      regs = h.regs;
+      pc = h.pc;
+      status = h.status;
+      tx = h.tx;
+      cache = h.cache;
+      request = h.request;
+      put = h.put;
+      fresh = h.fresh;
+    } };
+
+    ghost invariant = { λ h. IsSound SETS (record {
+      index = h.index;
+      harts = h.harts;
+      size = h.size;
+      regs = h.regs;
+      pc = h.pc;
+      status = h.status;
+      tx = h.tx;
+      cache = h.cache;
+      request = h.request;
+      put = h.put;
+      fresh = h.fresh;
+    }) };
+
+    ghost inverse = { λ p. record {
+      index = p.index;
+      harts = p.harts;
+      size = p.size;
+      pc = p.pc;
+      status = p.status;
+      fresh = p.fresh;
+      request = p.request;
+      put = p.put;
+      regs = p.regs;
+      tx = p.tx;
+      cache = p.cache;
+    } };
+}
+
+/// The registers at the boot: sp is the top of the hart's stack, a0 its number, a1 the number of harts.
+fn first_regs(index: HartId, harts: usize, size: usize) -> Regs
+    requires size { size < 2 ^ 32 }
+    requires few { harts ≤ most_harts }
+    ensures { (s : Setting) → s.size ≡ size → s.count ≡ harts → result ≡ first_regs s index }
+{
+    let logs_from = size.saturating_sub(harts * LOG_BYTES);
+    let mut regs = [0; 32];
+    regs[2] = logs_from.saturating_sub(index.index() * STACK_BYTES) as u32;
+    regs[10] = index.index() as u32;
+    regs[11] = harts as u32;
+    regs
+}
+
+impl<const SETS: usize, const WAYS: usize> Hart<SETS, WAYS> {
+    ghost use Rattle.hart.specs.Shown.{shown_hart, shown_tx, lines_of};
+
+    /// A hart as a machine of so many harts and bytes of memory begins with it, at the program's entry.
+    pub fn new(index: HartId, harts: usize, size: usize, entry: Addr) -> Self
+        requires sets { 0 < SETS }
+        requires ways { 0 < WAYS }
+        requires lines { SETS * WAYS < 2 ^ 32 }
+        requires hart { index < harts }
+        requires few { harts ≤ most_harts }
+        requires size { size < 2 ^ 32 }
+        ensures start { (s : Setting) → s.size ≡ size → s.count ≡ harts →
+            shown_hart SETS [] result ≡ (start s entry).harts index }
+        ensures index { result.index ≡ index }
+        ensures harts { result.harts ≡ harts }
+        ensures size { result.size ≡ size }
+        ensures log { result.tx.log.base ≡ size - log_bytes * (index + 1) }
+    {
+        let base = size.saturating_sub(LOG_BYTES * (index.index() + 1));
+        Hart {
+            index,
+            harts,
+            size,
+            pc: entry,
+            status: Status::Running,
+            fresh: false,
+            request: None,
+            put: None,
+            regs: first_regs(index, harts, size),
+            tx: Tx::new(Addr::new(base as u32)),
+            cache: Cache::new(),
+        }
+    }
+}

@@ -1,0 +1,24 @@
+//! One hart of the coherent machine, with its cache, its transaction and its undo log: what its core does in a step, and what it
+//! does with a message. A hart is a plain value, which is copied and compared as a whole and takes no memory of its own. Refusals,
+//! the overflow bit and the possible-cycle flag are LogTM's (Moore, Bobba, Moravan, Hill and Wood, HPCA 2006).
+#![tactic(auto)]
+
+mod aborts;
+mod access;
+mod causes;
+mod evict;
+mod hart;
+mod local;
+mod messages;
+mod reads;
+mod reply;
+mod request;
+mod retire;
+mod step;
+#[cfg(test)]
+mod tests;
+mod transactions;
+
+pub use hart::Hart;
+pub use reply::{CoreStep, Local, Reply};
+pub use request::{Granted, PutOut, Request};

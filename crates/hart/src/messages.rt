@@ -1,0 +1,321 @@
+ghost use Rattle.std.specs.Prelude.{◌≡◌, ℕ, List, Option, Some, None, IsSomeAnd, IfSome, false, cond, ◌==◌, option_and_then};
+ghost use Rattle.std.specs.Option.{option_map};
+ghost use Rattle.cache.specs.Sets.{line_at};
+ghost use Rattle.protocol.specs.Messages.{shown, Done};
+ghost use Rattle.protocol.specs.Lines.{refuses, line_given, line_filled, state_given};
+ghost use Rattle.protocol.specs.Hart.{quiet, with_line, overflow_of};
+ghost use Rattle.protocol.specs.Requests.{granted_so_far, granted_row, refused_row, grant_row, ack_row, nack_row};
+ghost use Rattle.protocol.specs.HartMessages.{message_row, forward_row, refuse_row, acknowledge_row, put_ack_row, content_held};
+
+use crate::hart::Hart;
+use crate::reply::Reply;
+use crate::request::{Granted, Request, content_back, have_answered};
+use crate::transactions::{give_way, note_refusal};
+use cache::Line;
+use conflict::{earlier, refuses};
+use words::{Block, BlockNo, Entry, HartId, Kind, LineState, Message, Stamp};
+
+impl<const SETS: usize, const WAYS: usize> Hart<SETS, WAYS> {
+    ghost use Rattle.hart.specs.Parts.{StaysPut};
+    ghost use Rattle.hart.specs.Shown.{shown_line, shown_tx, shown_hart, shown_granted, shown_request, lines_of};
+    ghost use Rattle.hart.specs.Rows.{replied};
+
+    /// Does what the protocol's row for the message says. A message that the hart doesn't await, or that is for the directory,
+    /// changes nothing.
+    pub fn on_message(&mut self, message: Message) -> Reply
+        ensures row { (output : List ℕ) →
+            message_row self.old.harts self.old.index (shown message) (shown_hart SETS output self.old)
+            ≡ replied SETS output self.new result }
+        ensures stays { StaysPut self.old self.new }
+    {
+        match message {
+            Message::Grant {
+                to: _,
+                block,
+                give,
+                content,
+                expect,
+            } => self.on_grant(
+                block,
+                Granted {
+                    give,
+                    content,
+                    expect,
+                },
+            ),
+            Message::Forward {
+                to: _,
+                block,
+                kind,
+                requester,
+                stamp,
+            } => self.on_forward(block, kind, requester, stamp),
+            Message::PutAck { to: _, block } => {
+                self.on_put_ack(block);
+                Reply::none()
+            }
+            Message::Ack {
+                from,
+                to: _,
+                block,
+                content,
+            } => self.on_ack(block, from, content),
+            Message::Nack {
+                from,
+                to: _,
+                block,
+                stamp,
+            } => self.on_nack(block, from, stamp),
+            Message::Get { .. } | Message::Put { .. } | Message::Done { .. } => Reply::none(),
+        }
+    }
+
+    /// Another hart asks for a block.
+    fn on_forward(
+        &mut self,
+        block: BlockNo,
+        kind: Kind,
+        requester: HartId,
+        stamp: Option<Stamp>,
+    ) -> Reply
+        ensures row { (output : List ℕ) → forward_row self.old.index block kind requester stamp (shown_hart SETS output self.old)
+            ≡ replied SETS output self.new result }
+        ensures stays { StaysPut self.old self.new }
+    {
+        if self.refuses(block, kind) {
+            return self.refuse(block, requester, stamp);
+        }
+        let content = self.content_held(block);
+        self.give(block, kind);
+        Reply {
+            message: Some(Message::Ack {
+                from: self.index,
+                to: requester,
+                block,
+                content,
+            }),
+            entry: None,
+        }
+    }
+
+    /// Whether the hart keeps a block from others: by the marks of its line, or without a line if it has overflowed.
+    fn refuses(&self, block: BlockNo, kind: Kind) -> bool
+        ensures { result ≡ refuses (lines_of SETS self.now.cache block) (overflow_of (shown_tx self.now.tx)) kind }
+    {
+        let overflow = self.overflow();
+        match self.line(block) {
+            Some(line) => refuses(Some(line.marks), overflow, kind),
+            None => refuses(None, overflow, kind),
+        }
+    }
+
+    /// Keeps a block from another hart.
+    fn refuse(&mut self, block: BlockNo, requester: HartId, stamp: Option<Stamp>) -> Reply
+        ensures row { (output : List ℕ) → refuse_row self.old.index block requester stamp (shown_hart SETS output self.old)
+            ≡ replied SETS output self.new result }
+        ensures stays { StaysPut self.old self.new }
+    {
+        let own = self.stamp();
+        note_refusal(&mut self.tx, stamp);
+        Reply {
+            message: Some(Message::Nack {
+                from: self.index,
+                to: requester,
+                block,
+                stamp: own,
+            }),
+            entry: Some(Entry::Refuse {
+                hart: self.index,
+                requester,
+                block,
+            }),
+        }
+    }
+
+    /// The content that memory may lack: of an E or M line, or of the Put that isn't over.
+    fn content_held(&self, block: BlockNo) -> Option<Block>
+        ensures { (output : List ℕ) → result ≡ content_held block (shown_hart SETS output self.now) }
+    {
+        self.owned_content(block).or(self.put_content(block))
+    }
+
+    /// Shares a block's line, or gives it up.
+    fn give(&mut self, block: BlockNo, kind: Kind)
+        requires { refuses (lines_of SETS self.old.cache block) (overflow_of (shown_tx self.old.tx)) kind ≡ false }
+        ensures hart { (output : List ℕ) → let h = shown_hart SETS output self.old in
+            shown_hart SETS output self.new ≡ with_line block (line_given kind (h.lines block)) h }
+        ensures stays { StaysPut self.old self.new }
+    {
+        match kind {
+            Kind::Read => {
+                if let Some(line) = self.line(block) {
+                    self.cache.replace(Line {
+                        state: LineState::Shared,
+                        ..line
+                    });
+                }
+            }
+            Kind::Write => self.cache.invalidate(block),
+        }
+    }
+
+    /// The hart's Put of a block is over.
+    fn on_put_ack(&mut self, block: BlockNo)
+        ensures row { (output : List ℕ) → put_ack_row block (shown_hart SETS output self.old)
+            ≡ quiet (shown_hart SETS output self.new) }
+        ensures stays { StaysPut self.old self.new }
+    {
+        if let Some(put) = &self.put {
+            if put.block == block {
+                self.put = None;
+            }
+        }
+    }
+
+    /// The request that is out, if it is for this block.
+    fn awaited(&self, block: BlockNo) -> Option<Request>
+        ensures value { result ≡ option_and_then (λ r. cond (r.block == block) (Some r) None) self.now.request }
+        ensures some { IfSome result (λ r. (self.now.request ≡ Some r) × (r.block ≡ block)) }
+    {
+        let request = self.request?;
+        if request.block == block {
+            Some(request)
+        } else {
+            None
+        }
+    }
+
+    fn on_grant(&mut self, block: BlockNo, granted: Granted) -> Reply
+        ensures row { (output : List ℕ) →
+            grant_row self.old.harts self.old.index block (shown_granted granted) (shown_hart SETS output self.old)
+            ≡ replied SETS output self.new result }
+        ensures stays { StaysPut self.old self.new }
+    {
+        match self.awaited(block) {
+            Some(request) => self.settle(&request.with_grant(granted)),
+            None => Reply::none(),
+        }
+    }
+
+    fn on_ack(&mut self, block: BlockNo, from: HartId, content: Option<Block>) -> Reply
+        ensures row { (output : List ℕ) →
+            ack_row self.old.harts self.old.index block from content (shown_hart SETS output self.old)
+            ≡ replied SETS output self.new result }
+        ensures stays { StaysPut self.old self.new }
+    {
+        match self.awaited(block) {
+            Some(request) => self.settle(&request.with_ack(from, content)),
+            None => Reply::none(),
+        }
+    }
+
+    fn on_nack(&mut self, block: BlockNo, from: HartId, stamp: Option<Stamp>) -> Reply
+        ensures row { (output : List ℕ) →
+            nack_row self.old.harts self.old.index block from stamp (shown_hart SETS output self.old)
+            ≡ replied SETS output self.new result }
+        ensures stays { StaysPut self.old self.new }
+    {
+        let is_earlier = earlier(stamp, self.stamp());
+        match self.awaited(block) {
+            Some(request) => self.settle(&request.with_nack(from, is_earlier)),
+            None => Reply::none(),
+        }
+    }
+
+    /// Ends the request, which has got another answer, if that was the last one; else waits on.
+    fn settle(&mut self, request: &Request) -> Reply
+        requires { IsSomeAnd self.old.request (λ old. request.now.block ≡ old.block) }
+        ensures row { (output : List ℕ) → let r = shown_request request.now in
+            granted_so_far self.old.harts self.old.index r r.grant (shown_hart SETS output self.old)
+            ≡ replied SETS output self.new result }
+        ensures stays { StaysPut self.old self.new }
+    {
+        if let Some(granted) = &request.grant {
+            if have_answered(&granted.expect, &request.answered, self.harts) {
+                return if request.refused {
+                    self.end_refused(request)
+                } else {
+                    self.end_granted(request, granted)
+                };
+            }
+        }
+        self.request = Some(*request);
+        Reply::none()
+    }
+
+    /// The request ends refused, and the hart is free to ask again, unless its transaction aborts now.
+    fn end_refused(&mut self, request: &Request) -> Reply
+        ensures row { (output : List ℕ) → refused_row self.old.index (shown_request request.now) (shown_hart SETS output self.old)
+            ≡ replied SETS output self.new result }
+        ensures stays { StaysPut self.old self.new }
+    {
+        self.request = None;
+        give_way(&mut self.tx, request.earlier);
+        Reply {
+            message: Some(self.done(request, false, None)),
+            entry: None,
+        }
+    }
+
+    /// The request ends granted, and the hart is fresh.
+    fn end_granted(&mut self, request: &Request, granted: &Granted) -> Reply
+        requires { IsSomeAnd self.old.request (λ old. request.now.block ≡ old.block) }
+        ensures row { (output : List ℕ) →
+            granted_row self.old.index (shown_request request.now) (shown_granted granted.now) (shown_hart SETS output self.old)
+            ≡ replied SETS output self.new result }
+        ensures stays { StaysPut self.old self.new }
+    {
+        let content = request.content.unwrap_or(granted.content);
+        self.receive(request.block, granted.give, content);
+        self.request = None;
+        self.fresh = true;
+        let back = content_back(granted.give, request.content);
+        Reply {
+            message: Some(self.done(request, true, back)),
+            entry: None,
+        }
+    }
+
+    /// What tells the directory that a request is over.
+    fn done(&self, request: &Request, ok: bool, content: Option<Block>) -> Message
+        ensures { shown result ≡ Done self.now.index request.now.block ok content }
+    {
+        Message::Done {
+            from: self.index,
+            block: request.block,
+            ok,
+            content,
+        }
+    }
+
+    /// The block that the hart waits for is given: an absent line is filled, and one that is there may be written from now on, if
+    /// M is given.
+    fn receive(&mut self, block: BlockNo, give: LineState, content: Block)
+        requires { IsSomeAnd self.old.request (λ old. block ≡ old.block) }
+        ensures hart { (output : List ℕ) → let h = shown_hart SETS output self.old in
+            shown_hart SETS output self.new ≡ with_line block
+            (Some (line_filled give (overflow_of h.tx) content (h.lines block))) h }
+        ensures stays { StaysPut self.old self.new }
+    {
+        match self.line(block) {
+            None => {
+                let overflowed = self.overflow();
+                self.cache.fill(block, content, give, overflowed);
+            }
+            Some(line) => {
+                let state = state_given(give, line.state);
+                self.cache.replace(Line { state, ..line });
+            }
+        }
+    }
+}
+
+/// The state of a line that is there once its request is granted.
+fn state_given(give: LineState, state: LineState) -> LineState
+    ensures { result ≡ state_given give state }
+{
+    match give {
+        LineState::Modified => LineState::Modified,
+        LineState::Shared | LineState::Exclusive => state,
+    }
+}

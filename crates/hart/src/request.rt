@@ -1,0 +1,132 @@
+ghost use Rattle.std.specs.Prelude.{◌≡◌, ◌≤◌, ◌||◌, ◌↔◌, ℕ, Option, IsTrue};
+ghost use Rattle.words.specs.Harts.{names};
+ghost use Rattle.words.specs.Limits.{most_harts};
+ghost use Rattle.protocol.specs.Requests.{new_request, with_grant, with_ack, with_nack, have_answered, content_back};
+
+use words::{Block, BlockNo, HartId, HartSet, Kind, LineState};
+
+/// What the directory gives to a request: how its hart may hold the block, memory's content, and the harts whose answers the
+/// request awaits.
+#[derive(Clone, Copy, Debug, PartialEq, Eq)]
+pub struct Granted {
+    pub give: LineState,
+    pub content: Block,
+    pub expect: HartSet,
+}
+
+/// A request that is out, and what is kept of its answers.
+#[derive(Clone, Copy, Debug, PartialEq, Eq)]
+pub struct Request {
+    pub block: BlockNo,
+    pub kind: Kind,
+    pub grant: Option<Granted>,
+    /// The harts that have acknowledged or refused.
+    pub answered: HartSet,
+    /// Whether one refused.
+    pub refused: bool,
+    /// The content that one gave.
+    pub content: Option<Block>,
+    /// Whether one with an earlier stamp refused.
+    pub earlier: bool,
+}
+
+/// A Put that the directory hasn't acknowledged yet.
+#[derive(Clone, Copy, Debug, PartialEq, Eq)]
+pub struct PutOut {
+    pub block: BlockNo,
+    pub content: Block,
+    /// Whether the running transaction had, or may have, used the line.
+    pub marked: bool,
+}
+
+impl Request {
+    ghost use Rattle.hart.specs.Shown.{shown_granted, shown_request};
+
+    /// A request without answers.
+    pub(crate) fn new(block: BlockNo, kind: Kind) -> Self
+        ensures { shown_request result ≡ new_request block kind }
+    {
+        Request {
+            block,
+            kind,
+            grant: None,
+            answered: HartSet::empty(),
+            refused: false,
+            content: None,
+            earlier: false,
+        }
+    }
+
+    /// The request with its grant.
+    pub(crate) fn with_grant(&self, granted: Granted) -> Self
+        ensures { shown_request result ≡ with_grant (shown_granted granted) (shown_request self.now) }
+    {
+        Request {
+            grant: Some(granted),
+            ..*self
+        }
+    }
+
+    /// The request with an acknowledgement.
+    pub(crate) fn with_ack(&self, from: HartId, content: Option<Block>) -> Self
+        ensures { shown_request result ≡ with_ack from content (shown_request self.now) }
+    {
+        let mut answered = self.answered;
+        answered.insert(from);
+        Request {
+            answered,
+            content: content.or(self.content),
+            ..*self
+        }
+    }
+
+    /// The request with a refusal, of a transaction that is earlier or not.
+    pub(crate) fn with_nack(&self, from: HartId, is_earlier: bool) -> Self
+        ensures { shown_request result ≡ with_nack from is_earlier (shown_request self.now) }
+    {
+        let mut answered = self.answered;
+        answered.insert(from);
+        Request {
+            answered,
+            refused: true,
+            earlier: self.earlier || is_earlier,
+            ..*self
+        }
+    }
+}
+
+/// Whether each of the first harts that is expected has answered.
+pub(crate) fn have_answered(expect: &HartSet, answered: &HartSet, harts: usize) -> bool
+    requires { harts ≤ most_harts }
+    ensures { result ≡ have_answered harts (names expect.now) (names answered.now) }
+{
+    let mut all = true;
+    for h in 0..harts {
+        let hart = HartId::new(h as u8);
+        all = all && (!expect.contains(hart) || answered.contains(hart));
+    }
+    all
+}
+
+/// What a requester tells the directory of the content that it was given: memory needs it only where the block is shared from now
+/// on.
+pub(crate) fn content_back(give: LineState, content: Option<Block>) -> Option<Block>
+    ensures { result ≡ content_back give content }
+{
+    match give {
+        LineState::Shared => content,
+        LineState::Exclusive | LineState::Modified => None,
+    }
+}
+
+pub(crate) fn same_request(a: &Option<Request>, b: &Option<Request>) -> bool
+    ensures { IsTrue result ↔ (a.now ≡ b.now) }
+{
+    *a == *b
+}
+
+pub(crate) fn same_put(a: &Option<PutOut>, b: &Option<PutOut>) -> bool
+    ensures { IsTrue result ↔ (a.now ≡ b.now) }
+{
+    *a == *b
+}

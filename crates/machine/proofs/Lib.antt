@@ -1,0 +1,13 @@
+mod Places
+mod Changed
+mod Sending
+mod Acting
+mod Sound
+mod Steps
+mod Deliveries
+mod Served
+mod Blocks
+mod Beginning
+mod Cores
+mod Runs
+mod Reading

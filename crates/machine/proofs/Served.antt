@@ -1,0 +1,151 @@
+-- A message that arrives at the directory is a step of the protocol's machine.
+use Rattle.std.proofs.Common.{◌≡◌, ◌<◌, ◌≤◌, ◌*◌, ℕ, arith, Option, Some, None, List, [], length, replicate, inl, inr, refl, sym, ap, subst, ◌∙◌}
+use Rattle.std.specs.Prelude.{IfSome, ◌⊎◌, slice_get}
+use Rattle.std.specs.List.{slice_index_or}
+use Rattle.std.proofs.lemmas.Bool.{cases_lt}
+use Rattle.words.specs.Limits.{block_bytes, block_words}
+use Rattle.words.specs.declared.message.Message.{Message}
+use Rattle.words.specs.declared.entry.Step.TheVariants.{Deliver}
+use Rattle.flat.specs.Bytes.{put_at}
+use Rattle.protocol.specs.Messages.{Block, Message as Told, Get, Put, Done, Grant, Forward, PutAck, Ack, Nack, shown as shown_message, receiver_of, block_of}
+use Rattle.protocol.specs.Network.{Sends, taken}
+use Rattle.protocol.specs.Directory.{Served, directory_row}
+use Rattle.protocol.specs.Machine.{Steps, ComesAbout, served_change, directory_change}
+use Rattle.directory.specs.declared.received.Received.TheVariants.{Held, Sent}
+use Rattle.directory.specs.Blocks.{Blocks, entry_at, row_of, sender_of, SetsBlock, Follows}
+use Rattle.bounds.specs.Memory.{IsWithinMemory}
+use Rattle.bounds.proofs.Machines.{run_within}
+use Rattle.isolation.specs.Facts.{whose, IsAwaited}
+use Rattle.isolation.proofs.Consequences.RequestLaws.{awaited}
+use Rattle.isolation.proofs.Belongs.Belonging.{world, inv_of, belongs_next}
+use Rattle.arrayvec.specs.ArrayVec.{ArrayVec}
+use Rattle.directory.specs.declared.received.Outgoing.{Outgoing}
+use Rattle.machine.specs.Mail.{in_flight, messages_of}
+use Rattle.machine.specs.States.{State, shown, geometry, hart_at, words_of, setting_of, IsSeated, IsSound}
+use Rattle.machine.proofs.Places.{within, beyond}
+use Rattle.machine.proofs.Changed.{changed_at}
+use Rattle.machine.proofs.Steps.{nothing}
+use Rattle.machine.proofs.Deliveries.{arrives}
+
+-- What a message to the directory is about
+
+-- its block is in memory
+pub block_inside : (sets ways key : ℕ) (v : State) (m : Told) → IsSound sets ways v → in_flight v.flights key ≡ Some m → block_of m < length v.directory.memory
+block_inside sets ways key v m sound here =
+    let b = sound.belongs in
+    let within : IsWithinMemory (shown sets v) = run_within (geometry sets ways) b.setting b.entry b.steps b.entries (shown sets v) b.run in
+    let inside : block_bytes * block_of m < block_bytes * length v.directory.memory = within.messages key m here in
+    omega (arith, inside)
+
+-- its sender is a hart
+sender_of_it : (n : ℕ) (m : Told) → whose m < n → IfSome (sender_of m) (λ h. h < n)
+sender_of_it n (Get from block kind stamp) lt = lt
+sender_of_it n (Put from block content marked) lt = lt
+sender_of_it n (Done from block ok content) lt = lt
+sender_of_it n (Grant to block granted) lt = tt {0}
+sender_of_it n (Forward to block kind requester stamp) lt = tt {0}
+sender_of_it n (PutAck to block) lt = tt {0}
+sender_of_it n (Ack from to block content) lt = tt {0}
+sender_of_it n (Nack from to block stamp) lt = tt {0}
+
+pub sender_inside : (sets ways key : ℕ) (v : State) (m : Told) → IsSound sets ways v → in_flight v.flights key ≡ Some m → IfSome (sender_of m) (λ h. h < v.directory.harts)
+sender_inside sets ways key v m sound here =
+    let i = inv_of (geometry sets ways) sound.flat (shown sets v) sound.belongs in
+    let facts : IsAwaited (shown sets v) = awaited (world (shown sets v) sound.flat sound.belongs.entries i.0) i.1 in
+    sender_of_it v.directory.harts m (subst (λ n. whose m < n) sound.count (facts.from_hart m (key, here)))
+
+-- Memory
+
+-- a block of two memories of one size
+same_words : (old new : List Block) (b : ℕ) → length new ≡ length old → slice_index_or new b [] ≡ slice_index_or old b [] → words_of new b ≡ words_of old b
+same_words old new b size e = at (cases_lt b (length old))
+  where
+    at : (b < length old) ⊎ (length old ≤ b) → words_of new b ≡ words_of old b
+    at (inl lt) = within new b (replicate block_words 0) [] (omega (arith, size)) ∙ e ∙ within old b [] (replicate block_words 0) lt
+    at (inr le) = beyond new b (replicate block_words 0) (omega (arith, size)) ∙ sym (beyond old b (replicate block_words 0) le)
+
+-- The directory
+
+-- what the directory made of a message, and the machine of it
+pub record Serves (key : ℕ) (v w : State) (m : Message) (s : Served) : Type 0 where
+  pub program : w.program ≡ v.program
+  pub seats : w.seats ≡ v.seats
+  pub stamps : w.stamps ≡ v.stamps
+  pub row : row_of v.directory (shown_message m) ≡ Some s
+  pub block : SetsBlock v.directory w.directory (block_of (shown_message m)) s.entry s.memory
+  pub sends : Sends (taken key (in_flight v.flights)) s.sent (in_flight w.flights)
+
+-- the row, as the protocol's machine has it
+row_is : (sets ways key : ℕ) (v : State) (m : Message) → IsSound sets ways v → in_flight v.flights key ≡ Some (shown_message m)
+    → directory_row (length v.seats) (shown_message m) (entry_at v.directory (block_of (shown_message m))) (words_of v.directory.memory (block_of (shown_message m))) ≡ row_of v.directory (shown_message m)
+row_is sets ways key v m sound here =
+    let b : ℕ = block_of (shown_message m) in
+    (λ k. directory_row (sound.count k) (shown_message m) (entry_at v.directory b) (within v.directory.memory b (replicate block_words 0) [] (block_inside sets ways key v (shown_message m) sound here) k))
+
+-- a message that is held stays in flight
+pub holds : (sets ways key : ℕ) (v : State) (m : Message) → IsSound sets ways v → in_flight v.flights key ≡ Some (shown_message m) → receiver_of (shown_message m) ≡ None
+    → row_of v.directory (shown_message m) ≡ None → Steps (geometry sets ways) (shown sets v) (Deliver key) None (shown sets v)
+holds sets ways key v m sound here goes held = arrives sets ways key v m None None v here goes
+    (subst (λ o. ComesAbout (served_change key (block_of (shown_message m)) o (shown sets v)) None (shown sets v)) (sym (row_is sets ways key v m sound here ∙ held)) (nothing (shown sets v)))
+
+-- and one that is served is taken, and the answers are sent
+pub serves : (sets ways key : ℕ) (v w : State) (m : Message) (s : Served) → IsSound sets ways v → in_flight v.flights key ≡ Some (shown_message m) → receiver_of (shown_message m) ≡ None
+    → Serves key v w m s → Steps (geometry sets ways) (shown sets v) (Deliver key) None (shown sets w) × IsSound sets ways w
+serves sets ways key v w m s sound here goes d = (steps, kept)
+  where
+    b : ℕ
+    b = block_of (shown_message m)
+
+    memory : words_of w.directory.memory ≡ put_at b s.memory (words_of v.directory.memory)
+    memory = changed_at b s.memory (words_of v.directory.memory) (words_of w.directory.memory)
+        (within w.directory.memory b (replicate block_words 0) [] (omega (arith, d.block.size, block_inside sets ways key v (shown_message m) sound here)) ∙ d.block.memory)
+        (λ j ne. same_words v.directory.memory w.directory.memory j d.block.size (d.block.memories j ne))
+
+    setting : setting_of w ≡ setting_of v
+    setting = λ k. record { segments = (d.program k).segments; size = block_bytes * d.block.size k; count = length (d.seats k) }
+
+    same : shown sets w ≡ record (record (shown sets v) { entries = put_at b s.entry (entry_at v.directory); memory = put_at b s.memory (words_of v.directory.memory) }) { net = in_flight w.flights }
+    same = λ k. record {
+      setting = setting k;
+      harts = hart_at sets (d.seats k);
+      entries = changed_at b s.entry (entry_at v.directory) (entry_at w.directory) d.block.entry d.block.entries k;
+      memory = memory k;
+      net = in_flight w.flights;
+      stamps = d.stamps k;
+    }
+
+    about : ComesAbout (directory_change b s (record (shown sets v) { net = taken key (in_flight v.flights) })) None (shown sets w)
+    about = (refl, in_flight w.flights, d.sends, same)
+
+    steps : Steps (geometry sets ways) (shown sets v) (Deliver key) None (shown sets w)
+    steps = arrives sets ways key v m None None w here goes
+        (subst (λ o. ComesAbout (served_change key b o (shown sets v)) None (shown sets w)) (sym (row_is sets ways key v m sound here ∙ d.row)) about)
+
+    kept : IsSound sets ways w
+    kept =
+        let next = belongs_next (geometry sets ways) sound.flat (shown sets v) (shown sets w) (Deliver key) None sound.belongs steps in
+        record {
+          some_way = sound.some_way;
+          fits = sound.fits;
+          count = ap length d.seats ∙ sound.count ∙ sym d.block.harts;
+          seats = λ i seat at. subst (λ set. IsSeated set i seat.hart) (sym setting) (sound.seats i seat (sym (ap (λ l. slice_get l i) d.seats) ∙ at));
+          flat = next.0;
+          belongs = next.2;
+        }
+
+-- the same, of what the directory has answered
+pub follows : (sets ways key : ℕ) (v w : State) (m : Message) (sent : ArrayVec Outgoing) → IsSound sets ways v → in_flight v.flights key ≡ Some (shown_message m) → receiver_of (shown_message m) ≡ None
+    → Follows (Sent sent) (row_of v.directory (shown_message m)) (block_of (shown_message m)) v.directory w.directory
+    → w.program ≡ v.program → w.seats ≡ v.seats → w.stamps ≡ v.stamps → Sends (taken key (in_flight v.flights)) (messages_of sent.items) (in_flight w.flights)
+    → Steps (geometry sets ways) (shown sets v) (Deliver key) None (shown sets w) × IsSound sets ways w
+follows sets ways key v w m sent sound here goes f program seats stamps sends = at (row_of v.directory (shown_message m)) refl f
+  where
+    at : (row : Option Served) → row_of v.directory (shown_message m) ≡ row → Follows (Sent sent) row (block_of (shown_message m)) v.directory w.directory
+        → Steps (geometry sets ways) (shown sets v) (Deliver key) None (shown sets w) × IsSound sets ways w
+    at None is none = absurd none
+    at (Some s) is (told, block) = serves sets ways key v w m s sound here goes (record { program = program; seats = seats; stamps = stamps; row = is; block = block; sends = subst (λ ms. Sends (taken key (in_flight v.flights)) ms (in_flight w.flights)) told sends })
+
+-- or has held
+pub held : (sets ways key : ℕ) (v : State) (m : Message) (new : Blocks) → IsSound sets ways v → in_flight v.flights key ≡ Some (shown_message m) → receiver_of (shown_message m) ≡ None
+    → Follows Held (row_of v.directory (shown_message m)) (block_of (shown_message m)) v.directory new → Steps (geometry sets ways) (shown sets v) (Deliver key) None (shown sets v)
+held sets ways key v m new sound here goes f = holds sets ways key v m sound here goes f.0

@@ -1,0 +1,62 @@
+use Rattle.std.proofs.Common.{◌*◌, length, refl, sym, ap, subst, ◌∙◌}
+use Rattle.words.specs.Limits.{block_bytes}
+use Rattle.table.specs.Program.{image_at}
+use Rattle.flat.specs.State.{Setting}
+use Rattle.flat.specs.Boots.{booted}
+use Rattle.overlay.specs.Memory.{mem_of}
+use Rattle.protocol.specs.Start.{start}
+use Rattle.isolation.specs.Belongs.{Belongs}
+use Rattle.isolation.proofs.Belongs.Belonging.{belongs_start}
+use Rattle.isolation.proofs.Words.Bytes.{words_same}
+use Rattle.machine.specs.States.{State, shown, geometry, words_of, setting_of}
+use Rattle.std.specs.Option.{option_map}
+use Rattle.protocol.specs.Messages.{shown as shown_message}
+use Rattle.machine.proofs.Beginning.{Begins, begins, all_fit, whole_blocks}
+use Rattle.machine.proofs.machine.Machine.first.Given.{Over}
+use Rattle.machine.proofs.machine.Machine.first.Goals as goal
+
+pub image-requires : goal.image-requires
+image-requires g c = all_fit c.args.program.segments c.args.harts c.args.size c.requires.bootable
+
+-- the machine that is made
+abbrev made : (g : Over) (c : goal.After-new-2 g) → State
+made g c = record { program = c.args.program; seats = c.in_ok-seats.seats.items; directory = c.new.result; flights = c.new-2.result.slots; sent = c.new-2.result.next; stamps = 0 }
+
+is_first : (g : Over) (c : goal.After-new-2 g) → Begins g.row.SETS c.args.program c.args.harts c.args.size (made g c)
+is_first g c = record {
+  program = refl;
+  count = sym c.in_ok-seats.seats.ok.0 ∙ c.in_ok-seats.ensures.count;
+  harts = λ set j size count. c.in_ok-seats.ensures.harts set j size count ∙ ap (λ e. (start set e).harts j) c.entry.ensures.value;
+  blocks = ap (λ n. block_bytes * n) (ap length c.new.ensures.memory ∙ sym c.in_ok-memory.memory.ok.0 ∙ c.in_ok-memory.ensures.count) ∙ whole_blocks c.args.program.segments c.args.harts c.args.size c.requires.bootable;
+  words = λ b.
+      ap (λ blocks. words_of blocks b) c.new.ensures.memory
+      ∙ c.in_ok-memory.ensures.words b
+      ∙ words_same (mem_of c.deref.result.now) (image_at c.args.program.segments) b (λ a at. ap (λ bytes. mem_of bytes a) c.deref.ensures.value ∙ c.in_ok-bytes.ensures.memory a);
+  entries = c.new.ensures.entries;
+  flights = λ key. ap (λ o. option_map shown_message (option_map (λ f. f.message) o)) (c.new-2.ensures.empty key);
+  stamps = refl;
+}
+
+belongs : (g : Over) (c : goal.After-new-2 g) → Belongs (geometry g.row.SETS g.row.WAYS) (booted c.args.program.segments c.args.program.entry c.args.harts c.args.size) (shown g.row.SETS (made g c))
+belongs g c =
+    let set : Setting = record { segments = c.args.program.segments; size = c.args.size; count = c.args.harts } in
+    subst (Belongs (geometry g.row.SETS g.row.WAYS) (booted c.args.program.segments c.args.program.entry c.args.harts c.args.size)) (sym (begins g.row.SETS c.args.program c.args.harts c.args.size (made g c) (is_first g c)))
+    (belongs_start (geometry g.row.SETS g.row.WAYS) set c.args.program.entry c.in_ok-bytes.ensures.bytes)
+
+pub invariant_of-result : goal.invariant_of-result
+invariant_of-result g c = record {
+  some_way = c.requires.ways;
+  fits = c.requires.lines;
+  count = sym c.in_ok-seats.seats.ok.0 ∙ c.in_ok-seats.ensures.count ∙ sym c.new.ensures.harts;
+  seats = λ j x at.
+      let b : Begins g.row.SETS c.args.program c.args.harts c.args.size (made g c) = is_first g c in
+      c.in_ok-seats.ensures.seated (setting_of (made g c)) j x b.blocks b.count at;
+  flat = booted c.args.program.segments c.args.program.entry c.args.harts c.args.size;
+  belongs = belongs g c;
+}
+
+pub returns-clause-start : goal.returns-clause-start
+returns-clause-start g c = begins g.row.SETS c.args.program c.args.harts c.args.size (made g c.before) (is_first g c.before)
+
+pub returns-clause-belongs : goal.returns-clause-belongs
+returns-clause-belongs g c = belongs g c.before

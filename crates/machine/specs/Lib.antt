@@ -1,0 +1,5 @@
+pub mod Mail
+pub mod States
+pub mod Rows
+pub mod Runs
+pub mod Reads

@@ -1,0 +1,39 @@
+use crate::seat::Seat;
+use directory::Directory;
+use loader::Program;
+use network::Net;
+use std::marker::Model;
+
+/// Harts with caches of SETS sets of WAYS lines, a directory with memory, and the messages in flight between them.
+#[derive(Drop)]
+pub struct Machine<const SETS: usize, const WAYS: usize> {
+    pub(crate) program: Program,
+    pub(crate) seats: Vec<Seat<SETS, WAYS>>,
+    pub(crate) directory: Directory,
+    pub(crate) net: Net,
+    pub(crate) stamps: u64,
+}
+
+impl<const SETS: usize, const WAYS: usize> Model for Machine<SETS, WAYS> {
+    ghost use Rattle.machine.specs.States.{State, IsSound};
+
+    ghost Value = { State };
+
+    ghost view = { λ m. record {
+      program = m.program;
+      seats = m.seats.items;
+      directory = m.directory;
+      flights = m.net.slots;
+      sent = m.net.next;
+      stamps = m.stamps;
+    } };
+
+    ghost invariant = { λ m. IsSound SETS WAYS (record {
+      program = m.program;
+      seats = m.seats.items;
+      directory = m.directory;
+      flights = m.net.slots;
+      sent = m.net.next;
+      stamps = m.stamps;
+    }) };
+}

@@ -1,0 +1,133 @@
+ghost use Rattle.std.specs.Prelude.{◌≡◌, ◌<◌, ℕ, IfOk, OnErr, Some, None};
+ghost use Rattle.words.specs.declared.entry.Step.TheVariants.{Core, Evict, Deliver};
+ghost use Rattle.flat.specs.State.{Flat};
+ghost use Rattle.flat.specs.Steps.{CarriesSome};
+ghost use Rattle.protocol.specs.Machine.{Steps, stamps_after};
+ghost use Rattle.protocol.specs.Messages.{shown as shown_message, receiver_of};
+ghost use Rattle.isolation.specs.Belongs.{Belongs};
+ghost use Rattle.machine.specs.Mail.{in_flight};
+
+use crate::machine::Machine;
+use crate::mail::{receiver, send, send_all, take};
+use directory::Received;
+use std::alloc::AllocError;
+use words::{BlockNo, Entry, HARTS, HartId, Message, Step};
+
+/// How many new stamps were taken, up to the greatest u64.
+fn stamps_after(taken: u64, stamped: bool) -> u64
+    ensures { result ≡ stamps_after stamped taken }
+{
+    if stamped {
+        taken.saturating_add(1)
+    } else {
+        taken
+    }
+}
+
+impl<const SETS: usize, const WAYS: usize> Machine<SETS, WAYS> {
+    ghost use Rattle.machine.specs.States.{shown, geometry};
+
+    /// One step of a hart's core.
+    fn core(&mut self, id: HartId) -> Result<Option<Entry>, AllocError>
+        ensures steps { IfOk result (λ e. Steps (geometry SETS WAYS) (shown SETS self.old) (Core id) e (shown SETS self.new)) }
+        ensures err { OnErr result (self.new ≡ self.old) }
+    {
+        let i = id.index();
+        if i >= self.seats.len() {
+            return Ok(None);
+        }
+        self.net.reserve(1)?;
+        match self.seats[i].core_step(&self.program.text(), self.stamps)? {
+            None => Ok(None),
+            Some(made) => {
+                self.stamps = stamps_after(self.stamps, made.stamped);
+                send(&mut self.net, made.message);
+                Ok(made.entry)
+            }
+        }
+    }
+
+    /// A hart gives up its line of a block.
+    fn evict(&mut self, id: HartId, block: BlockNo) -> Result<Option<Entry>, AllocError>
+        ensures steps { IfOk result (λ e. Steps (geometry SETS WAYS) (shown SETS self.old) (Evict id block) e (shown SETS self.new)) }
+        ensures err { OnErr result (self.new ≡ self.old) }
+    {
+        let i = id.index();
+        if i >= self.seats.len() {
+            return Ok(None);
+        }
+        self.net.reserve(1)?;
+        match self.seats[i].hart.evict(block) {
+            None => Ok(None),
+            Some(reply) => {
+                send(&mut self.net, reply.message);
+                Ok(reply.entry)
+            }
+        }
+    }
+    /// The message under a key arrives. A message that is held stays in flight.
+    fn deliver(&mut self, key: usize) -> Result<Option<Entry>, AllocError>
+        ensures steps { IfOk result (λ e. Steps (geometry SETS WAYS) (shown SETS self.old) (Deliver key) e (shown SETS self.new)) }
+        ensures err { OnErr result (self.new ≡ self.old) }
+    {
+        match self.net.get(key) {
+            None => Ok(None),
+            Some(message) => match receiver(&message) {
+                Some(id) => Ok(self.deliver_to_hart(key, id, message)),
+                None => self.deliver_to_directory(key, message),
+            },
+        }
+    }
+
+    /// The message under a key arrives at a hart. One for no hart stays in flight.
+    fn deliver_to_hart(&mut self, key: usize, id: HartId, message: Message) -> Option<Entry>
+        requires message { in_flight self.old.flights key ≡ Some (shown_message message) }
+        requires receiver { receiver_of (shown_message message) ≡ Some id }
+        ensures { Steps (geometry SETS WAYS) (shown SETS self.old) (Deliver key) result (shown SETS self.new) }
+    {
+        let i = id.index();
+        if i >= self.seats.len() {
+            return None;
+        }
+        take(&mut self.net, key);
+        let reply = self.seats[i].hart.on_message(message);
+        send(&mut self.net, reply.message);
+        reply.entry
+    }
+
+    /// The message under a key arrives at the directory.
+    fn deliver_to_directory(
+        &mut self,
+        key: usize,
+        message: Message,
+    ) -> Result<Option<Entry>, AllocError>
+        requires message { in_flight self.old.flights key ≡ Some (shown_message message) }
+        requires receiver { receiver_of (shown_message message) ≡ None }
+        ensures steps { IfOk result (λ e. Steps (geometry SETS WAYS) (shown SETS self.old) (Deliver key) e (shown SETS self.new)) }
+        ensures err { OnErr result (self.new ≡ self.old) }
+    {
+        self.net.reserve(HARTS)?;
+        match self.directory.receive(message)? {
+            Received::Held => Ok(None),
+            Received::Sent(sends) => {
+                take(&mut self.net, key);
+                send_all(&mut self.net, sends.as_slice());
+                Ok(None)
+            }
+        }
+    }
+    /// One step, enabled or not. One that isn't enabled changes nothing, and gives no entry. It fails only if memory runs out.
+    pub fn step(&mut self, step: Step) -> Result<Option<Entry>, AllocError>
+        // Exactly one step of the protocol's machine is made, and its entry carries each flat state that belongs on to one that belongs.
+        ensures steps { IfOk result (λ e. Steps (geometry SETS WAYS) (shown SETS self.old) step e (shown SETS self.new)) }
+        ensures carries { IfOk result (λ e. (f : Flat) → Belongs (geometry SETS WAYS) f (shown SETS self.old) →
+            (g : Flat) × CarriesSome f e g × Belongs (geometry SETS WAYS) g (shown SETS self.new)) }
+        ensures err { OnErr result (self.new ≡ self.old) }
+    {
+        match step {
+            Step::Core(id) => self.core(id),
+            Step::Evict(id, block) => self.evict(id, block),
+            Step::Deliver(key) => self.deliver(key),
+        }
+    }
+}

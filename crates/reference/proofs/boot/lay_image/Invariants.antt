@@ -1,8 +1,0 @@
-use Rattle.std.proofs.Common.{◌≡◌, ◌-◌, ℕ, drop, length}
-use Rattle.table.specs.Program.{image_at}
-use Rattle.overlay.specs.Memory.{mem_of}
-use Rattle.reference.proofs.boot.lay_image.Given as goal
-
--- the last k segments stand
-abbrev pub invariant-loop-k : goal.invariant-loop-k
-invariant-loop-k l = (a : ℕ) → mem_of l.memory a ≡ image_at (drop (length l.segments - l.k) l.segments) a

@@ -1,0 +1,58 @@
+-- Hexadecimal digits are text.
+use Rattle.std.proofs.Common.{◌≡◌, ℕ, ◌<◌, Bool, true, ◌&&◌, ◌==◌, nat_lt, zero, suc, List, [], ◌∷◌, length, get_or, codes, IsAscii, refl, sym, ap, ◌∙◌, arith, ◌/◌, ◌%◌, ◌^◌}
+use Rattle.std.proofs.lemmas.Bool.Decides.{Decides-below_and, Decides-ltb, Decides-eqb}
+use Rattle.std.proofs.lemmas.Str.Ascii.{IsAscii-from_reads, IsAscii-map}
+use Rattle.std.specs.Char.{digit_value}
+use Rattle.texts.specs.Numerals.{hex_digit, hexadecimal}
+
+-- whether each number below n passes a test
+abbrev pub each_below : ℕ → (ℕ → Bool) → Bool
+each_below zero test = true
+each_below (suc n) test = test n && each_below n test
+
+-- what a test of a few numbers computes holds of each
+pub passes : (n : ℕ) (test : ℕ → Bool) → each_below n test ≡ true → (k : ℕ) → k < n → test k ≡ true
+passes n test h = (Decides-below_and test (λ k. test k ≡ true) (λ m. each_below m test) (λ k. (λ e. e, λ e. e)) refl (λ _. refl) n).0 h
+
+below : (n : ℕ) (f : ℕ → ℕ) (m : ℕ) → each_below n (λ k. nat_lt (f k) m) ≡ true → (k : ℕ) → k < n → f k < m
+below n f m h k less = (Decides-ltb (f k) m).0 (passes n (λ j. nat_lt (f j) m) h k less)
+
+few_ascii : (bs : List ℕ) → each_below (length bs) (λ k. nat_lt (get_or bs k 0) 128) ≡ true → IsAscii bs
+few_ascii bs h = IsAscii-from_reads bs (length bs) (omega arith) (below (length bs) (λ k. get_or bs k 0) 128 h)
+
+digit-ascii : (d : ℕ) → hex_digit d < 128
+digit-ascii = few_ascii (codes "0123456789abcdef") refl
+
+pub hexadecimal-ascii : (n : ℕ) → IsAscii (hexadecimal n)
+unfolding hexadecimal
+hexadecimal-ascii n =
+    let lows = 28 ∷ 24 ∷ 20 ∷ 16 ∷ 12 ∷ 8 ∷ 4 ∷ 0 ∷ [] in
+    IsAscii-map (λ low. hex_digit (n / 2 ^ low % 16)) lows (λ b h. digit-ascii (n / 2 ^ b % 16)) (few_ascii lows refl)
+
+-- what a test of a few numbers computes, where it is an equation
+pub agree : (n : ℕ) (f : ℕ → ℕ) → each_below n (λ k. f k == k) ≡ true → (k : ℕ) → k < n → f k ≡ k
+agree n f h k less = (Decides-eqb (f k) k).0 (passes n (λ j. f j == j) h k less)
+
+digit-same : (d e : ℕ) → d < 16 → e < 16 → hex_digit d ≡ hex_digit e → d ≡ e
+digit-same d e hd he same = sym (agree 16 (λ k. digit_value (hex_digit k)) refl d hd) ∙ ap digit_value same ∙ agree 16 (λ k. digit_value (hex_digit k)) refl e he
+
+nibble-same : (v w k low : ℕ) → get_or (hexadecimal v) k 0 ≡ hex_digit (v / 2 ^ low % 16) → get_or (hexadecimal w) k 0 ≡ hex_digit (w / 2 ^ low % 16) → hexadecimal v ≡ hexadecimal w → v / 2 ^ low % 16 ≡ w / 2 ^ low % 16
+nibble-same v w k low hv hw same = digit-same (v / 2 ^ low % 16) (w / 2 ^ low % 16) (omega arith) (omega arith) (sym hv ∙ ap (λ l. get_or l k 0) same ∙ hw)
+
+-- two words don't share their digits
+pub hexadecimal-same : (v w : ℕ) → v < 2 ^ 32 → w < 2 ^ 32 → hexadecimal v ≡ hexadecimal w → v ≡ w
+unfolding hexadecimal
+hexadecimal-same v w hv hw same =
+    let a : v / 2 ^ 28 % 16 ≡ w / 2 ^ 28 % 16 = nibble-same v w 0 28 refl refl same in
+    let b : v / 2 ^ 24 % 16 ≡ w / 2 ^ 24 % 16 = nibble-same v w 1 24 refl refl same in
+    let c : v / 2 ^ 20 % 16 ≡ w / 2 ^ 20 % 16 = nibble-same v w 2 20 refl refl same in
+    let d : v / 2 ^ 16 % 16 ≡ w / 2 ^ 16 % 16 = nibble-same v w 3 16 refl refl same in
+    let e : v / 2 ^ 12 % 16 ≡ w / 2 ^ 12 % 16 = nibble-same v w 4 12 refl refl same in
+    let f : v / 2 ^ 8 % 16 ≡ w / 2 ^ 8 % 16 = nibble-same v w 5 8 refl refl same in
+    let g : v / 2 ^ 4 % 16 ≡ w / 2 ^ 4 % 16 = nibble-same v w 6 4 refl refl same in
+    let h : v / 2 ^ 0 % 16 ≡ w / 2 ^ 0 % 16 = nibble-same v w 7 0 refl refl same in
+    omega arith
+
+pub hexadecimal-length : (n : ℕ) → length (hexadecimal n) ≡ 8
+unfolding hexadecimal
+hexadecimal-length n = refl

@@ -1,0 +1,3 @@
+pub mod Digits
+pub mod Pieces
+pub mod Putting

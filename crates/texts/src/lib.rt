@@ -1,0 +1,10 @@
+//! Numbers as text, and texts put into a sink piece by piece.
+#![tactic(auto)]
+
+mod numerals;
+mod put;
+#[cfg(test)]
+mod tests;
+
+pub use numerals::hexadecimal;
+pub use put::put_all;
