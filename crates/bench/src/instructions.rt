@@ -6,7 +6,7 @@ use table::{Act, effect_at, write_register};
 use words::{Addr, Regs};
 
 /// addi, add, xor, slli, lw, sw, bne and jal, over a few registers.
-const WORDS: [u32; 8] = [
+pub const WORDS: [u32; 8] = [
     0x0012_8293,
     0x0062_83b3,
     0x0053_4333,

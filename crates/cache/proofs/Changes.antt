@@ -125,3 +125,26 @@ pub changes-line : (count : ℕ) (old new : Sets) (b : ℕ) (f : Line → Line) 
 changes-line count old new b f l m is of_block e h =
     let k : SetsLine (holds b) count old new b (Some m) = subst (λ a. SetsLine (holds a) count old new a (Some m)) of_block h in
     subst (λ o. SetsLine (holds b) count old new b (option_map f o)) is (rw e k)
+
+-- the line that stands in the way is changed where it stands
+pub record ChangedThere (count size : ℕ) (sets : Sets) (b w : ℕ) (f : Line → Line) : Type 0 where
+  pub sound : IsSound count size (with_way sets (b % count) w (option_map f (at sets (b % count) w)))
+  pub line : ChangesLine count sets (with_way sets (b % count) w (option_map f (at sets (b % count) w))) b f
+
+pub changes-there : (count size : ℕ) (sets : Sets) (w b : ℕ) (f : Line → Line) → IsSound count size sets → length sets ≡ count → position (holds b) (get_or sets (b % count) []) ≡ Some w → ((l : Line) → (f l).block ≡ l.block)
+    → ((l : Line) → line_at count sets b ≡ Some l → IsTrue (f l).marks.written → (f l).state ≡ Modified) → ChangedThere count size sets b w f
+unfolding line_at
+changes-there count size sets w b f sound len found same owned =
+    let old : Stands count sets b w = stands count size sets b w sound len found in
+    let l : Line = old.line in
+    let of_block : (f l).block ≡ b = same l ∙ old.of_block in
+    let looked : line_at count sets b ≡ Some l = rw found old.here in
+    let changed : Changed (holds (f l).block) count size sets (f l).block w (Some (f l)) =
+    replace-changes count size sets w (f l) sound len (subst (λ a. position (holds a) (get_or sets (a % count) []) ≡ Some w) (sym of_block) found) (owned l looked) in
+    let there : Changed (holds b) count size sets b w (Some (f l)) = subst (λ a. Changed (holds a) count size sets a w (Some (f l))) of_block changed in
+    let now : option_map f (at sets (b % count) w) ≡ Some (f l) = ap (option_map f) old.here in
+    record {
+      sound = subst (λ o. IsSound count size (with_way sets (b % count) w o)) (sym now) there.sound;
+      line = subst (λ o. SetsLine (holds b) count sets (with_way sets (b % count) w o) b (option_map f (line_at count sets b))) (sym now)
+          (subst (λ o. SetsLine (holds b) count sets (with_way sets (b % count) w (Some (f l))) b o) (sym (ap (option_map f) looked)) there.line);
+    }

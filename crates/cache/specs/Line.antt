@@ -1,8 +1,10 @@
 -- A line of a cache.
-use Rattle.std.specs.Prelude.{ℕ, Bool, true, cond, List}
+use Rattle.std.specs.Prelude.{ℕ, Bool, true, cond, List, slice_set}
 use Rattle.words.specs.declared.entry.Width.{Width}
 use Rattle.cache.specs.declared.line.Line.{Line}
 use Rattle.words.specs.declared.message.LineState.{LineState}
+use Rattle.words.specs.declared.message.LineState.TheVariants.{Modified}
+use Rattle.words.specs.declared.marks.Marks.{Marks}
 use Rattle.words.specs.LineStates.{is_owned}
 use Rattle.words.specs.Marks.{no_marks}
 use Rattle.cache.specs.declared.ways.Victim.{Victim}
@@ -25,6 +27,13 @@ stored addr width v l = record l { content = block_with l.content addr width v }
 
 abbrev pub without_marks : Line → Line
 without_marks l = record l { marks = no_marks }
+
+abbrev pub with_marks : Marks → Line → Line
+with_marks marks l = record l { marks = marks }
+
+-- modified, with another word in its place, and other marks
+abbrev pub put_into : ℕ → ℕ → Marks → Line → Line
+put_into word value marks l = record l { content = slice_set l.content word value; state = Modified; marks = marks }
 
 abbrev pub in_state : LineState → Line → Line
 in_state state l = record l { state = state }

@@ -5,6 +5,7 @@ ghost use Rattle.cache.specs.Bytes.{word_with};
 use words::Width;
 
 /// The word in which an access's bytes, from the byte `place` on, are the low bytes of `value`.
+#[inline(always)]
 pub fn with_bytes(word: u32, place: usize, width: Width, value: u32) -> u32
     requires { place + bytes_in width ≤ 4 }
     ensures { result ≡ word_with word place (bytes_in width) value }
@@ -16,6 +17,7 @@ pub fn with_bytes(word: u32, place: usize, width: Width, value: u32) -> u32
     }
 }
 
+#[inline(always)]
 fn with_byte(word: u32, place: usize, value: u32) -> u32
     requires { place < 4 }
     ensures { result ≡ word_with word place 1 value }
@@ -26,6 +28,7 @@ fn with_byte(word: u32, place: usize, value: u32) -> u32
     u32::from_le_bytes(bytes)
 }
 
+#[inline(always)]
 fn with_half(word: u32, place: usize, value: u32) -> u32
     requires { place < 3 }
     ensures { result ≡ word_with word place 2 value }

@@ -4,13 +4,16 @@ ghost use Rattle.cache.specs.declared.line.Line.{Line};
 ghost use Rattle.words.specs.declared.message.LineState.TheVariants.{Shared, Modified};
 ghost use Rattle.words.specs.Bytes.{bytes_in};
 ghost use Rattle.cache.specs.Bytes.{word_at};
-ghost use Rattle.cache.specs.Line.{filled, marked_read, marked_written, in_state, stored, without_marks};
+ghost use Rattle.words.specs.Limits.{block_words};
+ghost use Rattle.cache.specs.Line.{filled, marked_read, marked_written, in_state, stored, without_marks, with_marks, put_into};
 ghost use Rattle.cache.specs.Ways.{holds, is_free};
 ghost use Rattle.cache.specs.Sets.{line_at, HasRoom, GoesFor, victim_at, SetsLine, FillsLine, ChangesLine, RemovesLine, StoresBytes, IsSound};
 
 use crate::bytes::with_bytes;
 use crate::line::Line;
-use crate::ways::{Victim, clear_sets, free_way, line_of, victim_of, way_of};
+use crate::ways::{
+    Victim, clear_sets, free_way, line_of, line_ref, mark, put_word, victim_of, way_of,
+};
 use std::array;
 use std::marker::Model;
 use words::{Addr, BLOCK_WORDS, Block, BlockNo, LineState, Marks, Width};
@@ -56,6 +59,7 @@ impl<const SETS: usize, const WAYS: usize> Cache<SETS, WAYS> {
 
     /// The line of a block, if there is one.
     #[tactic(auto, unfolding(crate::specs::Sets::line_at))]
+    #[inline(always)]
     pub fn look(&self, block: BlockNo) -> Option<Line>
         ensures value { result ≡ line_at SETS self.now block }
         ensures block { IfSome result (λ line. line.block ≡ block) }
@@ -63,6 +67,18 @@ impl<const SETS: usize, const WAYS: usize> Cache<SETS, WAYS> {
     {
         let sets = &self.sets[..];
         line_of(&sets[block.index() % SETS], block)
+    }
+
+    /// The line of a block where it stands, if there is one.
+    #[inline(always)]
+    #[tactic(auto, unfolding(crate::specs::Sets::line_at))]
+    pub fn peek(&self, block: BlockNo) -> Option<&Line>
+        ensures value { option_map (λ line. line.now) result ≡ line_at SETS self.now block }
+        ensures block { IfSome result (λ line. line.now.block ≡ block) }
+        ensures owned { IfSome result (λ line. IsTrue line.now.marks.written → line.now.state ≡ Modified) }
+    {
+        let sets = &self.sets[..];
+        line_ref(&sets[block.index() % SETS], block)
     }
 
     /// The word at an address, which is rounded down to a multiple of 4, if its block has a line.
@@ -116,6 +132,39 @@ impl<const SETS: usize, const WAYS: usize> Cache<SETS, WAYS> {
         }
     }
 
+    /// Gives a block's line other marks, where it stands.
+    #[inline(always)]
+    #[tactic(auto, unfolding(crate::specs::Sets::line_at))]
+    pub fn mark(&mut self, block: BlockNo, marks: Marks)
+        requires { IsSomeAnd (line_at SETS self.old block) (λ line. IsTrue marks.written → line.state ≡ Modified) }
+        ensures line { ChangesLine SETS self.old self.new block (with_marks marks) }
+        ensures rooms { (b : ℕ) → HasRoom SETS self.old b → HasRoom SETS self.new b }
+    {
+        let sets = &mut self.sets[..];
+        let ways = &mut sets[block.index() % SETS];
+        let Some(way) = way_of(ways, block) else {
+            return;
+        };
+        mark(ways, way, marks);
+    }
+
+    /// Puts a word into a block's line, where it stands, and makes it modified, with these marks.
+    #[inline(always)]
+    #[tactic(auto, unfolding(crate::specs::Sets::line_at))]
+    pub fn put_word(&mut self, block: BlockNo, word: usize, value: u32, marks: Marks)
+        requires line { IsSome (line_at SETS self.old block) }
+        requires word { word < block_words }
+        ensures line { ChangesLine SETS self.old self.new block (put_into word value marks) }
+        ensures rooms { (b : ℕ) → HasRoom SETS self.old b → HasRoom SETS self.new b }
+    {
+        let sets = &mut self.sets[..];
+        let ways = &mut sets[block.index() % SETS];
+        let Some(way) = way_of(ways, block) else {
+            return;
+        };
+        put_word(ways, way, word, value, marks);
+    }
+
     /// Makes a block's line modified, so that it may be stored to.
     pub fn promote(&mut self, block: BlockNo)
         requires { IsSome (line_at SETS self.old block) }
@@ -144,6 +193,7 @@ impl<const SETS: usize, const WAYS: usize> Cache<SETS, WAYS> {
 
     /// Puts a line in the place of the one that its block has.
     #[tactic(auto, unfolding(crate::specs::Sets::line_at))]
+    #[inline(always)]
     pub fn replace(&mut self, line: Line)
         requires present { IsSome (line_at SETS self.old line.block) }
         requires owned { IsTrue line.marks.written → line.state ≡ Modified }

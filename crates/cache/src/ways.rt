@@ -1,10 +1,11 @@
-ghost use Rattle.std.specs.Prelude.{◌≡◌, ◌<◌, position, length, is_some, map, replicate, None};
+ghost use Rattle.std.specs.Prelude.{◌≡◌, ◌<◌, position, length, is_some, map, replicate, None, get_or, slice_set};
 ghost use Rattle.std.specs.Option.{option_map};
-ghost use Rattle.cache.specs.Line.{without_marks, put_out_by};
+ghost use Rattle.words.specs.Limits.{block_words};
+ghost use Rattle.cache.specs.Line.{without_marks, with_marks, put_into, put_out_by};
 ghost use Rattle.cache.specs.Ways.{holds, is_free, is_unmarked, line_in, victim_in};
 
 use crate::line::Line;
-use words::{BlockNo, Marks};
+use words::{BlockNo, LineState, Marks};
 
 /// What has to go before a block can be filled.
 #[derive(Clone, Copy, Debug, PartialEq, Eq)]
@@ -18,12 +19,14 @@ pub enum Victim {
 }
 
 /// The way that holds a block.
+#[inline(always)]
 pub fn way_of(ways: &[Option<Line>], block: BlockNo) -> Option<usize>
     ensures { result ≡ position (holds block) ways.now }
 {
     ways.iter().position(|way| is_line_of(way, block))
 }
 
+#[inline(always)]
 fn is_line_of(way: &Option<Line>, block: BlockNo) -> bool
     ensures { result ≡ holds block way.now }
 {
@@ -57,11 +60,26 @@ fn has_no_mark(way: &Option<Line>) -> bool
 }
 
 /// The line of a block.
+#[inline(always)]
 pub fn line_of(ways: &[Option<Line>], block: BlockNo) -> Option<Line>
     ensures { result ≡ line_in block ways.now }
 {
     match way_of(ways, block) {
         Some(way) => ways[way],
+        None => None,
+    }
+}
+
+/// The same line, where it stands.
+#[inline(always)]
+pub fn line_ref(ways: &[Option<Line>], block: BlockNo) -> Option<&Line>
+    ensures { option_map (λ line. line.now) result ≡ line_in block ways.now }
+{
+    match way_of(ways, block) {
+        Some(way) => match &ways[way] {
+            Some(line) => Some(line),
+            None => None,
+        },
         None => None,
     }
 }
@@ -88,6 +106,31 @@ fn put_out(line: Line) -> Victim
         Victim::WriteBack(line)
     } else {
         Victim::Drop(line)
+    }
+}
+
+/// Gives a way's line other marks.
+#[inline(always)]
+pub fn mark(ways: &mut [Option<Line>], way: usize, marks: Marks)
+    requires { way < length ways.old }
+    ensures { ways.new ≡ slice_set ways.old way (option_map (with_marks marks) (get_or ways.old way None)) }
+{
+    if let Some(line) = &mut ways[way] {
+        line.marks = marks;
+    }
+}
+
+/// Puts a word into a way's line, and makes it modified, with these marks.
+#[inline(always)]
+pub fn put_word(ways: &mut [Option<Line>], way: usize, word: usize, value: u32, marks: Marks)
+    requires way { way < length ways.old }
+    requires word { word < block_words }
+    ensures { ways.new ≡ slice_set ways.old way (option_map (put_into word value marks) (get_or ways.old way None)) }
+{
+    if let Some(line) = &mut ways[way] {
+        line.content[word] = value;
+        line.state = LineState::Modified;
+        line.marks = marks;
     }
 }
 

@@ -1,6 +1,6 @@
--- A command as it grows by its arguments.
+-- A command as it grows by its arguments and subcommands.
 use Rattle.std.proofs.Common.{◌≡◌, ◌∙◌, ◌||◌, Bool, false, ap₂}
-use Rattle.clap.specs.Words.{AddsArg, App, Rule, app_of, rule_of, with_rule}
+use Rattle.clap.specs.Words.{AddsArg, AddsSubcommand, App, Rule, Shape, app_of, rule_of, shape_of, with_rule, with_subcommand}
 use Rattle.clap.specs.declared.builder.arg.Arg.{Arg}
 use Rattle.clap.specs.declared.builder.command.Command.{Command}
 use Rattle.clap.specs.declared.builder.command.Command.TheViews.{out-Command}
@@ -16,3 +16,8 @@ with_argument old new a app r is rule local adds = record {
   shape = adds.shape local ∙ ap₂ with_rule is.shape rule;
   local = adds.globals ∙ ap₂ (λ (x y : Bool). x || y) is.local local;
 }
+
+-- one more subcommand with no global argument
+pub with_command : (old sub new : Command) (app : App) (s : Shape) → app_of old ≡ app → shape_of sub ≡ s → (out-Command sub).has_globals ≡ false → AddsSubcommand old sub new
+    → app_of new ≡ with_subcommand app s
+with_command old sub new app s is shape local adds = adds.shape local ∙ ap₂ with_subcommand is shape

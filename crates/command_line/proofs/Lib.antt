@@ -2,4 +2,5 @@ pub mod Numerals
 pub mod Values
 pub mod Commands
 pub mod Filled
+pub mod Levels
 pub mod Taken

@@ -1,25 +1,30 @@
--- Values that are read as numbers.
-use Rattle.std.proofs.Common.{◌≡◌, ◌∙◌, ℕ, List, [], ◌∷◌, Option, Some, None, Result, MatchResult, codes, refl, sym, ap}
+-- Values that are read.
+use Rattle.std.proofs.Common.{◌≡◌, ◌∙◌, List, [], ◌∷◌, Option, Some, None, Result, MatchResult, codes, is_some, refl, sym, ap, true≢false}
 use Rattle.std.specs.Borrow.{Bor}
-use Rattle.std.specs.Option.{ok_or, option_map, option_map_or, option_to_list, unwrap_or}
-use Rattle.clap.specs.Words.{Text, matched_of, raw_values, rows_of}
+use Rattle.std.specs.Option.{IsSome, ok_or, option_map, option_map_or, option_to_list, unwrap_or}
+use Rattle.clap.specs.Words.{Text, first_value, matched_of, raw_values, rows_of}
 use Rattle.clap.specs.declared.parser.matches.Found.{Found}
-use Rattle.clap.proofs.WalkLemmas.{raw_values-rows}
-use Rattle.command_line.specs.Numbers.{number_of}
-use Rattle.command_line.specs.Reading.{IsBadReadingOf, words_of}
+use Rattle.clap.proofs.WalkLemmas.{first_value-rows, raw_values-rows}
+use Rattle.command_line.specs.Reading.{HasValue, NamesFirstOf, malformed, words_of}
 use Rattle.command_line.specs.declared.fault.OrderFault.{OrderFault}
 use Rattle.command_line.specs.declared.fault.OrderFault.TheVariants.{Value}
 
-here : (default : ℕ) (text : Bor Text) (o : Option ℕ) → o ≡ number_of text.now
-    → MatchResult (ok_or o (Value text)) (λ n. option_map_or number_of (Some text.now) (Some default) ≡ Some n) (IsBadReadingOf (text.now ∷ []))
-here default text (Some n) is = sym is
-here default text None is = rw (← is) refl
+module _ {T : Type 0} (read : Text → Option T) (default : T) where
+  here : (text : Bor Text) (o : Option T) → o ≡ read text.now
+      → MatchResult (ok_or o (Value text)) (λ x. option_map_or read (Some text.now) (Some default) ≡ Some x) (NamesFirstOf (malformed read (text.now ∷ [])))
+  here text (Some x) is = sym is
+  here text None is = rw (← is) refl
 
--- the value of an option is read, or is the first bad one
-pub option_read : (default : ℕ) (given : Option Text) (text : Bor Text) (o : Option ℕ) (r : Result ℕ OrderFault) → Some text.now ≡ given → o ≡ number_of text.now
-    → r ≡ ok_or o (Value text) → MatchResult r (λ n. option_map_or number_of given (Some default) ≡ Some n) (IsBadReadingOf (option_to_list given))
-option_read default given text o r found is read = rw (read, ← found) (here default text o is)
+  -- the value of an option is read, or is the first malformed one
+  pub option_read : (given : Option Text) (text : Bor Text) (o : Option T) (r : Result T OrderFault) → Some text.now ≡ given → o ≡ read text.now
+      → r ≡ ok_or o (Value text) → MatchResult r (λ x. option_map_or read given (Some default) ≡ Some x) (NamesFirstOf (malformed read (option_to_list given)))
+  option_read given text o r found is reads = rw (reads, ← found) (here text o is)
 
 -- the WORDs as the getter gives them
 pub words_are : (f : Found) (o : Option (List Text)) → o ≡ option_map raw_values (matched_of f (codes "words")) → words_of (rows_of f) ≡ unwrap_or o []
 words_are f o is = ap (λ given. unwrap_or given []) (sym (is ∙ raw_values-rows f (codes "words")))
+
+-- a value that was given is there
+pub value_is_there : (f : Found) (id : Text) (o : Option (Bor Text)) → option_map (λ s. s.now) o ≡ first_value f id → HasValue id (rows_of f) → IsSome o
+value_is_there f id (Some text) is has = refl
+value_is_there f id None is has = absurd (true≢false (sym has ∙ ap is_some (sym (is ∙ first_value-rows f id))))

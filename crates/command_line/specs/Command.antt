@@ -4,9 +4,9 @@ use Rattle.clap.specs.Words.{App, Rule, Shape, Text, new_rule}
 use Rattle.clap.specs.Simple.{new_shape}
 use Rattle.clap.specs.declared.builder.ArgAction.TheVariants.{Append}
 
--- the argument FILE, which has to be there
-abbrev pub file : Rule
-file = record (new_rule (codes "file")) { required = true; value_names = 1 }
+-- an argument that has to be there
+abbrev pub required_named : Text → Rule
+required_named name = record (new_rule name) { required = true; value_names = 1 }
 
 -- an option with one value
 abbrev pub option_named : Text → Rule
@@ -19,8 +19,18 @@ words = record (new_rule (codes "words")) { action = Some Append; value_names = 
 -- the subcommand `run`
 abbrev pub run : Shape
 run = record (new_shape (codes "run")) {
-  rules = file ∷ option_named (codes "harts") ∷ option_named (codes "memory")
-      ∷ option_named (codes "steps") ∷ words ∷ [];
+  rules = required_named (codes "file") ∷ option_named (codes "harts") ∷ option_named (codes "memory")
+      ∷ option_named (codes "steps") ∷ option_named (codes "cache") ∷ words ∷ [];
+}
+
+-- the subcommand `dis`
+abbrev pub dis : Shape
+dis = record (new_shape (codes "dis")) { rules = required_named (codes "file") ∷ [] }
+
+-- the subcommand `asm`
+abbrev pub asm : Shape
+asm = record (new_shape (codes "asm")) {
+  rules = required_named (codes "source") ∷ required_named (codes "target") ∷ [];
 }
 
 -- the program, which has to be given a subcommand
@@ -31,5 +41,5 @@ logtm = record {
     disable_help_subcommand = true;
     subcommand_required = true;
   };
-  subs = run ∷ [];
+  subs = run ∷ dis ∷ asm ∷ [];
 }

@@ -1,3 +1,4 @@
 pub mod Command
 pub mod Numbers
 pub mod Reading
+pub mod Paths

@@ -1,68 +1,105 @@
 -- What the values that clap found stand for.
-use Rattle.std.specs.Prelude.{◌≡◌, ◌≢◌, ⊤, ℕ, List, [], ◌++◌, Option, Some, codes, find, is_some, map, not, unwrap_or}
+use Rattle.std.specs.Prelude.{◌≡◌, ◌≢◌, ◌⊎◌, IsSome, ⊤, List, [], ◌++◌, Option, Some, None, codes, filter, if◌then◌else◌, is_some, map, not, slice_get, unwrap_or}
 use Rattle.std.specs.Option.{option_map_or, option_to_list}
+use Rattle.std.specs.Str.{bytes_eq}
 use Rattle.clap.specs.Words.{Row, Text, all_of, fault_of, first_of, subcommand_of}
 use Rattle.command_line.specs.Command.{logtm}
 use Rattle.command_line.specs.Numbers.{number_of}
 use Rattle.command_line.specs.declared.fault.OrderFault.{OrderFault}
 use Rattle.command_line.specs.declared.fault.OrderFault.TheVariants.{Refused, Value, NoMemory}
+use Rattle.command_line.specs.declared.request.Cache.{Cache}
+use Rattle.command_line.specs.declared.request.Cache.TheVariants.{Small, Normal}
 use Rattle.command_line.specs.declared.request.Order.{Order}
-use Rattle.command_line.specs.declared.request.Order.TheVariants.{Run}
+use Rattle.command_line.specs.declared.request.Order.TheVariants as order
+use Rattle.command_line.specs.declared.request.Run.{Run}
 use Rattle.command_line.specs.declared.request.Word.{Word}
 
--- the number given for an option, or this one where the option was not given
-abbrev pub number_or : ℕ → Text → List Row → Option ℕ
-number_or default id rows = option_map_or number_of (first_of id rows) (Some default)
+-- the cache of this name
+abbrev pub cache_of : Text → Option Cache
+cache_of text =
+    if bytes_eq text (codes "small") then Some Small
+    else if bytes_eq text (codes "normal") then Some Normal else None
+
+-- the value given for an option, if it was given
+abbrev pub given : Text → List Row → List Text
+given id rows = option_to_list (first_of id rows)
 
 -- the texts of the WORDs, in the order in which they were given
 abbrev pub words_of : List Row → List Text
 words_of rows = unwrap_or (all_of (codes "words") rows) []
 
--- the values that have to be numbers, in the order in which they are read
-abbrev pub values_of : List Row → List Text
-values_of rows = option_to_list (first_of (codes "harts") rows)
-    ++ option_to_list (first_of (codes "memory") rows)
-    ++ option_to_list (first_of (codes "steps") rows)
-    ++ words_of rows
+-- what the value given for an option is read as, or this default where it was not given
+abbrev pub read_or : {T : Type 0} → (Text → Option T) → T → Text → List Row → Option T
+read_or read default id rows = option_map_or read (first_of id rows) (Some default)
 
--- the first malformed one of some texts: it stands for no number
-abbrev pub first_bad : List Text → Option Text
-first_bad texts = find (λ text. not (is_some (number_of text))) texts
+-- those of the texts that are not read as anything
+abbrev pub malformed : {T : Type 0} → (Text → Option T) → List Text → List Text
+malformed read texts = filter (λ text. not (is_some (read text))) texts
+
+-- the malformed values of a run, in the order in which its values are read
+abbrev pub malformed_of : List Row → List Text
+malformed_of rows = malformed number_of (given (codes "harts") rows)
+    ++ malformed number_of (given (codes "memory") rows)
+    ++ malformed number_of (given (codes "steps") rows)
+    ++ malformed cache_of (given (codes "cache") rows)
+    ++ malformed number_of (words_of rows)
 
 -- the words are these texts with their numbers
 abbrev pub IsReadingOfWords : List Text → List Word → Type 0
 IsReadingOfWords texts words = (map (λ w. w.text.now) words ≡ texts)
     × (map (λ w. Some w.addr) words ≡ map number_of texts)
 
--- the order is what the values of its subcommand stand for
-abbrev pub IsReadingOf : List Row → Order → Type 0
-IsReadingOf rows (Run file harts memory steps words) =
-    (first_of (codes "file") rows ≡ Some file.now)
-    × (number_or 1 (codes "harts") rows ≡ Some harts)
-    × (number_or 1048576 (codes "memory") rows ≡ Some memory)
-    × (number_or 10000000 (codes "steps") rows ≡ Some steps)
-    × IsReadingOfWords (words_of rows) words.items
+-- the run is what the values of its subcommand stand for
+abbrev pub IsRunOf : List Row → Run → Type 0
+IsRunOf rows run =
+    (first_of (codes "file") rows ≡ Some run.file.now)
+    × (read_or number_of 1 (codes "harts") rows ≡ Some run.harts)
+    × (read_or number_of 1048576 (codes "memory") rows ≡ Some run.memory)
+    × (read_or number_of 10000000 (codes "steps") rows ≡ Some run.steps)
+    × (read_or cache_of Normal (codes "cache") rows ≡ Some run.cache)
+    × IsReadingOfWords (words_of rows) run.words.items
 
--- why the texts are not all read as numbers: one is none, or memory ran out
-abbrev pub IsBadReadingOf : List Text → OrderFault → Type 0
-IsBadReadingOf texts (Refused text) = ⊥
-IsBadReadingOf texts (Value value) = first_bad texts ≡ Some value.now
-IsBadReadingOf texts NoMemory = ⊤
+-- the order is what the values of the subcommand of this name stand for
+abbrev pub IsReadingOf : Text → List Row → Order → Type 0
+IsReadingOf name rows (order.Run run) = (name ≡ codes "run") × IsRunOf rows run
+IsReadingOf name rows (order.Dis file) =
+    (name ≡ codes "dis") × (first_of (codes "file") rows ≡ Some file.now)
+IsReadingOf name rows (order.Asm source target) = (name ≡ codes "asm")
+    × (first_of (codes "source") rows ≡ Some source.now)
+    × (first_of (codes "target") rows ≡ Some target.now)
 
--- clap takes the words, and finds the subcommand `run` with these values
-abbrev pub AsksForRun : List Text → List Row → Type 0
-AsksForRun words rows =
-    (fault_of logtm words ≡ []) × (subcommand_of logtm words ≡ Some (codes "run", rows))
+-- the fault names the first of these texts, or memory ran out
+abbrev pub NamesFirstOf : List Text → OrderFault → Type 0
+NamesFirstOf texts (Refused text) = ⊥
+NamesFirstOf texts (Value value) = slice_get texts 0 ≡ Some value.now
+NamesFirstOf texts NoMemory = ⊤
+
+-- a value was given for the argument
+abbrev pub HasValue : Text → List Row → Type 0
+HasValue id rows = IsSome (first_of id rows)
+
+-- this is the name of a subcommand, and each argument that it has to have was given a value
+abbrev pub IsComplete : Text → List Row → Type 0
+IsComplete name rows = ((name ≡ codes "run") × HasValue (codes "file") rows)
+    ⊎ (((name ≡ codes "dis") × HasValue (codes "file") rows)
+    ⊎ ((name ≡ codes "asm") × HasValue (codes "source") rows × HasValue (codes "target") rows))
+
+-- clap takes the words, and finds this subcommand with these values
+abbrev pub AsksFor : Text → List Text → List Row → Type 0
+AsksFor name words rows =
+    (fault_of logtm words ≡ []) × (subcommand_of logtm words ≡ Some (name, rows))
 
 -- the words ask for this
 abbrev pub IsOrderOf : List Text → Order → Type 0
-IsOrderOf words order = (rows : List Row) × AsksForRun words rows × IsReadingOf rows order
+IsOrderOf words order =
+    (name : Text) × (rows : List Row) × AsksFor name words rows × IsReadingOf name rows order
 
--- why the words ask for nothing: clap refuses them, a value is malformed, or memory ran out
+-- why the words ask for nothing: clap refuses them, a value of a run is malformed, or memory ran
+-- out
 abbrev pub IsFaultOf : List Text → OrderFault → Type 0
 IsFaultOf words (Refused text) = fault_of logtm words ≢ []
-IsFaultOf words (Value value) =
-    (rows : List Row) × AsksForRun words rows × (first_bad (values_of rows) ≡ Some value.now)
+IsFaultOf words (Value value) = (rows : List Row) × AsksFor (codes "run") words rows
+    × (slice_get (malformed_of rows) 0 ≡ Some value.now)
 IsFaultOf words NoMemory = ⊤
 
 -- clap's refusal, or that memory ran out for its text

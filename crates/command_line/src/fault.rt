@@ -9,7 +9,8 @@ pub enum OrderFault<'a> {
     /// clap refused the words, or was asked for help: the text that it has for the user. clap has no contract on its
     /// texts, so none says which text this is.
     Refused(String),
-    /// The first malformed value, as the user wrote it: it stands for no number below 2^32.
+    /// The first malformed value, as the user wrote it: no number below 2^32, or for `--cache` the
+    /// name of no cache.
     Value(&'a str),
     /// Memory ran out.
     NoMemory,

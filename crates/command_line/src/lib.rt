@@ -1,7 +1,12 @@
 //! The command line of the program `logtm`, read with `clap`.
 //!
-//! `logtm run FILE [--harts N] [--memory S] [--steps N] [WORD..]` is the only subcommand. A number
-//! is decimal, or `0x` and hexadecimal digits of either case, and below 2^32.
+//! The subcommands are:
+//!
+//! - `logtm run FILE [--harts N] [--memory S] [--steps N] [--cache small|normal] [WORD..]`
+//! - `logtm dis FILE`
+//! - `logtm asm IN OUT`
+//!
+//! A number is decimal, or `0x` and hexadecimal digits of either case, and below 2^32.
 #![tactic(auto)]
 
 mod fault;
@@ -13,7 +18,7 @@ mod request;
 pub use fault::OrderFault;
 pub use numbers::number;
 pub use parser::order;
-pub use request::{Order, Word};
+pub use request::{Cache, Order, Run, Word};
 
 #[cfg(test)]
 mod tests;

@@ -1,5 +1,5 @@
-ghost use Rattle.std.specs.Prelude.{◌≡◌, IfOk, MatchResult, false, map};
-ghost use Rattle.clap.specs.Words.{app_of, kind_of, rule_of, shape_of};
+ghost use Rattle.std.specs.Prelude.{◌≡◌, IfOk, MatchResult, codes, false, map};
+ghost use Rattle.clap.specs.Words.{app_of, kind_of, new_app, rule_of, shape_of};
 ghost use Rattle.clap.specs.declared.builder.command.Command.TheViews.{out-Command};
 ghost use Rattle.clap.specs.declared.error.ErrorKind.TheVariants.{OutOfMemory};
 ghost use Rattle.command_line.specs.Command as spec;
@@ -16,16 +16,16 @@ use std::alloc::{AllocError, Global};
 /// What the words of a command line ask for. The first word is the program's name, as in what the
 /// environment gives, and is not read.
 ///
-/// clap says what it refuses, and answers `--help` in the same way. Where it takes the words, the
-/// values of `--harts`, `--memory` and `--steps` and then the WORDs are read, in this order, up to
-/// the first malformed one. Memory may run out at any time: no clause says when.
+/// clap says what it refuses, and answers `--help` in the same way. Where it takes the words of a
+/// run, the values of `--harts`, `--memory`, `--steps` and `--cache` and then the WORDs are read, in
+/// this order, up to the first malformed one. Memory may run out at any time: no clause says when.
 pub fn order<'a>(alloc: Global, words: &'a [&'a str]) -> Result<Order<'a>, OrderFault<'a>>
     ensures { MatchResult result (IsOrderOf (map (λ w. w.now) words.entry.now))
         (IsFaultOf (map (λ w. w.now) words.entry.now)) }
 {
     match command(alloc)?.try_get_matches_from(words) {
-        Ok(matches) => match matches.subcommand_matches("run") {
-            Some(run) => read(alloc, run),
+        Ok(matches) => match matches.subcommand() {
+            Some((name, values)) => read(alloc, name, values),
             None => unreachable!(),
         },
         Err(error) => Err(refusal(alloc, &error)),
@@ -39,33 +39,68 @@ fn command<'a>(alloc: Global) -> Result<Command<'a>, AllocError>
         .about("Simulates harts with transactional memory")
         .disable_help_subcommand(true)
         .subcommand_required(true)
-        .subcommand(run_command(alloc)?)
+        .subcommand(run_command(alloc)?)?
+        .subcommand(dis_command(alloc)?)?
+        .subcommand(asm_command(alloc)?)
 }
 
 fn run_command<'a>(alloc: Global) -> Result<Command<'a>, AllocError>
     ensures shape { IfOk result (λ c. shape_of c ≡ spec.run) }
     ensures local { IfOk result (λ c. (out-Command c).has_globals ≡ false) }
 {
+    let about = "Runs a program, and reports what became of it";
     let harts = "How many harts run it, 1 if not given";
     let memory = "How many bytes of memory there are, 1048576 if not given";
     let steps = "How many steps are taken at most, 10000000 if not given";
-    Command::new(alloc, "run")
-        .about("Runs a program, and reports what became of it")
-        .arg(file(alloc))?
+    let cache = "The cache of each hart, small or normal, normal if not given";
+    bare(alloc, "run", about)
+        .arg(program(alloc))?
         .arg(option(alloc, "harts", "N", harts))?
         .arg(option(alloc, "memory", "S", memory))?
         .arg(option(alloc, "steps", "N", steps))?
+        .arg(option(alloc, "cache", "NAME", cache))?
         .arg(words(alloc))
 }
 
-fn file<'a>(alloc: Global) -> Arg<'a>
-    ensures rule { rule_of result ≡ spec.file }
+fn dis_command<'a>(alloc: Global) -> Result<Command<'a>, AllocError>
+    ensures shape { IfOk result (λ c. shape_of c ≡ spec.dis) }
+    ensures local { IfOk result (λ c. (out-Command c).has_globals ≡ false) }
+{
+    bare(alloc, "dis", "Lists a program").arg(program(alloc))
+}
+
+fn asm_command<'a>(alloc: Global) -> Result<Command<'a>, AllocError>
+    ensures shape { IfOk result (λ c. shape_of c ≡ spec.asm) }
+    ensures local { IfOk result (λ c. (out-Command c).has_globals ≡ false) }
+{
+    bare(alloc, "asm", "Assembles a program")
+        .arg(required(alloc, "source", "IN", "The source"))?
+        .arg(required(alloc, "target", "OUT", "The ELF file to write"))
+}
+
+// A command with no argument yet.
+fn bare<'a>(alloc: Global, name: &'a str, about: &'a str) -> Command<'a>
+    ensures app { app_of result ≡ new_app name.entry.now }
+    ensures local { (out-Command result).has_globals ≡ false }
+{
+    Command::new(alloc, name).about(about)
+}
+
+fn program<'a>(alloc: Global) -> Arg<'a>
+    ensures rule { rule_of result ≡ spec.required_named (codes "file") }
     ensures local { result.global ≡ false }
 {
-    Arg::new(alloc, "file")
-        .value_name("FILE")
+    required(alloc, "file", "FILE", "The program, an ELF file")
+}
+
+fn required<'a>(alloc: Global, name: &'a str, value: &'a str, help: &'a str) -> Arg<'a>
+    ensures rule { rule_of result ≡ spec.required_named name.entry.now }
+    ensures local { result.global ≡ false }
+{
+    Arg::new(alloc, name)
+        .value_name(value)
         .required(true)
-        .help("The program, an ELF file")
+        .help(help)
 }
 
 fn option<'a>(alloc: Global, name: &'a str, value: &'a str, help: &'a str) -> Arg<'a>

@@ -1,47 +1,82 @@
-ghost use Rattle.std.specs.Prelude.{◌≡◌, MatchResult, Some, codes, is_some, map, true};
-ghost use Rattle.std.specs.Option.{option_to_list};
-ghost use Rattle.clap.specs.Words.{first_of, first_value, found_of, rows_of};
-ghost use Rattle.command_line.specs.Reading.{IsBadReadingOf, IsReadingOf, IsReadingOfWords, number_or};
-ghost use Rattle.command_line.specs.Reading.{values_of, words_of};
+ghost use Rattle.std.specs.Prelude.{◌≡◌, MatchResult, Some, codes, map};
+ghost use Rattle.clap.specs.Words.{first_of, found_of, rows_of};
+ghost use Rattle.command_line.specs.Numbers.{number_of};
+ghost use Rattle.command_line.specs.Reading.{HasValue, IsComplete, IsReadingOf, IsReadingOfWords, IsRunOf};
+ghost use Rattle.command_line.specs.Reading.{NamesFirstOf, cache_of, given, malformed};
+ghost use Rattle.command_line.specs.Reading.{malformed_of, read_or, words_of};
 
 use crate::fault::OrderFault;
 use crate::numbers::number;
-use crate::request::{Order, Word};
+use crate::request::{Cache, Order, Run, Word};
 use clap::ArgMatches;
 use std::alloc::Global;
 
-// What a run has where its option is not given: how many harts, how many bytes of memory, and how
-// many steps at most.
+// What a run has where its option is not given: how many harts, how many bytes of memory, how many
+// steps at most, and which cache.
 const DEFAULT_HARTS: u32 = 1;
 
 const DEFAULT_MEMORY: u32 = 1_048_576;
 
 const DEFAULT_STEPS: u32 = 10_000_000;
 
-/// The order that the values of the subcommand `run` stand for.
-pub(crate) fn read<'a>(alloc: Global, matches: &ArgMatches<'a>) -> Result<Order<'a>, OrderFault<'a>>
-    requires file { is_some (first_value (found_of matches.now) (codes "file")) ≡ true }
-    ensures { MatchResult result (IsReadingOf (rows_of (found_of matches.now)))
-        (IsBadReadingOf (values_of (rows_of (found_of matches.now)))) }
+const DEFAULT_CACHE: Cache = Cache::Normal;
+
+/// The order that the values of the subcommand of this name stand for.
+pub(crate) fn read<'a>(
+    alloc: Global,
+    name: &str,
+    matches: &ArgMatches<'a>,
+) -> Result<Order<'a>, OrderFault<'a>>
+    requires { IsComplete name.now (rows_of (found_of matches.now)) }
+    ensures { MatchResult result (IsReadingOf name.now (rows_of (found_of matches.now)))
+        (λ fault. (name.now ≡ codes "run") × NamesFirstOf (malformed_of (rows_of (found_of matches.now))) fault) }
 {
-    let file = matches.get_str("file").unwrap();
+    match name {
+        "run" => read_run(alloc, matches).map(Order::Run),
+        "dis" => Ok(Order::Dis {
+            file: argument(matches, "file"),
+        }),
+        "asm" => Ok(Order::Asm {
+            source: argument(matches, "source"),
+            target: argument(matches, "target"),
+        }),
+        _ => unreachable!(),
+    }
+}
+
+// The value of an argument that has one.
+fn argument<'a>(matches: &ArgMatches<'a>, id: &str) -> &'a str
+    requires { HasValue id.now (rows_of (found_of matches.now)) }
+    ensures { first_of id.now (rows_of (found_of matches.now)) ≡ Some result.now }
+{
+    matches.get_str(id).unwrap()
+}
+
+fn read_run<'a>(alloc: Global, matches: &ArgMatches<'a>) -> Result<Run<'a>, OrderFault<'a>>
+    requires { HasValue (codes "file") (rows_of (found_of matches.now)) }
+    ensures { MatchResult result (IsRunOf (rows_of (found_of matches.now)))
+        (NamesFirstOf (malformed_of (rows_of (found_of matches.now)))) }
+{
+    let file = argument(matches, "file");
     let harts = number_given(matches, "harts", DEFAULT_HARTS)?;
     let memory = number_given(matches, "memory", DEFAULT_MEMORY)?;
     let steps = number_given(matches, "steps", DEFAULT_STEPS)?;
+    let cache = cache_given(matches, "cache", DEFAULT_CACHE)?;
     let words = words_given(alloc, matches)?;
-    Ok(Order::Run {
+    Ok(Run {
         file,
         harts,
         memory,
         steps,
+        cache,
         words,
     })
 }
 
 fn number_given<'a>(matches: &ArgMatches<'a>, id: &str, default: u32) -> Result<u32, OrderFault<'a>>
     ensures { MatchResult result
-        (λ n. number_or default id.now (rows_of (found_of matches.now)) ≡ Some n)
-        (IsBadReadingOf (option_to_list (first_of id.now (rows_of (found_of matches.now))))) }
+        (λ n. read_or number_of default id.now (rows_of (found_of matches.now)) ≡ Some n)
+        (NamesFirstOf (malformed number_of (given id.now (rows_of (found_of matches.now))))) }
 {
     match matches.get_str(id) {
         Some(text) => number(text).ok_or(OrderFault::Value(text)),
@@ -49,10 +84,35 @@ fn number_given<'a>(matches: &ArgMatches<'a>, id: &str, default: u32) -> Result<
     }
 }
 
+fn cache_given<'a>(
+    matches: &ArgMatches<'a>,
+    id: &str,
+    default: Cache,
+) -> Result<Cache, OrderFault<'a>>
+    ensures { MatchResult result
+        (λ cache. read_or cache_of default id.now (rows_of (found_of matches.now)) ≡ Some cache)
+        (NamesFirstOf (malformed cache_of (given id.now (rows_of (found_of matches.now))))) }
+{
+    match matches.get_str(id) {
+        Some(text) => cache_named(text).ok_or(OrderFault::Value(text)),
+        None => Ok(default),
+    }
+}
+
+fn cache_named(name: &str) -> Option<Cache>
+    ensures { result ≡ cache_of name.now }
+{
+    match name {
+        "small" => Some(Cache::Small),
+        "normal" => Some(Cache::Normal),
+        _ => None,
+    }
+}
+
 fn words_given<'a>(alloc: Global, matches: &ArgMatches<'a>) -> Result<Vec<Word<'a>>, OrderFault<'a>>
     ensures { MatchResult result
         (λ words. IsReadingOfWords (words_of (rows_of (found_of matches.now))) words.items)
-        (IsBadReadingOf (words_of (rows_of (found_of matches.now)))) }
+        (NamesFirstOf (malformed number_of (words_of (rows_of (found_of matches.now))))) }
 {
     match matches.get_strs("words") {
         Some(texts) => read_words(alloc, texts),
@@ -62,7 +122,7 @@ fn words_given<'a>(alloc: Global, matches: &ArgMatches<'a>) -> Result<Vec<Word<'
 
 fn read_words<'a>(alloc: Global, texts: &[&'a str]) -> Result<Vec<Word<'a>>, OrderFault<'a>>
     ensures { MatchResult result (λ words. IsReadingOfWords (map (λ t. t.now) texts.now) words.items)
-        (IsBadReadingOf (map (λ t. t.now) texts.now)) }
+        (NamesFirstOf (malformed number_of (map (λ t. t.now) texts.now))) }
 {
     let mut words = Vec::new(alloc);
     for &text in texts {

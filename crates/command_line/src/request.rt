@@ -2,18 +2,61 @@
 #[derive(Debug, Drop)]
 pub enum Order<'a> {
     /// To run a program and report what became of it.
-    Run {
+    Run(Run<'a>),
+    /// To list a program.
+    Dis {
         /// The path of the program's ELF file.
         file: &'a str,
-        /// How many harts run it. No count is refused here.
-        harts: u32,
-        /// How many bytes of memory they share. No size is refused here.
-        memory: u32,
-        /// How many steps are taken at most.
-        steps: u32,
-        /// The words of memory to show at the end.
-        words: Vec<Word<'a>>,
     },
+    /// To assemble a program.
+    Asm {
+        /// The path of the source.
+        source: &'a str,
+        /// The path of the ELF file to write.
+        target: &'a str,
+    },
+}
+
+impl<'a> Order<'a> {
+    ghost use Rattle.std.specs.Prelude.{◌≡◌};
+    ghost use Rattle.command_line.specs.Paths.{path_of};
+
+    /// The path of the file that is read: a program's, or that of the source.
+    pub fn path(&self) -> &'a str
+        ensures { result.now ≡ path_of self.now }
+    {
+        match self {
+            Order::Run(run) => run.file,
+            Order::Dis { file } => file,
+            Order::Asm { source, .. } => source,
+        }
+    }
+}
+
+/// A run of a program.
+#[derive(Debug, Drop)]
+pub struct Run<'a> {
+    /// The path of the program's ELF file.
+    pub file: &'a str,
+    /// How many harts run it. No count is refused here.
+    pub harts: u32,
+    /// How many bytes of memory they share. No size is refused here.
+    pub memory: u32,
+    /// How many steps are taken at most.
+    pub steps: u32,
+    /// The cache that each hart has.
+    pub cache: Cache,
+    /// The words of memory to show at the end.
+    pub words: Vec<Word<'a>>,
+}
+
+/// How large a hart's cache is.
+#[derive(Clone, Copy, Debug, PartialEq, Eq)]
+pub enum Cache {
+    /// 2 sets of 1 way.
+    Small,
+    /// 16 sets of 4 ways.
+    Normal,
 }
 
 /// A word of memory that is to be shown.

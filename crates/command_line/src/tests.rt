@@ -1,5 +1,5 @@
 //! Command lines with the orders that they stand for.
-use super::{Order, OrderFault, number, order};
+use super::{Cache, Order, OrderFault, Run, number, order};
 use std::alloc::Global;
 use std::test::Fail;
 
@@ -31,28 +31,39 @@ fn reads_numbers(rt: HostRuntime) {
     }
 }
 
+// The run that the words ask for.
+fn run_of(
+    alloc: Global,
+    words: &'static [&'static str],
+) -> Result<Option<Run<'static>>, OrderFault<'static>> {
+    match order(alloc, words)? {
+        Order::Run(run) => Ok(Some(run)),
+        _ => Ok(None),
+    }
+}
+
 #[test]
 fn reads_a_run(rt: HostRuntime) -> Result<(), Fail> {
-    let Order::Run {
-        file,
-        harts,
-        memory,
-        steps,
-        words,
-    } = order(rt.alloc(), &["logtm", "run", "first.elf"])?;
-    assert_eq!(rt; file, "first.elf");
-    assert_eq!(rt; (harts, memory, steps), (1, 1_048_576, 10_000_000));
-    assert_eq!(rt; words.len(), 0);
+    let run = run_of(rt.alloc(), &["logtm", "run", "first.elf"])?.ok_or("a run")?;
+    assert_eq!(rt; run.file, "first.elf");
+    assert_eq!(rt;
+        (run.harts, run.memory, run.steps),
+        (1, 1_048_576, 10_000_000)
+    );
+    assert_eq!(rt; run.cache, Cache::Normal);
+    assert_eq!(rt; run.words.len(), 0);
     Ok(())
 }
 
-static LONG: [&str; 11] = [
+static LONG: [&str; 13] = [
     "logtm",
     "run",
     "--harts",
     "2",
     "first.elf",
     "--memory=0x20aBcD",
+    "--cache",
+    "small",
     "0x2000",
     "--steps",
     "007",
@@ -62,20 +73,54 @@ static LONG: [&str; 11] = [
 
 #[test]
 fn reads_options_and_words(rt: HostRuntime) -> Result<(), Fail> {
-    let Order::Run {
-        file,
-        harts,
-        memory,
-        steps,
-        words,
-    } = order(rt.alloc(), LONG.as_slice())?;
-    assert_eq!(rt; file, "first.elf");
-    assert_eq!(rt; (harts, memory, steps), (2, 2_141_133, 7));
+    let run = run_of(rt.alloc(), LONG.as_slice())?.ok_or("a run")?;
+    assert_eq!(rt; run.file, "first.elf");
+    assert_eq!(rt; (run.harts, run.memory, run.steps), (2, 2_141_133, 7));
+    assert_eq!(rt; run.cache, Cache::Small);
+    let words = run.words;
     assert_eq!(rt; words.len(), 3);
     assert_eq!(rt; (words[0].text, words[0].addr), ("0x2000", 8192));
     assert_eq!(rt; (words[1].text, words[1].addr), ("8196", 8196));
     assert_eq!(rt; (words[2].text, words[2].addr), ("0", 0));
     Ok(())
+}
+
+#[test]
+fn reads_the_name_of_a_cache(rt: HostRuntime) -> Result<(), Fail> {
+    let cases: [(&[&str], Cache); 4] = [
+        (&["logtm", "run", "f"], Cache::Normal),
+        (&["logtm", "run", "f", "--cache", "normal"], Cache::Normal),
+        (&["logtm", "run", "--cache", "small", "f"], Cache::Small),
+        (&["logtm", "run", "f", "--cache=small"], Cache::Small),
+    ];
+    for (words, cache) in cases {
+        let run = run_of(rt.alloc(), words)?.ok_or("a run")?;
+        assert_eq!(rt; run.cache, cache);
+    }
+    Ok(())
+}
+
+// The paths that an order to list or to assemble names.
+fn paths(alloc: Global, words: &'static [&'static str]) -> Option<(&'static str, &'static str)> {
+    match order(alloc, words) {
+        Ok(Order::Dis { file }) => Some((file, "")),
+        Ok(Order::Asm { source, target }) => Some((source, target)),
+        _ => None,
+    }
+}
+
+#[test]
+fn reads_the_other_subcommands(rt: HostRuntime) {
+    let cases: [(&[&str], (&str, &str)); 5] = [
+        (&["logtm", "dis", "first.elf"], ("first.elf", "")),
+        (&["logtm", "dis", "--", "--help"], ("--help", "")),
+        (&["logtm", "dis", "run"], ("run", "")),
+        (&["logtm", "asm", "a.s", "a.elf"], ("a.s", "a.elf")),
+        (&["logtm", "asm", "dis", "asm"], ("dis", "asm")),
+    ];
+    for (words, named) in cases {
+        assert_eq!(rt; paths(rt.alloc(), words), Some(named));
+    }
 }
 
 // The text of a refusal.
@@ -88,14 +133,23 @@ fn refusal(alloc: Global, words: &'static [&'static str]) -> Option<String> {
 
 #[test]
 fn refuses_as_clap_does(rt: HostRuntime) -> Result<(), Fail> {
-    let cases: [(&[&str], &str); 17] = [
+    let cases: [(&[&str], &str); 24] = [
         (&[], "requires a subcommand"),
         (&["logtm"], "requires a subcommand"),
         (&["logtm", "--help"], "Usage: logtm <COMMAND>"),
         (&["logtm", "walk"], "unrecognized subcommand 'walk'"),
+        (&["logtm", "dis"], "<FILE>"),
+        (&["logtm", "dis", "--help"], "Usage: logtm dis <FILE>"),
+        (&["logtm", "dis", "f", "g"], "unexpected argument 'g'"),
         (
-            &["logtm", "asm", "a.s", "a.elf"],
-            "unrecognized subcommand 'asm'",
+            &["logtm", "dis", "f", "--harts", "2"],
+            "unexpected argument '--harts'",
+        ),
+        (&["logtm", "asm", "a.s"], "<OUT>"),
+        (&["logtm", "asm", "--help"], "Usage: logtm asm <IN> <OUT>"),
+        (
+            &["logtm", "asm", "a.s", "a.elf", "b"],
+            "unexpected argument 'b'",
         ),
         (&["logtm", "help"], "unrecognized subcommand 'help'"),
         (
@@ -108,8 +162,12 @@ fn refuses_as_clap_does(rt: HostRuntime) -> Result<(), Fail> {
             "Usage: logtm run [OPTIONS] <FILE> [WORD]...",
         ),
         (
-            &["logtm", "run", "f", "--cache", "small"],
-            "unexpected argument '--cache'",
+            &["logtm", "run", "f", "--cache"],
+            "a value is required for '--cache <NAME>'",
+        ),
+        (
+            &["logtm", "run", "f", "--cache=small", "--cache=small"],
+            "cannot be used multiple times",
         ),
         (
             &["logtm", "run", "f", "--threads"],
@@ -151,7 +209,7 @@ fn bad_value(alloc: Global, words: &'static [&'static str]) -> Option<&'static s
 
 #[test]
 fn names_the_first_bad_value(rt: HostRuntime) {
-    let cases: [(&[&str], &str); 10] = [
+    let cases: [(&[&str], &str); 18] = [
         (&["logtm", "run", "f", "--harts", "x"], "x"),
         (&["logtm", "run", "f", "--memory", "0x1g"], "0x1g"),
         (
@@ -165,6 +223,14 @@ fn names_the_first_bad_value(rt: HostRuntime) {
         (&["logtm", "run", "f", "--steps", "y", "--harts", "x"], "x"),
         (&["logtm", "run", "f", "--steps", "y", "--memory", "m"], "m"),
         (&["logtm", "run", "f", "w", "--steps", "y"], "y"),
+        (&["logtm", "run", "f", "--cache", "tiny"], "tiny"),
+        (&["logtm", "run", "f", "--cache", "Small"], "Small"),
+        (&["logtm", "run", "f", "--cache="], ""),
+        (&["logtm", "run", "f", "--cache", "normal "], "normal "),
+        (&["logtm", "run", "f", "--cache", "2"], "2"),
+        (&["logtm", "run", "f", "--harts", "small"], "small"),
+        (&["logtm", "run", "f", "--cache", "c", "--steps", "y"], "y"),
+        (&["logtm", "run", "f", "w", "--cache", "c"], "c"),
     ];
     for (words, value) in cases {
         assert_eq!(rt; bad_value(rt.alloc(), words), Some(value));
@@ -174,7 +240,21 @@ fn names_the_first_bad_value(rt: HostRuntime) {
 // Whether the words give an order with so many words, or memory ran out.
 fn gives(alloc: Global, words: &'static [&'static str], count: usize) -> bool {
     match order(alloc, words) {
-        Ok(Order::Run { words: shown, .. }) => shown.len() == count,
+        Ok(Order::Run(run)) => run.words.len() == count,
+        Ok(_order) => false,
+        Err(fault) => match fault {
+            OrderFault::NoMemory => true,
+            OrderFault::Value(_value) => false,
+            OrderFault::Refused(_text) => false,
+        },
+    }
+}
+
+// Whether the words ask to assemble this source into this target, or memory ran out.
+fn assembles(alloc: Global, words: &'static [&'static str], from: &str, to: &str) -> bool {
+    match order(alloc, words) {
+        Ok(Order::Asm { source, target }) => source == from && target == to,
+        Ok(_order) => false,
         Err(fault) => match fault {
             OrderFault::NoMemory => true,
             OrderFault::Value(_value) => false,
@@ -202,4 +282,12 @@ fn answers_nothing_else_without_memory(rt: HostRuntime) {
     assert!(rt; gives(rt.alloc(), LONG.as_slice(), 3));
     assert!(rt; fails(rt.alloc(), &["logtm", "run", "f", "1", "2", "z"], "z"));
     assert!(rt; fails(rt.alloc(), &["logtm", "run", "--nope"], "'--nope'"));
+    assert!(rt;
+        assembles(
+            rt.alloc(),
+            &["logtm", "asm", "a.s", "a.elf"],
+            "a.s",
+            "a.elf"
+        )
+    );
 }

@@ -1,5 +1,7 @@
 pub mod Texts
 pub mod Listed
+pub mod Words
+pub mod Windows
 pub mod Cutting
 pub mod Numerals
 pub mod Rows

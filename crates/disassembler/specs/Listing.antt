@@ -1,5 +1,6 @@
 -- The listing of a program.
-use Rattle.std.specs.Prelude.{ℕ, ◌*◌, List, [], ◌∷◌, Option, Some, None, codes}
+use Rattle.std.specs.Prelude.{◌≡◌, ℕ, ◌+◌, ◌*◌, ◌<◌, List, [], ◌∷◌, length, slice_index_or, Option, Some, None, codes}
+use Rattle.std.specs.Option.{option_or}
 use Rattle.std.specs.List.{concat, flat_map, range_with_len}
 use Rattle.texts.specs.Numerals.{hexadecimal}
 use Rattle.table.specs.Program.{Segment, word_at}
@@ -17,6 +18,15 @@ line_if a (Some w) = line a w
 
 abbrev pub line_at : List Segment → ℕ → List ℕ
 line_at segments a = line_if a (word_at segments a)
+
+-- the words of text from a word of memory on are added to what is there, each where there is none yet
+abbrev pub AddsWords : List Segment → ℕ → List (Option ℕ) → List (Option ℕ) → Type 0
+AddsWords segments start before after = (length after ≡ length before)
+    × ((i : ℕ) → i < length before → slice_index_or after i None ≡ option_or (slice_index_or before i None) (word_at segments (4 * (start + i))))
+
+-- the lines of so many words of memory from one on
+unfoldable pub lines_from : List Segment → ℕ → ℕ → List ℕ
+lines_from segments start n = flat_map (λ i. line_at segments (4 * (start + i))) (range_with_len 0 n)
 
 -- the lines of the first n multiples of 4
 unfoldable pub lines : List Segment → ℕ → List ℕ

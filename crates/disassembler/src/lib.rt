@@ -9,6 +9,7 @@ mod printer;
 mod shapes;
 #[cfg(test)]
 mod tests;
+mod window;
 
 pub use laws::texts_differ;
 pub use lister::listing;

@@ -1,33 +1,74 @@
-ghost use Rattle.std.specs.Prelude.{◌≡◌, ◌<◌, ◌*◌};
+ghost use Rattle.std.specs.Prelude.{◌≡◌, ◌≤◌, ◌+◌, ◌*◌, ℕ, None, length, slice_index_or};
+ghost use Rattle.std.specs.List.{AllByRecursion, flat_map, range_with_len};
+ghost use Rattle.loader.specs.Programs.{IsSegment};
+ghost use Rattle.table.specs.Program.{word_at};
 ghost use Rattle.texts.specs.Puts.{Puts};
-ghost use Rattle.disassembler.specs.Listing.{line, line_at, listing_of};
+ghost use Rattle.disassembler.specs.Listing.{line, line_if, lines_from, listing_of};
 
 use crate::printer::text;
+use crate::window::add_words;
 use loader::Program;
-use table::Text;
+use table::Segment;
 use texts::{hexadecimal, put_all};
 use words::{Addr, Sink, SinkFault};
 
-/// How many words the 4 MiB have in which the segments of a program lie.
-const WORDS: u32 = 1 << 20;
+/// How many words of memory a window has. All segments are looked at once a window, so that a listing takes time by its words, and not
+/// by the square of how many segments there are.
+const WINDOW: usize = 4096;
 
 /// Puts a line for each word of the program's text that stands at a multiple of 4, by rising address: the address, the word, and its
 /// canonical text. The only error is that a put failed; then a beginning of the listing was taken.
 pub fn listing<S: Sink>(program: &Program, out: &mut S) -> Result<(), SinkFault>
     ensures { Puts (S.taken out.old) (S.taken out.new) (S.failed out.old) (S.failed out.new) (listing_of program.now) result }
 {
-    let text = program.text();
-    for number in 0..WORDS {
-        put_word(&text, Addr::new(4 * number), out)?;
+    let segments = program.segments();
+    for window in 0..windows(segments) {
+        put_window(segments, WINDOW * window, out)?;
     }
     Ok(())
 }
 
-/// Puts the line of the word at an address, if text has one there.
-fn put_word<S: Sink>(text: &Text<'_>, addr: Addr, out: &mut S) -> Result<(), SinkFault>
-    ensures { Puts (S.taken out.old) (S.taken out.new) (S.failed out.old) (S.failed out.new) (line_at text.now.segments.now addr) result }
+/// How many windows of memory it takes to hold all text.
+fn windows(segments: &[Segment]) -> usize
+    requires { AllByRecursion IsSegment segments.now }
+    ensures most { result ≤ 256 }
+    ensures all { (k : ℕ) → WINDOW * result ≤ k → word_at segments.now (4 * k) ≡ None }
 {
-    match text.word(addr) {
+    let mut end = 0;
+    for segment in segments {
+        if segment.exec {
+            end = end.max(segment.addr as usize + segment.size as usize);
+        }
+    }
+    end.div_ceil(4 * WINDOW)
+}
+
+/// Puts the lines of the words of text in the window that begins with a word of memory.
+fn put_window<S: Sink>(segments: &[Segment], start: usize, out: &mut S) -> Result<(), SinkFault>
+    requires { start + WINDOW ≤ 1048576 }
+    ensures { Puts (S.taken out.old) (S.taken out.new) (S.failed out.old) (S.failed out.new) (lines_from segments.now start WINDOW) result }
+{
+    let mut words = [None; WINDOW];
+    add_words(segments, start, &mut words);
+    put_words(&words, start, out)
+}
+
+/// Puts the lines of words, of which the first would stand at 4 times `start`.
+fn put_words<S: Sink>(words: &[Option<u32>], start: usize, out: &mut S) -> Result<(), SinkFault>
+    requires { start + length words.now ≤ 1048576 }
+    ensures { Puts (S.taken out.old) (S.taken out.new) (S.failed out.old) (S.failed out.new) (flat_map (λ i. line_if (4 * (start + i)) (slice_index_or words.now i None)) (range_with_len 0 (length words.now))) result }
+{
+    for i in 0..words.len() {
+        put_word(Addr::new(4 * (start + i) as u32), words[i], out)?;
+    }
+    Ok(())
+}
+
+/// Puts the line of the word at an address, if there is one.
+fn put_word<S: Sink>(addr: Addr, word: Option<u32>, out: &mut S) -> Result<(), SinkFault>
+    ensures { Puts (S.taken out.old) (S.taken out.new) (S.failed out.old) (S.failed out.new) (line_if addr word) result }
+{
+    match word {
         Some(word) => put_line(addr, word, out),
         None => Ok(()),
     }

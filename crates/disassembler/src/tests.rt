@@ -1,15 +1,13 @@
 mod tables;
 
-ghost use Rattle.std.specs.Prelude.{Some};
-
 use crate::{listing, text, texts_differ};
-use elf_samples::elf_file;
+use elf_samples::{Breaking, EXIT, elf_file};
 use loader::{Program, read_elf};
 use std::alloc::{AllocError, Global};
 use std::process::Abort;
 use std::test::Fail;
 use tables::{OTHERS, STANDARD};
-use words::{Sink, SinkFault, Taken};
+use words::Taken;
 
 #[test]
 fn texts_are_the_assemblers(rt: HostRuntime) -> Result<(), Fail> {
@@ -37,9 +35,6 @@ fn check_listing(rt: &(impl Abort + AllocGlobal), file: &[u8], want: &str) -> Re
     assert_eq!(rt; out.bytes.as_slice(), want.as_bytes());
     Ok(())
 }
-
-/// a7 = 93, a0 = 0, and ECALL.
-const EXIT: [u32; 3] = [0x05d0_0893, 0x0000_0513, 0x0000_0073];
 
 const EXIT_LISTING: &str = "\
 0x00001000: 05d00893  addi a7, zero, 93
@@ -88,45 +83,33 @@ fn a_listing_rises(rt: HostRuntime) -> Result<(), Fail> {
     check_listing(&rt, &file, SEGMENTS_LISTING)
 }
 
-/// A sink in memory that takes half of one put and fails, once it has taken so many.
-#[derive(Drop)]
-struct Breaking {
-    bytes: Vec<u8>,
-    failed: u64,
-    left: u32,
-}
+/// Text of 4 bytes that ends with the 4 MiB that programs have, and of 8 bytes at 0x3ffc, where it begins. Each segment's bytes begin at
+/// 0x74 of the file.
+#[rattlefmt::skip]
+const FAR: [u32; 31] = [
+    0x464c_457f, 0x0001_0101, 0, 0, 0x00f3_0002, 1, 0x3ffc, 52, 0, 0, 0x0020_0034, 2, 0, // the file
+    1, 0x74, 0x003f_fffc, 0x003f_fffc, 4, 4, 5, 1, // text
+    1, 0x74, 0x3ffc, 0x3ffc, 8, 8, 5, 1, // text
+    0x05d0_0893, 0x0000_0513,
+];
 
-impl Sink for Breaking {
-    ghost failed = { λ b. b.failed };
+const FAR_LISTING: &str = "\
+0x00003ffc: 05d00893  addi a7, zero, 93
+0x00004000: 00000513  addi a0, zero, 0
+0x003ffffc: 05d00893  addi a7, zero, 93
+";
 
-    ghost taken = { λ b. Some b.bytes.items };
-
-    fn put(&mut self, bytes: &[u8]) -> Result<(), SinkFault> {
-        if self.left == 0 {
-            let _ = self.bytes.extend_from_slice(&bytes[..bytes.len() / 2]);
-            self.failed = self.failed.saturating_add(1);
-            return Err(SinkFault);
-        }
-        self.left -= 1;
-        match self.bytes.extend_from_slice(bytes) {
-            Ok(()) => Ok(()),
-            Err(_) => {
-                self.failed = self.failed.saturating_add(1);
-                Err(SinkFault)
-            }
-        }
-    }
+#[test]
+fn a_listing_reaches_the_end_of_memory(rt: HostRuntime) -> Result<(), Fail> {
+    let file = file_of(&FAR, rt.alloc())?;
+    check_listing(&rt, &file, FAR_LISTING)
 }
 
 #[test]
 fn each_put_fails_in_turn(rt: HostRuntime) -> Result<(), Fail> {
     let program = program(&elf_file(rt.alloc(), &EXIT)?, rt.alloc())?;
     for left in 0..21 {
-        let mut out = Breaking {
-            bytes: Vec::new(rt.alloc()),
-            failed: 0,
-            left,
-        };
+        let mut out = Breaking::new(rt.alloc(), left);
         let answer = listing(&program, &mut out);
         assert!(rt; answer.is_err(), "{left}");
         assert_eq!(rt; out.failed, 1, "{left}");

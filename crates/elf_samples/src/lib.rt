@@ -1,5 +1,8 @@
-//! Small programs for tests, and their ELF files.
+//! Small programs for tests, their ELF files, and a sink that fails.
 #![tactic(auto)]
+
+mod breaking;
+mod texts;
 
 ghost use Rattle.std.specs.Prelude.{◌≡◌, ◌≤◌, length, IfOk};
 ghost use Rattle.std.specs.Int.{w32, to_le_bytes};
@@ -7,9 +10,11 @@ ghost use Rattle.std.specs.List.{flat_map};
 ghost use Rattle.elf_samples.specs.Samples.{text_of, sample_of};
 ghost use Rattle.loader.specs.Writing.{elf_of};
 
+pub use breaking::Breaking;
 use loader::{Program, write_elf};
 use std::alloc::{AllocError, Global};
 use table::Segment;
+pub use texts::{ABORTS, ADDS, COMMITS, COUNTS, EXIT};
 use words::Addr;
 
 /// How many words fit between 0x1000 and 4 MiB.
@@ -64,12 +69,11 @@ mod tests {
 
     #[test]
     fn a_program_of_three_words(rt: HostRuntime) -> Result<(), Fail> {
-        let words = [0x05d0_0893, 0x0000_0513, 0x0000_0073];
-        let sample = program(rt.alloc(), &words)?;
+        let sample = program(rt.alloc(), &EXIT)?;
         assert_eq!(rt; sample.entry(), Addr::new(0x1000));
         assert_eq!(rt; sample.text().word(Addr::new(0x1008)), Some(0x0000_0073));
         assert_eq!(rt; sample.text().word(Addr::new(0x100c)), None);
-        assert_eq!(rt; elf_file(rt.alloc(), &words)?.len(), 96);
+        assert_eq!(rt; elf_file(rt.alloc(), &EXIT)?.len(), 96);
         assert_eq!(rt;
             program(rt.alloc(), &[])?.text().word(Addr::new(0x1000)),
             Some(0)

@@ -6,3 +6,4 @@ pub mod Views
 pub mod Words
 pub mod Victims
 pub mod Alone
+pub mod Stores

@@ -124,3 +124,7 @@ shown-running tx t is = by_depth (tx.depth == 0) is
     by_depth : (b : Bool) → cond b None (Some (running tx)) ≡ Some t → running tx ≡ t
     by_depth true s = absurd (none-some t s)
     by_depth false s = same_Some (running tx) t s
+
+-- none runs outside
+pub rests : (tx : Transaction) → tx.depth ≡ 0 → shown_tx tx ≡ None
+rests tx outside = rw outside refl

@@ -1,8 +1,8 @@
 -- The words of a block and its bytes: what an access reads and writes there.
-use Rattle.std.proofs.Common.{◌≡◌, ◌&&◌, ◌+◌, ◌-◌, ◌*◌, ◌/◌, ◌%◌, ◌^◌, ◌<◌, ◌≤◌, ◌∙◌, ◌⊎◌, ℕ, zero, suc, Bool, true, false, cond, List, length, map, slice_index, refl, sym, ap, arith, inl, inr}
+use Rattle.std.proofs.Common.{◌≡◌, ◌&&◌, ◌+◌, ◌-◌, ◌*◌, ◌/◌, ◌%◌, ◌^◌, ◌<◌, ◌≤◌, ◌∙◌, ◌⊎◌, ℕ, zero, suc, Bool, true, false, cond, List, length, map, slice_index, refl, sym, ap, subst, arith, inl, inr, Option, Some, slice_set, length-set, get_or-set_same, get_or-set_other}
 use Rattle.std.specs.Prelude.{nat_le, nat_lt}
 use Rattle.std.specs.List.{range_with_len}
-use Rattle.std.proofs.lemmas.Bool.{cases_lt}
+use Rattle.std.proofs.lemmas.Bool.{cases_lt, cases_eq}
 use Rattle.std.proofs.lemmas.Bool.Decides.{nat_tests}
 use Rattle.std.proofs.lemmas.List.FromFn.{fill_by_all}
 use Rattle.words.specs.declared.entry.Width.{Width}
@@ -10,8 +10,10 @@ use Rattle.words.specs.declared.entry.Width.TheVariants.{Byte, Half, Word}
 use Rattle.words.specs.Bytes.{bytes_in, byte_of, number_at}
 use Rattle.table.specs.Effects.{loaded, part_of}
 use Rattle.flat.specs.Bytes.{laid}
-use Rattle.cache.specs.Bytes.{byte_at, PutsBytes}
-use Rattle.protocol.specs.Lines.{byte_in}
+use Rattle.table.specs.declared.effect.MemoryAct.{MemoryAct}
+use Rattle.cache.specs.Bytes.{byte_at, word_with, PutsBytes}
+use Rattle.cache.proofs.StoredBytes.{block_with-puts}
+use Rattle.protocol.specs.Lines.{byte_in, words_put}
 
 -- Reading
 
@@ -116,3 +118,16 @@ pub inside-block : (a : ℕ) (width : Width) → a % bytes_in width ≡ 0 → a 
 inside-block a Byte aligned = omega arith
 inside-block a Half aligned = omega arith
 inside-block a Word aligned = omega arith
+
+-- the words after a store are those before, with one changed
+pub words_put-word : (content : List ℕ) (m : MemoryAct) (v word : ℕ) → m.addr % bytes_in m.width ≡ 0 → length content ≡ 8 → ((k : ℕ) → slice_index content k < 4294967296) → word < 4294967296
+    → word ≡ word_with (slice_index content (m.addr / 4 % 8)) (m.addr % 4) (bytes_in m.width) v → words_put m (Some v) content ≡ slice_set content (m.addr / 4 % 8) word
+words_put-word content m v word aligned full fits small is =
+    let w : ℕ = m.addr / 4 % 8 in
+    let n : ℕ = bytes_in m.width in
+    let new : List ℕ = slice_set content w word in
+    let puts : PutsBytes content new (m.addr % 32) n v = subst (λ x. PutsBytes content (slice_set content w x) (m.addr % 32) n v) (sym is) (block_with-puts content m.addr m.width v full aligned) in
+    sym (words_put-is content new m.addr n v (inside-block m.addr m.width aligned) puts (length-set content w word ∙ full) (λ k below. elim (cases_eq k w) [
+      | inl here ↦ let at : slice_index new w ≡ word = get_or-set_same content w word 0 (omega (arith, full)) in rw (here, at) small
+      | inr ne ↦ rw (get_or-set_other content w k word 0 ne) (fits k)
+    ]))

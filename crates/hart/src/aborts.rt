@@ -20,6 +20,7 @@ impl<const SETS: usize, const WAYS: usize> Hart<SETS, WAYS> {
     ghost use Rattle.hart.specs.Rows.{stepped};
 
     /// The running transaction starts to be aborted. Its marks stay until the end.
+    #[inline(never)]
     pub(crate) fn start_abort(&mut self, cause: AbortCause) -> CoreStep
         ensures row { (output : List ℕ) (t : Transaction) → shown_tx self.old.tx ≡ Some t →
             start_abort_row cause t (shown_hart SETS output self.old) ≡ stepped SETS output self.new result }
@@ -43,6 +44,7 @@ impl<const SETS: usize, const WAYS: usize> Hart<SETS, WAYS> {
     }
 
     /// The word can't be retired: the hart stops, or in a transaction starts an abort, whose end stops it.
+    #[inline(never)]
     pub(crate) fn trap(&mut self, cause: Cause) -> CoreStep
         ensures row { (output : List ℕ) → trap_row self.old.index cause (shown_tx self.old.tx) (shown_hart SETS output self.old)
             ≡ stepped SETS output self.new result }

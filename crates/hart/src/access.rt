@@ -1,19 +1,18 @@
-ghost use Rattle.std.specs.Prelude.{◌≡◌, ◌<◌, ◌%◌, ◌^◌, ℕ, length, slice_index, IsTrue, Option, Some};
+ghost use Rattle.std.specs.Prelude.{◌≡◌, ◌<◌, ◌/◌, ◌%◌, ◌^◌, slice_set, cond, Some};
 ghost use Rattle.words.specs.Limits.{block_words};
 ghost use Rattle.words.specs.Bytes.{bytes_in, cut};
-ghost use Rattle.words.specs.declared.message.LineState.TheVariants.{Modified};
 ghost use Rattle.table.specs.declared.effect.Act.TheVariants.{Memory};
-ghost use Rattle.cache.specs.Bytes.{block_with};
 ghost use Rattle.flat.specs.Effects.{old_of, put_by, load_by, store_by, loaded_by};
-ghost use Rattle.protocol.specs.Lines.{byte_in, words_put, state_put, marks_used, line_used, is_enough};
+ghost use Rattle.protocol.specs.Lines.{byte_in, words_put, marks_used, is_enough};
 ghost use Rattle.protocol.specs.Core.{kind_of, is_log_due};
 ghost use Rattle.hart.specs.Shown.{shown_line};
 
 use cache::{Line, with_bytes};
 use table::{MemoryAct, extend_load, finish_load, finish_store, write_to};
-use words::{Access, BLOCK_WORDS, Block, Kind, LineState, Marks, Reg, Width};
+use words::{Access, BLOCK_WORDS, Block, Kind, Marks, Reg, Width};
 
 /// An access needs what a store needs, if it is also one.
+#[inline(always)]
 pub(crate) fn kind_of(m: &MemoryAct) -> Kind
     ensures { result ≡ kind_of m.now }
 {
@@ -25,6 +24,7 @@ pub(crate) fn kind_of(m: &MemoryAct) -> Kind
 }
 
 /// Whether a line is enough for an access.
+#[inline(always)]
 pub(crate) fn is_enough(m: &MemoryAct, line: &Line) -> bool
     ensures { result ≡ is_enough (kind_of m.now) (Some (shown_line line.now)) }
 {
@@ -32,6 +32,7 @@ pub(crate) fn is_enough(m: &MemoryAct, line: &Line) -> bool
 }
 
 /// Whether a block has to be logged before an access in a transaction: it is a store, to a line without the W mark.
+#[inline(always)]
 pub(crate) fn is_log_due(m: &MemoryAct, line: &Line) -> bool
     ensures { result ≡ is_log_due m.now (shown_line line.now) }
 {
@@ -39,6 +40,7 @@ pub(crate) fn is_log_due(m: &MemoryAct, line: &Line) -> bool
 }
 
 /// The number that stands at an access's place, in the words of its block.
+#[inline(always)]
 fn number(content: &Block, m: &MemoryAct) -> u32
     requires { m.now.addr % bytes_in m.now.width ≡ 0 }
     ensures value { result ≡ old_of (byte_in content.now) m.now }
@@ -49,6 +51,7 @@ fn number(content: &Block, m: &MemoryAct) -> u32
 }
 
 /// The low bytes of a number, as many as a width has.
+#[inline(always)]
 fn cut_to(width: Width, value: u32) -> u32
     ensures { result ≡ cut width value }
 {
@@ -60,7 +63,8 @@ fn cut_to(width: Width, value: u32) -> u32
 }
 
 /// The number that an access stores, if it does.
-fn put_by(content: &Block, m: &MemoryAct) -> Option<u32>
+#[inline(always)]
+pub(crate) fn put_by(content: &Block, m: &MemoryAct) -> Option<u32>
     requires { m.now.addr % bytes_in m.now.width ≡ 0 }
     ensures { result ≡ put_by (byte_in content.now) m.now }
 {
@@ -71,6 +75,7 @@ fn put_by(content: &Block, m: &MemoryAct) -> Option<u32>
 }
 
 /// The register that an access writes.
+#[inline(always)]
 pub(crate) fn loaded_by(content: &Block, m: &MemoryAct) -> Option<(Reg, u32)>
     requires { m.now.addr % bytes_in m.now.width ≡ 0 }
     ensures { result ≡ loaded_by (byte_in content.now) m.now }
@@ -85,6 +90,7 @@ pub(crate) fn loaded_by(content: &Block, m: &MemoryAct) -> Option<(Reg, u32)>
 }
 
 /// The load that an entry shows.
+#[inline(always)]
 pub(crate) fn load_by(content: &Block, m: &MemoryAct) -> Option<Access>
     requires { m.now.addr % bytes_in m.now.width ≡ 0 }
     ensures { result ≡ load_by (byte_in content.now) (Memory m.now) }
@@ -100,6 +106,7 @@ pub(crate) fn load_by(content: &Block, m: &MemoryAct) -> Option<Access>
 }
 
 /// The store that an entry shows.
+#[inline(always)]
 pub(crate) fn store_by(content: &Block, m: &MemoryAct) -> Option<Access>
     requires { m.now.addr % bytes_in m.now.width ≡ 0 }
     ensures { result ≡ store_by (byte_in content.now) (Memory m.now) }
@@ -114,66 +121,18 @@ pub(crate) fn store_by(content: &Block, m: &MemoryAct) -> Option<Access>
     }
 }
 
-/// The words of a block after an access that stores a number.
-fn words_put(content: &Block, m: &MemoryAct, value: Option<u32>) -> Block
+/// The memory word at an access's place, after it has stored a number.
+#[inline(always)]
+pub(crate) fn word_put(content: &Block, m: &MemoryAct, value: u32) -> u32
     requires { m.now.addr % bytes_in m.now.width ≡ 0 }
-    ensures { result ≡ words_put m.now value content.now }
+    ensures { words_put m.now (Some value) content.now ≡ slice_set content.now (m.now.addr / 4 % block_words) result }
 {
-    let Some(value) = value else {
-        return *content;
-    };
-    let words = stored(content, m, value);
-    words
-}
-
-/// The words of a block with the low bytes of a value at an access's place.
-fn stored(content: &Block, m: &MemoryAct, value: u32) -> Block
-    requires { m.now.addr % bytes_in m.now.width ≡ 0 }
-    ensures value { result ≡ block_with content.now m.now.addr m.now.width value }
-    ensures fits { (k : ℕ) → slice_index result k < 2 ^ 32 }
-    ensures len { length result ≡ block_words }
-{
-    let word = m.addr.index() / 4 % BLOCK_WORDS;
-    let mut words = *content;
-    words[word] = with_bytes(content[word], m.addr.index() % 4, m.width, value);
-    words
-}
-
-/// A line after an access, in a transaction or outside.
-pub(crate) fn line_used(line: &Line, in_transaction: bool, m: &MemoryAct) -> Line
-    requires aligned { m.now.addr % bytes_in m.now.width ≡ 0 }
-    requires owned { IsTrue line.now.marks.written → line.now.state ≡ Modified }
-    ensures line { shown_line result ≡ line_used in_transaction m.now (shown_line line.now) }
-    ensures block { result.block ≡ line.now.block }
-    ensures owned { IsTrue result.marks.written → result.state ≡ Modified }
-{
-    let content = words_put(&line.content, m, put_by(&line.content, m));
-    let state = state_put(m, line.state);
-    let marks = if in_transaction {
-        marks_used(m, line.marks)
-    } else {
-        line.marks
-    };
-    Line {
-        block: line.block,
-        content,
-        state,
-        marks,
-    }
-}
-
-/// A store makes a line modified.
-fn state_put(m: &MemoryAct, state: LineState) -> LineState
-    ensures { result ≡ state_put m.now.store state }
-{
-    if m.store.is_some() {
-        LineState::Modified
-    } else {
-        state
-    }
+    let word = content[m.addr.index() / 4 % BLOCK_WORDS];
+    with_bytes(word, m.addr.index() % 4, m.width, value)
 }
 
 /// The marks after an access in a transaction.
+#[inline(always)]
 fn marks_used(m: &MemoryAct, marks: Marks) -> Marks
     ensures { result ≡ marks_used m.now marks }
 {
@@ -181,5 +140,17 @@ fn marks_used(m: &MemoryAct, marks: Marks) -> Marks
         read: marks.read || m.load.is_some(),
         written: marks.written || m.store.is_some(),
         ..marks
+    }
+}
+
+/// The marks after an access, in a transaction or outside.
+#[inline(always)]
+pub(crate) fn marks_after(in_transaction: bool, m: &MemoryAct, marks: Marks) -> Marks
+    ensures { result ≡ cond in_transaction (marks_used m.now marks) marks }
+{
+    if in_transaction {
+        marks_used(m, marks)
+    } else {
+        marks
     }
 }

@@ -4,7 +4,7 @@ ghost use Rattle.table.specs.Program.{word_at};
 ghost use Rattle.flat.specs.Causes.{logs_from, load_cause, store_cause, memory_cause, act_cause, effect_or_cause, next_of};
 
 use crate::hart::Hart;
-use table::{Act, Effect, MemoryAct, Text, byte_count, effect_at, register};
+use table::{Act, Effect, MemoryAct, Slot, Text, byte_count, register};
 use words::{Addr, Cause, LOG_BYTES, Reg};
 
 /// The word at a hart's pc, which can be retired, and what it does.
@@ -19,6 +19,7 @@ impl<const SETS: usize, const WAYS: usize> Hart<SETS, WAYS> {
     ghost use Rattle.hart.specs.Rows.{setting_of, seen_hart, Fits};
 
     /// The first address of the undo logs.
+    #[inline(always)]
     fn logs_from(&self) -> usize
         ensures { result ≡ logs_from (setting_of [] self.now) }
     {
@@ -26,6 +27,7 @@ impl<const SETS: usize, const WAYS: usize> Hart<SETS, WAYS> {
     }
 
     /// A load's cause, whatever the program's text is.
+    #[inline(always)]
     fn load_cause(&self, addr: Addr, count: usize) -> Option<Cause>
         requires some { 0 < count }
         requires few { count ≤ 4 }
@@ -44,6 +46,7 @@ impl<const SETS: usize, const WAYS: usize> Hart<SETS, WAYS> {
         }
     }
 
+    #[inline(always)]
     fn store_cause(&self, text: &Text, m: &MemoryAct) -> Option<Cause>
         ensures value { result ≡ store_cause (setting_of text.now.segments.now self.now) m.now.addr (bytes_in m.now.width) }
         ensures aligned { result ≡ None → m.now.addr % bytes_in m.now.width ≡ 0 }
@@ -63,6 +66,7 @@ impl<const SETS: usize, const WAYS: usize> Hart<SETS, WAYS> {
         }
     }
 
+    #[inline(always)]
     fn memory_cause(&self, text: &Text, m: &MemoryAct) -> Option<Cause>
         ensures value { result ≡ memory_cause (setting_of text.now.segments.now self.now) m.now }
         ensures aligned { result ≡ None → m.now.addr % bytes_in m.now.width ≡ 0 }
@@ -74,7 +78,8 @@ impl<const SETS: usize, const WAYS: usize> Hart<SETS, WAYS> {
         }
     }
 
-    fn act_cause(&self, text: &Text, act: &Act) -> Option<Cause>
+    #[inline(always)]
+    pub(crate) fn act_cause(&self, text: &Text, act: &Act) -> Option<Cause>
         ensures value { result ≡ act_cause (setting_of text.now.segments.now self.now) (seen_hart SETS self.now) act.now }
         ensures fits { result ≡ None → Fits self.now.tx act.now }
     {
@@ -117,11 +122,12 @@ impl<const SETS: usize, const WAYS: usize> Hart<SETS, WAYS> {
     }
 
     /// What a word does at the hart's pc, or its cause.
-    fn effect(&self, text: &Text, word: u32) -> Result<Effect, Cause>
-        ensures value { result ≡ effect_or_cause (setting_of text.now.segments.now self.now) (seen_hart SETS self.now) word }
+    #[inline(always)]
+    fn effect(&self, text: &Text, slot: &Slot) -> Result<Effect, Cause>
+        ensures value { result ≡ effect_or_cause (setting_of text.now.segments.now self.now) (seen_hart SETS self.now) slot.now.word }
         ensures fits { IfOk result (λ effect. Fits self.now.tx effect.act) }
     {
-        let effect = effect_at(word, self.pc, &self.regs)?;
+        let effect = slot.effect(self.pc, &self.regs)?;
         match self.act_cause(text, &effect.act) {
             None => Ok(effect),
             Some(cause) => Err(cause),
@@ -129,6 +135,7 @@ impl<const SETS: usize, const WAYS: usize> Hart<SETS, WAYS> {
     }
 
     /// The word at the hart's pc and what it does, or its cause.
+    #[inline(always)]
     pub(crate) fn instruction(&self, text: &Text) -> Result<Instruction, Cause>
         ensures word { IfOk result (λ next. word_at text.now.segments.now self.now.pc ≡ Some next.word) }
         ensures effect { IfOk result (λ next.
@@ -137,10 +144,13 @@ impl<const SETS: usize, const WAYS: usize> Hart<SETS, WAYS> {
         ensures cause { IfErr result (λ cause.
             next_of (setting_of text.now.segments.now self.now) (seen_hart SETS self.now) ≡ Err cause) }
     {
-        let Some(word) = text.word(self.pc) else {
+        let Some(slot) = text.slot(self.pc) else {
             return Err(Cause::FetchOutside);
         };
-        let effect = self.effect(text, word)?;
-        Ok(Instruction { word, effect })
+        let effect = self.effect(text, &slot)?;
+        Ok(Instruction {
+            word: slot.word,
+            effect,
+        })
     }
 }

@@ -5,6 +5,7 @@
 
 mod aborts;
 mod access;
+mod advance;
 mod causes;
 mod evict;
 mod hart;

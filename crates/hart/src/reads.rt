@@ -38,6 +38,7 @@ impl<const SETS: usize, const WAYS: usize> Hart<SETS, WAYS> {
         self.pc
     }
 
+    #[inline(always)]
     pub fn status(&self) -> Status
         ensures { result ≡ self.now.status }
     {
@@ -73,6 +74,7 @@ impl<const SETS: usize, const WAYS: usize> Hart<SETS, WAYS> {
     }
 
     /// The line of a block.
+    #[inline(always)]
     pub fn line(&self, block: BlockNo) -> Option<Line>
         ensures value { result ≡ line_at SETS self.now.cache block }
         ensures block { IfSome result (λ line. line.block ≡ block) }
@@ -89,6 +91,7 @@ impl<const SETS: usize, const WAYS: usize> Hart<SETS, WAYS> {
     }
 
     /// Whether a request is out. Until it ends the core does nothing.
+    #[inline(always)]
     pub fn is_waiting(&self) -> bool
         ensures { result ≡ is_some self.now.request }
     {
@@ -103,6 +106,7 @@ impl<const SETS: usize, const WAYS: usize> Hart<SETS, WAYS> {
     }
 
     /// Whether a request was granted, and the core has made no step since.
+    #[inline(always)]
     pub fn is_fresh(&self) -> bool
         ensures { result ≡ self.now.fresh }
     {
@@ -134,6 +138,7 @@ impl<const SETS: usize, const WAYS: usize> Hart<SETS, WAYS> {
     }
 
     /// The content of the Put of a block that isn't over.
+    #[inline(always)]
     pub fn put_content(&self, block: BlockNo) -> Option<Block>
         ensures { result ≡ put_content block (option_map shown_put self.now.put) }
     {

@@ -11,15 +11,18 @@ ghost use Rattle.protocol.specs.Lines.{byte_in, line_used};
 ghost use Rattle.hart.specs.Rows.{with_byte};
 ghost use Rattle.protocol.specs.Core.{retire_row, no_memory, begin_row, commit_row, access_row, is_log_due, tx_used};
 
-use crate::access::{is_log_due, line_used, load_by, loaded_by, store_by};
+use crate::access::{is_log_due, load_by, loaded_by, marks_after, put_by, store_by, word_put};
 use crate::hart::Hart;
 use crate::reply::CoreStep;
 use crate::transactions::{append_record, begin, commit};
 use cache::Line;
 use table::{Act, Effect, MemoryAct, register, write_register};
-use words::{AbortCause, Addr, BLOCK_BYTES, Block, BlockNo, Entry, Reg, Regs, Stamp, Status};
+use words::{
+    AbortCause, Addr, BLOCK_BYTES, BLOCK_WORDS, Block, BlockNo, Entry, Reg, Regs, Stamp, Status,
+};
 
 /// The call 93 exits with a0.
+#[inline(always)]
 fn status_by(regs: &Regs, act: &Act) -> Status
     ensures { result ≡ status_by regs.now act.now }
 {
@@ -32,6 +35,7 @@ fn status_by(regs: &Regs, act: &Act) -> Status
 }
 
 /// The other call puts out the low byte of a0.
+#[inline(always)]
 fn output_by(regs: &Regs, act: &Act) -> Option<u8>
     ensures { (output : List ℕ) → with_byte output result ≡ output_by output regs.now act.now }
 {
@@ -50,6 +54,7 @@ impl<const SETS: usize, const WAYS: usize> Hart<SETS, WAYS> {
     ghost use Rattle.hart.specs.Rows.{stepped, is_access};
 
     /// Retires a word without an access.
+    #[inline(always)]
     pub(crate) fn retire(&mut self, word: u32, effect: &Effect) -> CoreStep
         requires { is_access effect.now.act ≡ false }
         ensures row { (output : List ℕ) → retire_row self.old.index no_memory word effect.now (shown_hart SETS output self.old)
@@ -78,6 +83,7 @@ impl<const SETS: usize, const WAYS: usize> Hart<SETS, WAYS> {
     }
 
     /// The entry of an access to a block that has these words.
+    #[inline(always)]
     fn access_entry(&self, word: u32, m: &MemoryAct, content: &Block) -> Entry
         requires { m.now.addr % bytes_in m.now.width ≡ 0 }
         ensures { let view = byte_in content.now in
@@ -95,6 +101,7 @@ impl<const SETS: usize, const WAYS: usize> Hart<SETS, WAYS> {
     }
 
     /// Retires an access, to a block that has these words.
+    #[inline(always)]
     fn retire_access(
         &mut self,
         word: u32,
@@ -119,6 +126,7 @@ impl<const SETS: usize, const WAYS: usize> Hart<SETS, WAYS> {
 
     /// A transaction begins, or goes one deeper. An outermost one takes a new stamp, where so many were taken, unless an abort has
     /// left one.
+    #[inline(never)]
     pub(crate) fn begin(
         &mut self,
         word: u32,
@@ -145,6 +153,7 @@ impl<const SETS: usize, const WAYS: usize> Hart<SETS, WAYS> {
     }
 
     /// The innermost transaction ends; the end of the outermost takes all marks away.
+    #[inline(never)]
     pub(crate) fn commit(&mut self, word: u32, effect: &Effect) -> CoreStep
         requires act { effect.now.act ≡ act.Commit }
         requires free { self.old.request ≡ None }
@@ -162,6 +171,7 @@ impl<const SETS: usize, const WAYS: usize> Hart<SETS, WAYS> {
     }
 
     /// An access to a line that is enough.
+    #[inline(always)]
     pub(crate) fn access_line(
         &mut self,
         word: u32,
@@ -182,30 +192,40 @@ impl<const SETS: usize, const WAYS: usize> Hart<SETS, WAYS> {
         ensures stays { StaysPut self.old self.new }
     {
         if self.tx.depth() == 0 {
-            self.access_plain(word, effect, m, line)
+            self.access_logged(word, effect, m, line, false)
         } else {
             self.access_in_transaction(word, effect, m, line)
         }
     }
 
-    /// Outside a transaction.
-    fn access_plain(&mut self, word: u32, effect: &Effect, m: &MemoryAct, line: &Line) -> CoreStep
+    /// An access whose record, if one is due, is in the log.
+    #[inline(always)]
+    pub(crate) fn access_logged(
+        &mut self,
+        word: u32,
+        effect: &Effect,
+        m: &MemoryAct,
+        line: &Line,
+        in_transaction: bool,
+    ) -> CoreStep
         requires act { effect.now.act ≡ act.Memory m.now }
         requires aligned { m.now.addr % bytes_in m.now.width ≡ 0 }
         requires line { line_at SETS self.old.cache (m.now.addr / 32) ≡ Some line.now }
         requires block { line.now.block ≡ m.now.addr / 32 }
         requires owned { IsTrue line.now.marks.written → line.now.state ≡ Modified }
         ensures row { (output : List ℕ) →
-            access_row self.old.index word effect.now m.now (shown_line line.now) None (shown_hart SETS output self.old)
+            let used = with_line (m.now.addr / 32) (Some (line_used in_transaction m.now (shown_line line.now))) (shown_hart SETS output self.old) in
+            retire_row self.old.index (byte_in line.now.content) word effect.now used
             ≡ stepped SETS output self.new result }
         ensures stays { StaysPut self.old self.new }
     {
-        self.use_line(m, line, false);
+        self.use_line(m, line, in_transaction);
         self.retire_access(word, effect, m, &line.content)
     }
 
     /// In a transaction: a store to a line without the W mark first appends the block to the log. On a full log an abort starts
     /// instead.
+    #[inline(always)]
     fn access_in_transaction(
         &mut self,
         word: u32,
@@ -227,12 +247,12 @@ impl<const SETS: usize, const WAYS: usize> Hart<SETS, WAYS> {
         if !self.log_line(m, line) {
             return self.start_abort(AbortCause::LogFull);
         }
-        self.use_line(m, line, true);
-        self.retire_access(word, effect, m, &line.content)
+        self.access_logged(word, effect, m, line, true)
     }
 
     /// Appends a line's words to the log, if that is due before an access. The answer is whether there was room for them.
-    fn log_line(&mut self, m: &MemoryAct, line: &Line) -> bool
+    #[inline(always)]
+    pub(crate) fn log_line(&mut self, m: &MemoryAct, line: &Line) -> bool
         requires running { 0 < self.old.tx.depth }
         requires block { line.now.block ≡ m.now.addr / 32 }
         ensures room { let log = (running self.old.tx).log in
@@ -247,10 +267,12 @@ impl<const SETS: usize, const WAYS: usize> Hart<SETS, WAYS> {
             return true;
         }
         let block = BlockNo::new(m.addr.value() / BLOCK_BYTES as u32);
-        append_record(&mut self.tx, block, &line.content)
+        let before = line.content;
+        append_record(&mut self.tx, block, &before)
     }
 
     /// Loads from a line or stores to it.
+    #[inline(always)]
     fn use_line(&mut self, m: &MemoryAct, line: &Line, in_transaction: bool)
         requires aligned { m.now.addr % bytes_in m.now.width ≡ 0 }
         requires line { line_at SETS self.old.cache (m.now.addr / 32) ≡ Some line.now }
@@ -261,6 +283,13 @@ impl<const SETS: usize, const WAYS: usize> Hart<SETS, WAYS> {
             (shown_hart SETS output self.old) }
         ensures stays { StaysPut self.old self.new }
     {
-        self.cache.replace(line_used(line, in_transaction, m));
+        let marks = marks_after(in_transaction, m, line.marks);
+        let Some(value) = put_by(&line.content, m) else {
+            self.cache.mark(line.block, marks);
+            return;
+        };
+        let word = m.addr.index() / 4 % BLOCK_WORDS;
+        let put = word_put(&line.content, m, value);
+        self.cache.put_word(line.block, word, put, marks);
     }
 }

@@ -170,9 +170,7 @@ fn state(hart: &Small) -> Option<LineState> {
 #[test]
 fn a_store_outside_a_transaction(rt: HostRuntime) -> Result<(), Fail> {
     let segments = program(&rt, &[LUI_X7_3, ADDI_X5_7, STORE, LOAD])?;
-    let text = Text {
-        segments: &segments,
-    };
+    let text = Text::new(&segments);
     let mut hart = booted();
     assert_eq!(rt; hart.registers()[2], 65_536 - 2 * 4096 - 4096);
     assert_eq!(rt; hart.registers()[10], 1);
@@ -238,9 +236,7 @@ fn a_store_outside_a_transaction(rt: HostRuntime) -> Result<(), Fail> {
 fn an_aborted_transaction(rt: HostRuntime) -> Result<(), Fail> {
     let words = [LUI_X7_3, TBEGIN, LOAD, STORE, TABORT];
     let segments = program(&rt, &words)?;
-    let text = Text {
-        segments: &segments,
-    };
+    let text = Text::new(&segments);
     let mut hart = booted();
     retires(&rt, &mut hart, &text);
     let step = hart.core_step(&text, 9).expect(&rt, "a step");
@@ -293,9 +289,7 @@ fn an_aborted_transaction(rt: HostRuntime) -> Result<(), Fail> {
 #[test]
 fn a_spill_in_a_transaction(rt: HostRuntime) -> Result<(), Fail> {
     let segments = program(&rt, &[LUI_X7_3, TBEGIN, LOAD, LOAD_BESIDE, TCOMMIT])?;
-    let text = Text {
-        segments: &segments,
-    };
+    let text = Text::new(&segments);
     let mut hart = booted();
     let block = BlockNo::new(BLOCK);
     retires(&rt, &mut hart, &text);
@@ -342,9 +336,7 @@ fn a_spill_in_a_transaction(rt: HostRuntime) -> Result<(), Fail> {
 #[test]
 fn a_refused_transaction_gives_way(rt: HostRuntime) -> Result<(), Fail> {
     let segments = program(&rt, &[LUI_X7_3, TBEGIN, LOAD, LOAD_NEXT])?;
-    let text = Text {
-        segments: &segments,
-    };
+    let text = Text::new(&segments);
     let mut hart = booted();
     retires(&rt, &mut hart, &text);
     retires(&rt, &mut hart, &text);
@@ -363,9 +355,7 @@ fn a_refused_transaction_gives_way(rt: HostRuntime) -> Result<(), Fail> {
 #[test]
 fn what_a_hart_does_by_itself(rt: HostRuntime) -> Result<(), Fail> {
     let segments = program(&rt, &[LUI_X7_3, LOAD, TBEGIN, TBEGIN, TCOMMIT, ECALL])?;
-    let text = Text {
-        segments: &segments,
-    };
+    let text = Text::new(&segments);
     let mut hart = booted();
     let entry = Entry::Retire {
         hart: hart.index(),
@@ -398,9 +388,7 @@ fn what_a_hart_does_by_itself(rt: HostRuntime) -> Result<(), Fail> {
 fn the_two_calls(rt: HostRuntime) -> Result<(), Fail> {
     // addi a7, zero, 1; ecall; addi a7, zero, 93; ecall
     let segments = program(&rt, &[0x0010_0893, ECALL, 0x05d0_0893, ECALL])?;
-    let text = Text {
-        segments: &segments,
-    };
+    let text = Text::new(&segments);
     let mut hart = booted();
     retires(&rt, &mut hart, &text);
     assert_eq!(rt; hart.local(&text), Local::NeedsHub);

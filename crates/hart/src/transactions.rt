@@ -143,6 +143,7 @@ pub(crate) fn pop_record(tx: &mut Tx)
 }
 
 /// Appends a block to the log, as it is before a store. The answer is whether there was room.
+#[inline(never)]
 pub(crate) fn append_record(tx: &mut Tx, block: BlockNo, before: &Block) -> bool
     requires kept { IsKept tx.old }
     requires address { block_bytes * block < 2 ^ 32 }

@@ -183,7 +183,7 @@ fn segments(
 fn can_begin(segments: &[Segment], entry: Addr) -> bool
     ensures { result ≡ can_begin entry segments.now }
 {
-    entry.value() % 4 == 0 && Text { segments }.word(entry).is_some()
+    entry.value() % 4 == 0 && Text::new(segments).word(entry).is_some()
 }
 
 /// Reads the file, its checks in their order.

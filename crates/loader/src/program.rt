@@ -53,9 +53,7 @@ impl Program {
     pub fn text(&self) -> Text<'_>
         ensures { result.segments.now ≡ self.now.segments }
     {
-        Text {
-            segments: &self.segments,
-        }
+        Text::new(&self.segments)
     }
 
     /// The same program in memory of its own. The only error is that memory ran out.

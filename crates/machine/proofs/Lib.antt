@@ -1,6 +1,7 @@
 mod Places
 mod Changed
 mod Sending
+mod Numbering
 mod Acting
 mod Sound
 mod Steps
@@ -11,3 +12,12 @@ mod Beginning
 mod Cores
 mod Runs
 mod Reading
+mod Scans
+mod Seats
+mod InPlace
+mod Answered
+mod Logs
+mod Turning
+mod Oldest
+mod Playing
+pub mod Calm

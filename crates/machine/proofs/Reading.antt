@@ -1,14 +1,13 @@
 -- A flat state that belongs to a machine, and what is read of the machine.
-use Rattle.std.proofs.Common.{◌≡◌, ◌<◌, ◌≤◌, ◌⊎◌, inl, inr, ℕ, Bool, true, false, List, Option, Some, None, length, get_or, arith, refl, sym, ap, ◌∙◌}
+use Rattle.std.proofs.Common.{◌≡◌, ◌<◌, ◌≤◌, ◌⊎◌, inl, inr, ℕ, true, false, List, Option, Some, None, length, get_or, arith, refl, sym, ap, ◌∙◌}
 use Rattle.std.specs.Prelude.{cond, nat_lt, slice_get}
 use Rattle.std.specs.Option.{option_map, option_map_or}
 use Rattle.std.proofs.lemmas.Bool.{cases_lt}
 use Rattle.std.proofs.lemmas.Bool.Decides.{nat_tests}
 use Rattle.std.proofs.lemmas.Option.{slice_get_past, slice_get_read}
 use Rattle.words.specs.declared.cause.Status.{Status}
-use Rattle.flat.specs.State.{Setting, Flat, idle}
+use Rattle.flat.specs.State.{Flat, idle}
 use Rattle.flat.specs.Reads.{shown_if}
-use Rattle.protocol.specs.Hart.{Hart}
 use Rattle.protocol.specs.Caches.{Geometry}
 use Rattle.protocol.specs.Start.{first_hart}
 use Rattle.protocol.specs.Machine.{Machine}
@@ -16,7 +15,7 @@ use Rattle.hart.specs.Shown.{shown_hart}
 use Rattle.isolation.specs.Belongs.{Belongs, LooksAs}
 use Rattle.isolation.proofs.Belongs.Belonging.{inv_of}
 use Rattle.machine.specs.Reads.{regs_if}
-use Rattle.machine.specs.States.{Seat, State, shown}
+use Rattle.machine.specs.States.{Seat, State, shown, hart_at}
 use Rattle.machine.proofs.Places.{none_past}
 
 -- it has the machine's setting
@@ -63,5 +62,5 @@ pub regs_seated : (sets : ℕ) (m : State) (i : ℕ) → option_map regs_of (sli
 regs_seated sets m i = sym (regs_listed sets m i (slice_get m.seats i) refl)
 
 -- the seat at a place is what the machine has there
-pub seat_read : (sets : ℕ) (m : State) (i : ℕ) (s : Seat) → i < length m.seats → s ≡ get_or m.seats i s → shown_hart sets s.output s.hart ≡ (shown sets m).harts i
-seat_read sets m i s lt is = ap (λ o. option_map_or (λ s. shown_hart sets s.output s.hart) o (first_hart idle)) (sym (slice_get_read m.seats (length m.seats) i s refl lt is))
+pub seat_at : (sets : ℕ) (seats : List Seat) (i : ℕ) (s : Seat) → i < length seats → s ≡ get_or seats i s → shown_hart sets s.output s.hart ≡ hart_at sets seats i
+seat_at sets seats i s lt is = ap (λ o. option_map_or (λ s. shown_hart sets s.output s.hart) o (first_hart idle)) (sym (slice_get_read seats (length seats) i s refl lt is))

@@ -3,3 +3,4 @@ pub mod States
 pub mod Rows
 pub mod Runs
 pub mod Reads
+pub mod Turns

@@ -1,14 +1,21 @@
 //! The coherent machine: harts with caches and undo logs, a directory, and the messages in flight between them.
 #![tactic(auto)]
 
+mod engine;
+mod flights;
 mod info;
+mod loaded;
 mod machine;
 mod mail;
+mod peek;
+mod play;
 mod reads;
 mod run;
 mod seat;
 mod start;
 mod step;
+mod turns;
+mod values;
 
 pub use info::TxInfo;
 pub use machine::Machine;

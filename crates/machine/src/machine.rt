@@ -1,13 +1,13 @@
+use crate::loaded::Loaded;
 use crate::seat::Seat;
 use directory::Directory;
-use loader::Program;
 use network::Net;
 use std::marker::Model;
 
 /// Harts with caches of SETS sets of WAYS lines, a directory with memory, and the messages in flight between them.
 #[derive(Drop)]
 pub struct Machine<const SETS: usize, const WAYS: usize> {
-    pub(crate) program: Program,
+    pub(crate) program: Loaded,
     pub(crate) seats: Vec<Seat<SETS, WAYS>>,
     pub(crate) directory: Directory,
     pub(crate) net: Net,

@@ -2,7 +2,7 @@ ghost use Rattle.std.specs.Prelude.{◌≡◌, ◌<◌, ◌≤◌, ◌+◌, leng
 ghost use Rattle.std.specs.Option.{option_map};
 ghost use Rattle.protocol.specs.Messages.{shown, receiver_of};
 ghost use Rattle.protocol.specs.Network.{Sends, taken};
-ghost use Rattle.machine.specs.Mail.{in_flight, messages_of};
+ghost use Rattle.machine.specs.Mail.{in_flight, messages_of, NumbersOn};
 
 use directory::Outgoing;
 use network::Net;
@@ -26,7 +26,7 @@ pub fn receiver(message: &Message) -> Option<HartId>
 pub fn take(net: &mut Net, key: usize)
     requires { IsSome (in_flight net.old.slots key) }
     ensures flight { in_flight net.new.slots ≡ taken key (in_flight net.old.slots) }
-    ensures number { net.new.next ≡ net.old.next }
+    ensures numbers { NumbersOn net.old.slots net.old.next net.new.slots net.new.next }
     ensures room { net.new.room ≡ net.old.room + 1 }
 {
     net.take(key);
@@ -35,7 +35,8 @@ pub fn take(net: &mut Net, key: usize)
 /// Sends a message, if there is one.
 pub fn send(net: &mut Net, message: Option<Message>)
     requires { 0 < net.old.room }
-    ensures { Sends (in_flight net.old.slots) (option_to_list (option_map shown message)) (in_flight net.new.slots) }
+    ensures sends { Sends (in_flight net.old.slots) (option_to_list (option_map shown message)) (in_flight net.new.slots) }
+    ensures numbers { NumbersOn net.old.slots net.old.next net.new.slots net.new.next }
 {
     if let Some(message) = message {
         net.send(message);
@@ -45,7 +46,8 @@ pub fn send(net: &mut Net, message: Option<Message>)
 /// Sends messages in order.
 pub fn send_all(net: &mut Net, messages: &[Outgoing])
     requires { length messages.now ≤ net.old.room }
-    ensures { Sends (in_flight net.old.slots) (messages_of messages.now) (in_flight net.new.slots) }
+    ensures sends { Sends (in_flight net.old.slots) (messages_of messages.now) (in_flight net.new.slots) }
+    ensures numbers { NumbersOn net.old.slots net.old.next net.new.slots net.new.next }
 {
     for sent in messages {
         net.send(sent.message);

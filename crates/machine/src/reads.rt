@@ -1,14 +1,17 @@
-ghost use Rattle.std.specs.Prelude.{◌≡◌, ◌≢◌, ◌≤◌, ◌<◌, ◌↔◌, ℕ, length, slice_get, IsSome, IfSome};
+ghost use Rattle.std.specs.Prelude.{◌≡◌, ◌≢◌, ◌≤◌, ◌<◌, ◌↔◌, ℕ, length, slice_get, None, IsSome, IfSome, IfNone};
+ghost use Rattle.std.specs.List.{slice_index_or};
 ghost use Rattle.std.specs.Option.{option_map};
 ghost use Rattle.words.specs.Limits.{most_harts};
 ghost use Rattle.flat.specs.State.{Flat};
 ghost use Rattle.flat.specs.Reads.{shown_if};
+ghost use Rattle.network.specs.Flights.{IsNext, NoneAfter};
+ghost use Rattle.protocol.specs.Messages.{shown as shown_message};
 ghost use Rattle.protocol.specs.Directory.{first_entry};
 ghost use Rattle.directory.specs.Blocks.{kept_at, IsInOrder};
 ghost use Rattle.directory.specs.Entries.{shown_entry};
 ghost use Rattle.hart.specs.Shown.{shown_line};
 ghost use Rattle.isolation.specs.Belongs.{Belongs};
-ghost use Rattle.machine.specs.Reads.{regs_if, info_of};
+ghost use Rattle.machine.specs.Reads.{regs_if, info_of, log_word};
 
 use crate::info::{TxInfo, info};
 use crate::machine::Machine;
@@ -16,7 +19,7 @@ use crate::seat::Seat;
 use cache::Line;
 use directory::DirEntry;
 use table::Text;
-use words::{Addr, BLOCK_BYTES, BlockNo, HartId, Regs, Status};
+use words::{Addr, BLOCK_BYTES, BlockNo, HartId, LOG_BYTES, Message, Regs, Status};
 
 /// A hart's registers, pc and status.
 fn regs_in<const SETS: usize, const WAYS: usize>(
@@ -116,5 +119,32 @@ impl<const SETS: usize, const WAYS: usize> Machine<SETS, WAYS> {
         ensures exact { (b : ℕ) → IsSome (kept_at self.now.directory b) ↔ ((shown SETS self.now).entries b ≢ first_entry) }
     {
         self.directory.used()
+    }
+
+    /// The message in flight under a key.
+    pub fn message(&self, key: usize) -> Option<Message>
+        ensures value { option_map shown_message result ≡ (shown SETS self.now).net key }
+        ensures flight { result ≡ option_map (λ f. f.message) (slice_index_or self.now.flights key None) }
+    {
+        self.net.get(key)
+    }
+
+    /// The key of the message in flight that was sent next after the one under a key. Without a key, and where nothing is under it, that of
+    /// the oldest. `None` where there is no such message.
+    pub fn next_message(&self, key: Option<usize>) -> Option<usize>
+        ensures some { IfSome result (IsNext self.now.flights key) }
+        ensures none { IfNone result (NoneAfter self.now.flights key) }
+    {
+        self.net.next_after(key)
+    }
+
+    /// The word at an address of the undo logs, which lie at the top of memory, that of hart 0 highest. `None` where the address isn't a
+    /// multiple of 4 in them. A log's bytes stay where its records are undone.
+    pub fn log_word(&self, addr: Addr) -> Option<u32>
+        ensures { result ≡ log_word self.now addr }
+    {
+        let above = self.size().checked_sub(addr.index() + 1)?;
+        let seat = self.seats.get(above / LOG_BYTES)?;
+        seat.hart.log_word(addr)
     }
 }

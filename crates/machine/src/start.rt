@@ -9,6 +9,7 @@ ghost use Rattle.protocol.specs.Start.{start};
 ghost use Rattle.isolation.specs.Belongs.{Belongs};
 ghost use Rattle.machine.specs.States.{words_of, Seat as SeatValue};
 
+use crate::loaded::Loaded;
 use crate::machine::Machine;
 use crate::seat::Seat;
 use boot::{boot_fault, image};
@@ -113,6 +114,7 @@ impl<const SETS: usize, const WAYS: usize> Machine<SETS, WAYS> {
         let bytes = image(alloc, &program, size)?;
         let memory = blocks_of(alloc, &bytes, size / BLOCK_BYTES)?;
         let seats = Machine::first_seats(alloc, harts, size, program.entry())?;
+        let program = Loaded::new(alloc, program)?;
         Ok(Machine {
             program,
             seats,

@@ -5,7 +5,7 @@ ghost use Rattle.flat.specs.Steps.{CarriesSome};
 ghost use Rattle.protocol.specs.Machine.{Steps, stamps_after};
 ghost use Rattle.protocol.specs.Messages.{shown as shown_message, receiver_of};
 ghost use Rattle.isolation.specs.Belongs.{Belongs};
-ghost use Rattle.machine.specs.Mail.{in_flight};
+ghost use Rattle.machine.specs.Mail.{in_flight, NumbersOn};
 
 use crate::machine::Machine;
 use crate::mail::{receiver, send, send_all, take};
@@ -14,6 +14,7 @@ use std::alloc::AllocError;
 use words::{BlockNo, Entry, HARTS, HartId, Message, Step};
 
 /// How many new stamps were taken, up to the greatest u64.
+#[inline(always)]
 fn stamps_after(taken: u64, stamped: bool) -> u64
     ensures { result ≡ stamps_after stamped taken }
 {
@@ -30,6 +31,7 @@ impl<const SETS: usize, const WAYS: usize> Machine<SETS, WAYS> {
     /// One step of a hart's core.
     fn core(&mut self, id: HartId) -> Result<Option<Entry>, AllocError>
         ensures steps { IfOk result (λ e. Steps (geometry SETS WAYS) (shown SETS self.old) (Core id) e (shown SETS self.new)) }
+        ensures numbers { NumbersOn self.old.flights self.old.sent self.new.flights self.new.sent }
         ensures err { OnErr result (self.new ≡ self.old) }
     {
         let i = id.index();
@@ -48,8 +50,10 @@ impl<const SETS: usize, const WAYS: usize> Machine<SETS, WAYS> {
     }
 
     /// A hart gives up its line of a block.
+    #[inline(never)]
     fn evict(&mut self, id: HartId, block: BlockNo) -> Result<Option<Entry>, AllocError>
         ensures steps { IfOk result (λ e. Steps (geometry SETS WAYS) (shown SETS self.old) (Evict id block) e (shown SETS self.new)) }
+        ensures numbers { NumbersOn self.old.flights self.old.sent self.new.flights self.new.sent }
         ensures err { OnErr result (self.new ≡ self.old) }
     {
         let i = id.index();
@@ -65,9 +69,12 @@ impl<const SETS: usize, const WAYS: usize> Machine<SETS, WAYS> {
             }
         }
     }
+
     /// The message under a key arrives. A message that is held stays in flight.
+    #[inline(never)]
     fn deliver(&mut self, key: usize) -> Result<Option<Entry>, AllocError>
         ensures steps { IfOk result (λ e. Steps (geometry SETS WAYS) (shown SETS self.old) (Deliver key) e (shown SETS self.new)) }
+        ensures numbers { NumbersOn self.old.flights self.old.sent self.new.flights self.new.sent }
         ensures err { OnErr result (self.new ≡ self.old) }
     {
         match self.net.get(key) {
@@ -83,7 +90,8 @@ impl<const SETS: usize, const WAYS: usize> Machine<SETS, WAYS> {
     fn deliver_to_hart(&mut self, key: usize, id: HartId, message: Message) -> Option<Entry>
         requires message { in_flight self.old.flights key ≡ Some (shown_message message) }
         requires receiver { receiver_of (shown_message message) ≡ Some id }
-        ensures { Steps (geometry SETS WAYS) (shown SETS self.old) (Deliver key) result (shown SETS self.new) }
+        ensures steps { Steps (geometry SETS WAYS) (shown SETS self.old) (Deliver key) result (shown SETS self.new) }
+        ensures numbers { NumbersOn self.old.flights self.old.sent self.new.flights self.new.sent }
     {
         let i = id.index();
         if i >= self.seats.len() {
@@ -104,6 +112,7 @@ impl<const SETS: usize, const WAYS: usize> Machine<SETS, WAYS> {
         requires message { in_flight self.old.flights key ≡ Some (shown_message message) }
         requires receiver { receiver_of (shown_message message) ≡ None }
         ensures steps { IfOk result (λ e. Steps (geometry SETS WAYS) (shown SETS self.old) (Deliver key) e (shown SETS self.new)) }
+        ensures numbers { NumbersOn self.old.flights self.old.sent self.new.flights self.new.sent }
         ensures err { OnErr result (self.new ≡ self.old) }
     {
         self.net.reserve(HARTS)?;
@@ -116,12 +125,14 @@ impl<const SETS: usize, const WAYS: usize> Machine<SETS, WAYS> {
             }
         }
     }
+
     /// One step, enabled or not. One that isn't enabled changes nothing, and gives no entry. It fails only if memory runs out.
     pub fn step(&mut self, step: Step) -> Result<Option<Entry>, AllocError>
         // Exactly one step of the protocol's machine is made, and its entry carries each flat state that belongs on to one that belongs.
         ensures steps { IfOk result (λ e. Steps (geometry SETS WAYS) (shown SETS self.old) step e (shown SETS self.new)) }
         ensures carries { IfOk result (λ e. (f : Flat) → Belongs (geometry SETS WAYS) f (shown SETS self.old) →
             (g : Flat) × CarriesSome f e g × Belongs (geometry SETS WAYS) g (shown SETS self.new)) }
+        ensures numbers { NumbersOn self.old.flights self.old.sent self.new.flights self.new.sent }
         ensures err { OnErr result (self.new ≡ self.old) }
     {
         match step {

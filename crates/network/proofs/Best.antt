@@ -12,28 +12,28 @@ use Rattle.network.specs.Flights.{Flights, IsOldest, first_of}
 pub told : {F T R : Type 0} (g : Shared F (Bor T × Unit {0}) R) (f : F) (p : Bor T) (r s : R) → g.post f (p, tt) r → r ≡ s → FnReturnsAt g f p.now s
 told {F} {T} {R} g f p r s h e = let P : R → Type 0 = λ x. g.post f (p, tt) x in record { shown = p; shows = refl; says = record { met = subst P e h } }
 
-module _ (answers : Message → Bool → Type 0) (slots : List (Option Flight)) where
+module _ (Passes Fails : ℕ → Flight → Type 0) (slots : List (Option Flight)) where
   -- a message before a key does not pass, or comes later than this one
   abbrev pub Later : ℕ → ℕ → ℕ → Flight → Type 0
-  Later key number other f = answers f.message false ⊎ ((number < f.number) ⊎ ((number ≡ f.number) × (key ≤ other)))
+  Later key number other f = Fails other f ⊎ ((number < f.number) ⊎ ((number ≡ f.number) × (key ≤ other)))
 
   pub record BestAt (n key number : ℕ) : Type 0 where
     pub flight : Flight
     pub here : get_or slots key None ≡ Some flight
     pub numbered : flight.number ≡ number
     pub below : key < n
-    pub passes : answers flight.message true
+    pub passes : Passes key flight
     pub first : (other : ℕ) (f : Flight) → other < n → get_or slots other None ≡ Some f → Later key number other f
 
   -- what the best of the first n keys is
   abbrev pub IsBest : ℕ → Option (ℕ × ℕ) → Type 0
-  IsBest n None = (other : ℕ) (f : Flight) → other < n → get_or slots other None ≡ Some f → answers f.message false
+  IsBest n None = (other : ℕ) (f : Flight) → other < n → get_or slots other None ≡ Some f → Fails other f
   IsBest n (Some best) = BestAt n best.0 best.1
 
   -- a key with no message that passes changes nothing
-  pub IsBest-skip : (n : ℕ) (best : Option (ℕ × ℕ)) → IsBest n best → ((f : Flight) → get_or slots n None ≡ Some f → answers f.message false) → IsBest (n + 1) best
+  pub IsBest-skip : (n : ℕ) (best : Option (ℕ × ℕ)) → IsBest n best → ((f : Flight) → get_or slots n None ≡ Some f → Fails n f) → IsBest (n + 1) best
   IsBest-skip n None h skip = λ other f below at. elim (cases_eq other n) [
-    | inl e ↦ skip f (rw e at at)
+    | inl e ↦ rw e (skip f (rw e at at))
     | inr ne ↦ h other f (omega arith) at
   ]
   IsBest-skip n (Some best) h skip = record {
@@ -43,13 +43,13 @@ module _ (answers : Message → Bool → Type 0) (slots : List (Option Flight)) 
     below = omega arith;
     passes = h.passes;
     first = λ other f below at. elim (cases_eq other n) [
-      | inl e ↦ inl (skip f (rw e at at))
+      | inl e ↦ inl (rw e (skip f (rw e at at)))
       | inr ne ↦ h.first other f (omega arith) at
     ];
   }
 
   -- a key with a message that passes
-  pub IsBest-take : (n : ℕ) (best : Option (ℕ × ℕ)) (g : Flight) → IsBest n best → get_or slots n None ≡ Some g → answers g.message true → IsBest (n + 1) (first_of best n g.number)
+  pub IsBest-take : (n : ℕ) (best : Option (ℕ × ℕ)) (g : Flight) → IsBest n best → get_or slots n None ≡ Some g → Passes n g → IsBest (n + 1) (first_of best n g.number)
   IsBest-take n None g h at good = record {
     flight = g;
     here = at;
@@ -96,16 +96,19 @@ module _ (answers : Message → Bool → Type 0) (slots : List (Option Flight)) 
         })
   ]
 
+-- a message lies below the end of the slots
+pub inside : (slots : List (Option Flight)) (key : ℕ) (f : Flight) → get_or slots key None ≡ Some f → key < length slots
+inside slots key f at = elim (cases_lt key (length slots)) [
+  | inl k ↦ k
+  | inr k ↦ absurd (none-some f (sym (get_or_past slots key None (omega arith)) ∙ at))
+]
+
 -- the best of all keys is the oldest
-pub IsOldest-best : (answers : Message → Bool → Type 0) (net : Flights) (n key number : ℕ) → length net.slots ≤ n → BestAt answers net.slots n key number → IsOldest answers net key
+pub IsOldest-best : (answers : Message → Bool → Type 0) (net : Flights) (n key number : ℕ) → length net.slots ≤ n
+    → BestAt (λ k f. answers f.message true) (λ k f. answers f.message false) net.slots n key number → IsOldest answers net key
 IsOldest-best answers net n key number all h = record {
   flight = h.flight;
   here = h.here;
   passes = h.passes;
-  first = λ other f at.
-      let inside : other < n = elim (cases_lt other n) [
-        | inl k ↦ k
-        | inr k ↦ absurd (none-some f (sym (get_or_past net.slots other None (omega arith)) ∙ at))
-      ] in
-      rw h.numbered (h.first other f inside at);
+  first = λ other f at. rw h.numbered (h.first other f (let k : other < length net.slots = inside net.slots other f at in omega arith) at);
 }

@@ -1,5 +1,5 @@
 -- The messages in flight, as a map from keys.
-use Rattle.std.specs.Prelude.{ℕ, ◌≡◌, ◌<◌, ◌≤◌, ◌⊎◌, Bool, true, false, List, Option, Some, None, cond, nat_le}
+use Rattle.std.specs.Prelude.{ℕ, ◌≡◌, ◌<◌, ◌≤◌, ◌⊎◌, Bool, true, false, ◌||◌, ◌&&◌, ◌==◌, List, Option, Some, None, cond, nat_le, nat_lt}
 use Rattle.std.specs.Option.{option_map}
 use Rattle.std.specs.List.{slice_index_or}
 use Rattle.words.specs.declared.message.Message.{Message}
@@ -32,6 +32,33 @@ pub record IsOldest (answers : Message → Bool → Type 0) (net : Flights) (key
   pub here : flight_at net key ≡ Some flight
   pub passes : answers flight.message true
   pub first : (other : ℕ) (g : Flight) → flight_at net other ≡ Some g → answers g.message false ⊎ IsSentBefore flight key g other
+
+-- a flight under a key comes after the one under the last key: by its number, at one number by its key. Without a last key, and where
+-- nothing is under it, every flight does
+abbrev pub ComesAfter : List (Option Flight) → Option ℕ → ℕ → Flight → Type 0
+ComesAfter slots None key f = Unit
+ComesAfter slots (Some last) key f = (g : Flight) → slice_index_or slots last None ≡ Some g → (g.number < f.number) ⊎ ((g.number ≡ f.number) × (last < key))
+
+-- the flight under the key comes after the last, and before every other that does
+pub record IsNext (slots : List (Option Flight)) (last : Option ℕ) (key : ℕ) : Type 0 where
+  pub flight : Flight
+  pub here : slice_index_or slots key None ≡ Some flight
+  pub after : ComesAfter slots last key flight
+  pub first : (other : ℕ) (g : Flight) → slice_index_or slots other None ≡ Some g → ComesAfter slots last other g → IsSentBefore flight key g other
+
+-- no flight comes after the last
+abbrev pub NoneAfter : List (Option Flight) → Option ℕ → Type 0
+NoneAfter slots last = (key : ℕ) (f : Flight) → slice_index_or slots key None ≡ Some f → ComesAfter slots last key f → ⊥
+
+-- a key, and the number of the flight under it
+abbrev pub position_of : List (Option Flight) → Option ℕ → Option (ℕ × ℕ)
+position_of slots None = None
+position_of slots (Some key) = option_map (λ f. (key, f.number)) (slice_index_or slots key None)
+
+-- whether a number under a key comes after the last key with its number
+abbrev pub is_after : Option (ℕ × ℕ) → ℕ → ℕ → Bool
+is_after None key number = true
+is_after (Some last) key number = nat_lt last.1 number || ((last.1 == number) && nat_lt last.0 key)
 
 -- of the best so far, a key with its number, and one at a greater key, that which comes first
 abbrev pub first_of : Option (ℕ × ℕ) → ℕ → ℕ → Option (ℕ × ℕ)

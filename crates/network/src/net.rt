@@ -1,6 +1,6 @@
-ghost use Rattle.std.specs.Prelude.{◌≡◌, ◌≢◌, ◌+◌, ◌<◌, ◌≤◌, ℕ, Some, None, min, OnOk, OnErr, IsSome, IfSome, IfNone};
+ghost use Rattle.std.specs.Prelude.{◌≡◌, ◌≢◌, ◌+◌, ◌<◌, ◌≤◌, ◌↔◌, ℕ, Some, None, min, IsTrue, OnOk, OnErr, IsSome, IfSome, IfNone};
 ghost use Rattle.std.specs.Fn.{FnReturnsAt};
-ghost use Rattle.network.specs.Flights.{message_at, flight_at, IsOldest, NonePasses, first_of};
+ghost use Rattle.network.specs.Flights.{message_at, flight_at, IsOldest, NonePasses, IsNext, NoneAfter, position_of, is_after, first_of};
 ghost use Rattle.slab.specs.Slab.{HasRoomFor, Updates, get, slab_len};
 
 use slab::Slab;
@@ -53,6 +53,20 @@ impl Net {
         self.slab.capacity() - self.slab.len()
     }
 
+    /// Whether no message is in flight.
+    pub fn is_empty(&self) -> bool
+        ensures { IsTrue result ↔ ((key : ℕ) → flight_at self.now key ≡ None) }
+    {
+        self.slab.is_empty()
+    }
+
+    /// A number below which all keys lie that messages have.
+    pub fn keys(&self) -> usize
+        ensures { (key : ℕ) → result ≤ key → flight_at self.now key ≡ None }
+    {
+        self.slab.capacity()
+    }
+
     /// Makes room for so many messages. It fails only if memory runs out; what is in flight stays in either outcome.
     pub fn reserve(&mut self, count: usize) -> Result<(), AllocError>
         ensures ok { OnOk result (count ≤ self.new.room) }
@@ -70,6 +84,7 @@ impl Net {
         ensures sent { flight_at self.new result ≡ Some (record { message = message; number = self.old.next }) }
         ensures others { (key : ℕ) → key ≢ result → flight_at self.new key ≡ flight_at self.old key }
         ensures number { self.new.next ≡ min (self.old.next + 1) 18446744073709551615 }
+        ensures count { self.old.next ≤ self.new.next }
         ensures room { self.new.room + 1 ≡ self.old.room }
     {
         let number = self.next;
@@ -120,6 +135,46 @@ impl Net {
             Some((key, _)) => Some(key),
             None => None,
         }
+    }
+
+    /// A key, and the number of the message under it.
+    fn position(&self, key: Option<usize>) -> Option<(usize, u64)>
+        ensures { result ≡ position_of self.now.slots key }
+    {
+        let key = key?;
+        let flight = self.slab.get(key)?;
+        Some((key, flight.number))
+    }
+
+    /// The key of the message that was sent next after the one under a key. Without a key, and where nothing is under it, that of the
+    /// message that was sent first. `None` where there is no such message.
+    pub fn next_after(&self, key: Option<usize>) -> Option<usize>
+        ensures none { IfNone result (NoneAfter self.now.slots key) }
+        ensures some { IfSome result (IsNext self.now.slots key) }
+    {
+        let last = self.position(key);
+        let mut best = None;
+        for key in 0..self.slab.capacity() {
+            if let Some(flight) = self.slab.get(key) {
+                if is_after(last, key, flight.number) {
+                    best = first_of(best, key, flight.number);
+                }
+            }
+        }
+        match best {
+            Some((key, _)) => Some(key),
+            None => None,
+        }
+    }
+}
+
+/// Whether a number under a key comes after the last key with its number.
+fn is_after(last: Option<(usize, u64)>, key: usize, number: u64) -> bool
+    ensures { result ≡ is_after last key number }
+{
+    match last {
+        Some((before, least)) => least < number || least == number && before < key,
+        None => true,
     }
 }
 

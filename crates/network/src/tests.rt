@@ -59,3 +59,30 @@ fn a_refused_growth_loses_nothing(rt: HostRuntime) -> Result<(), Fail> {
     assert_eq!(rt; net.get(first), Some(ack(1)));
     Ok(())
 }
+
+#[test]
+fn messages_come_by_age(rt: HostRuntime) -> Result<(), Fail> {
+    let mut net = Net::new(rt.alloc());
+    assert_eq!(rt; net.next_after(None), None);
+    net.reserve(3)?;
+    fill(&mut net);
+    let first = net.next_after(None).ok_or("none")?;
+    net.take(first);
+    assert!(rt; net.room() > 0);
+    let fourth = net.send(ack(4));
+    // The key of the first message is taken again.
+    assert_eq!(rt; fourth, first);
+    let mut blocks = [0; 3];
+    let mut last = None;
+    for k in 0..3 {
+        last = net.next_after(last);
+        if let Some(message) = net.get(last.ok_or("none")?) {
+            blocks[k] = block_of(&message);
+        }
+    }
+    assert_eq!(rt; blocks, [2, 3, 4]);
+    assert_eq!(rt; net.next_after(last), None);
+    // After a key with nothing under it comes the oldest message.
+    assert_eq!(rt; net.next_after(Some(100)), net.next_after(None));
+    Ok(())
+}

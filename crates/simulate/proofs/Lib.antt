@@ -1,5 +1,4 @@
 pub mod Reading
-pub mod Turning
 pub mod Reported
 pub mod Starting
 pub mod Refusing

@@ -1,42 +1,71 @@
 -- The report that an order asks for, from what its parts came to.
-use Rattle.std.proofs.Common.{◌≡◌, ℕ, ◌-◌, List, refl, ap, ◌∙◌}
+use Rattle.std.proofs.Common.{◌≡◌, ℕ, List, refl, sym, subst, ◌∙◌}
+use Rattle.protocol.specs.Caches.{Geometry}
 use Rattle.flat.specs.Boots.{booted}
 use Rattle.flat.specs.State.{Flat}
-use Rattle.command_line.specs.declared.request.Order.{Order}
+use Rattle.flat.proofs.Runs.{run_setting}
+use Rattle.command_line.specs.declared.request.Run.{Run}
 use Rattle.command_line.specs.declared.request.Word.{Word}
-use Rattle.reference.specs.declared.machine.Machine.{Machine}
-use Rattle.reference.specs.Machines.{setting_of, Belongs}
-use Rattle.simulate.specs.Orders.{harts_of, memory_of, steps_of, words_of}
+use Rattle.isolation.specs.Belongs.{Belongs}
+use Rattle.isolation.proofs.Belongs.Belonging.{inv_of}
+use Rattle.machine.specs.States.{State, setting_of, shown}
+use Rattle.machine.specs.Turns.{Plays}
+use Rattle.simulate.specs.Orders.{geometry_of}
 use Rattle.simulate.specs.Reports.{AllReadable, report_of}
-use Rattle.simulate.specs.Runs.{addresses, LeadsTo, IsReportOf}
+use Rattle.simulate.specs.Runs.{addresses, ComesTo, IsReportOf}
 use Rattle.simulate.specs.Starts.{IsStartOf}
 use Rattle.simulate.specs.Statuses.{IsStatusOf}
 use Rattle.simulate.proofs.Reading.{readable-stays}
-use Rattle.simulate.proofs.Turning.{turns-setting}
 
-of_order : (order : Order) (file : List ℕ) (m : Machine) (h : Flat) (given : ℕ)
-    → IsStartOf file (harts_of order) (memory_of order) m
-    → ((f : Flat) → Belongs f m → LeadsTo f (steps_of order) h)
-    → AllReadable (setting_of m) (addresses (words_of order))
-    → IsStatusOf h given
-    → IsReportOf order file (report_of h (addresses (words_of order))) given × AllReadable h.setting (addresses (words_of order))
-of_order order file m h given start ran readable status =
-    let first = booted start.0.segments start.0.entry (harts_of order) (memory_of order) in
-    let runs : LeadsTo first (steps_of order) h = ran first start.3 in
-    let same : h.setting ≡ setting_of m = turns-setting (steps_of order) first (first.setting.count - 1) runs.0 h runs.1 ∙ ap (λ (f : Flat). f.setting) start.3 in
-    let all = readable-stays (setting_of m) h.setting (addresses (words_of order)) same readable in
-    ((h, record { program = start.0; elf = start.1; boots = start.2; runs = runs }, record { readable = all; text = refl; status = status }), all)
+-- a flat state that belongs to a machine has its setting
+pub same_setting : (g : Geometry) (f : Flat) (m : State) → Belongs g f (shown g.sets m) → f.setting ≡ setting_of m
+same_setting g f m b = (inv_of g f (shown g.sets m) b).1.same
 
--- a machine that was booted and driven as an order says has the report that it asks for, and its words can be read
-pub made_report : (order : Order) (file : List ℕ) (m : Machine) (h : Flat) (harts memory steps given : ℕ) (words : List Word) (addrs : List ℕ)
-    → harts ≡ harts_of order → memory ≡ memory_of order → steps ≡ steps_of order → words ≡ words_of order → addrs ≡ addresses words
-    → IsStartOf file harts memory m
-    → ((f : Flat) → Belongs f m → LeadsTo f steps h)
-    → AllReadable (setting_of m) (addresses words)
-    → IsStatusOf h given
-    → IsReportOf order file (report_of h addrs) given × AllReadable h.setting addrs
-made_report order file m h harts memory steps given words addrs eh em es ew ea start ran readable status =
-    let begun : IsStartOf file (harts_of order) (memory_of order) m = rw (← eh, ← em) start in
-    let led : (f : Flat) → Belongs f m → LeadsTo f (steps_of order) h = rw (← es) ran in
-    let all : AllReadable (setting_of m) (addresses (words_of order)) = rw (← ew) readable in
-    rw (ea, ew) (of_order order file m h given begun led all status)
+-- a machine that was booted from a file and then played for so many turns has an end: a flat state belongs to it to which its entries lead
+pub record HasEnd (g : Geometry) (path file : List ℕ) (harts memory steps : ℕ) (v w : State) : Type 0 where
+  pub end : Flat
+  pub comes : ComesTo path file g harts memory steps end
+  pub belongs : Belongs g end (shown g.sets w)
+  pub same : end.setting ≡ setting_of v
+
+end_of : (g : Geometry) (path file : List ℕ) (harts memory steps : ℕ) (v w : State) → IsStartOf g path file harts memory v → Plays g steps v w → HasEnd g path file harts memory steps v w
+end_of g path file harts memory steps v w (program, holds, first) (entries, turns, carry) =
+    let booting : Flat = booted program.segments program.entry harts memory in
+    let carried = carry booting first.belongs in
+    record {
+      end = carried.0;
+      comes = record { program = program; holds = holds; boots = first.boots; first = v; begins = first.begins; last = w; entries = entries; turns = turns; run = carried.1 };
+      belongs = carried.2;
+      same = run_setting booting carried.0 entries carried.1 ∙ same_setting g booting v first.belongs;
+    }
+
+-- the report on the run is that of a flat state which belongs to the machine at the end, where the words can be read still
+pub record HasReport (run : Run) (file : List ℕ) (g : Geometry) (w : State) (words : List ℕ) (status : ℕ) : Type 0 where
+  pub end : Flat
+  pub belongs : Belongs g end (shown g.sets w)
+  pub report : IsReportOf run file (report_of end words) status
+  pub readable : AllReadable (setting_of w) words
+
+of_end : (run : Run) (file : List ℕ) (g : Geometry) (v w : State) (status : ℕ) → geometry_of run.cache ≡ g → HasEnd g run.file.now file run.harts run.memory run.steps v w
+    → AllReadable (setting_of v) (addresses run.words.items) → ((f : Flat) → Belongs g f (shown g.sets w) → IsStatusOf f status) → HasReport run file g w (addresses run.words.items) status
+of_end run file g v w status caches e readable given =
+    let words : List ℕ = addresses run.words.items in
+    let end_readable : AllReadable e.end.setting words = readable-stays (setting_of v) e.end.setting words e.same readable in
+    record {
+      end = e.end;
+      belongs = e.belongs;
+      report = (
+        e.end,
+        subst (λ c. ComesTo run.file.now file c run.harts run.memory run.steps e.end) (sym caches) e.comes,
+        record { readable = end_readable; text = refl; status = given e.end e.belongs },
+      );
+      readable = readable-stays e.end.setting (setting_of w) words (sym (same_setting g e.end w e.belongs)) end_readable;
+    }
+
+-- the same of what the program's parts answered
+pub made_report : (run : Run) (file : List ℕ) (g : Geometry) (v w : State) (status : ℕ) (words : List Word) (addrs : List ℕ) → words ≡ run.words.items → addrs ≡ addresses words → geometry_of run.cache ≡ g
+    → IsStartOf g run.file.now file run.harts run.memory v → Plays g run.steps v w → AllReadable (setting_of v) (addresses words) → ((f : Flat) → Belongs g f (shown g.sets w) → IsStatusOf f status)
+    → HasReport run file g w addrs status
+made_report run file g v w status words addrs ew ea caches start plays readable given =
+    let all : AllReadable (setting_of v) (addresses run.words.items) = rw (← ew) readable in
+    rw (ea, ew) (of_end run file g v w status caches (end_of g run.file.now file run.harts run.memory run.steps v w start plays) all given)

@@ -6,11 +6,14 @@ use Rattle.words.specs.declared.cause.Status.{Status}
 use Rattle.words.specs.declared.cause.Status.TheVariants.{Running, Exited, Stopped}
 use Rattle.flat.specs.State.{Flat}
 use Rattle.command_line.specs.declared.request.Order.{Order}
+use Rattle.command_line.specs.declared.request.Order.TheVariants as order
+use Rattle.command_line.specs.declared.request.Run.{Run}
 use Rattle.simulate.specs.Faults.{fault_status}
-use Rattle.simulate.specs.Refusals.{IsFaultOf}
+use Rattle.simulate.specs.Refusals.{IsFaultOf, IsListingFault, IsRunFault}
+use Rattle.simulate.specs.Sources.{IsProgramFault, IsSourceFault}
 use Rattle.simulate.specs.Statuses.{status_for, IsGreatest, IsReported, IsRefused}
 use Rattle.simulate.specs.declared.fault.Fault.{Fault}
-use Rattle.simulate.specs.declared.fault.Fault.TheVariants.{NotText, Refused, Value, Unread, Load, Boot, Word, Unwritten, NoMemory}
+use Rattle.simulate.specs.declared.fault.Fault.TheVariants.{NotText, Refused, Value, Unread, NotSource, Source, Load, Boot, Word, Unwritten, Unmade, NoMemory}
 use Rattle.std.specs.Prelude.{List}
 
 exit_status : (b : Bool) → IsReported (cond b 0 1)
@@ -65,20 +68,77 @@ fault-not_reported NotText h = omega (arith, h)
 fault-not_reported (Refused text) h = omega (arith, h)
 fault-not_reported (Value text) h = omega (arith, h)
 fault-not_reported (Unread file) h = omega (arith, h)
+fault-not_reported NotSource h = omega (arith, h)
+fault-not_reported (Source refused) h = omega (arith, h)
 fault-not_reported (Load fault) h = omega (arith, h)
 fault-not_reported (Boot fault) h = omega (arith, h)
 fault-not_reported (Word text) h = omega (arith, h)
 fault-not_reported Unwritten h = omega (arith, h)
+fault-not_reported (Unmade file) h = omega (arith, h)
 fault-not_reported NoMemory h = omega (arith, h)
 
--- of the faults of an order only one has status 3
+-- no fault of a program has status 3
+program_unwritten : (path file : List ℕ) (e : Fault) → IsProgramFault path file e → fault_status e ≡ 3 → ⊥
+program_unwritten path file NotText why h = absurd (omega (arith, h))
+program_unwritten path file (Refused text) why h = absurd (omega (arith, h))
+program_unwritten path file (Value text) why h = absurd (omega (arith, h))
+program_unwritten path file (Unread other) why h = elim why [ inl x ↦ x.1 | inr x ↦ x.1 ]
+program_unwritten path file NotSource why h = absurd (omega (arith, h))
+program_unwritten path file (Source refused) why h = absurd (omega (arith, h))
+program_unwritten path file (Load fault) why h = absurd (omega (arith, h))
+program_unwritten path file (Boot fault) why h = absurd (omega (arith, h))
+program_unwritten path file (Word text) why h = absurd (omega (arith, h))
+program_unwritten path file Unwritten why h = elim why [ inl x ↦ x.1 | inr x ↦ x.1 ]
+program_unwritten path file (Unmade other) why h = elim why [ inl x ↦ x.1 | inr x ↦ x.1 ]
+program_unwritten path file NoMemory why h = absurd (omega (arith, h))
+
+-- of the faults of a run only one has
+run_unwritten : (run : Run) (file : List ℕ) (e : Fault) → IsRunFault run file e → fault_status e ≡ 3 → e ≡ Unwritten
+run_unwritten run file NotText why h = absurd (omega (arith, h))
+run_unwritten run file (Refused text) why h = absurd (omega (arith, h))
+run_unwritten run file (Value text) why h = absurd (omega (arith, h))
+run_unwritten run file (Unread path) why h = absurd (program_unwritten run.file.now file (Unread path) why h)
+run_unwritten run file NotSource why h = absurd (omega (arith, h))
+run_unwritten run file (Source refused) why h = absurd (omega (arith, h))
+run_unwritten run file (Load fault) why h = absurd (omega (arith, h))
+run_unwritten run file (Boot fault) why h = absurd (omega (arith, h))
+run_unwritten run file (Word text) why h = absurd (omega (arith, h))
+run_unwritten run file Unwritten why h = refl
+run_unwritten run file (Unmade path) why h = absurd (program_unwritten run.file.now file (Unmade path) why h)
+run_unwritten run file NoMemory why h = absurd (omega (arith, h))
+
+-- of those of a listing
+listing_unwritten : (file : List ℕ) (e : Fault) → IsListingFault file e → fault_status e ≡ 3 → e ≡ Unwritten
+listing_unwritten file NotText why h = absurd (omega (arith, h))
+listing_unwritten file (Refused text) why h = absurd (omega (arith, h))
+listing_unwritten file (Value text) why h = absurd (omega (arith, h))
+listing_unwritten file (Unread path) why h = absurd why
+listing_unwritten file NotSource why h = absurd (omega (arith, h))
+listing_unwritten file (Source refused) why h = absurd (omega (arith, h))
+listing_unwritten file (Load fault) why h = absurd (omega (arith, h))
+listing_unwritten file (Boot fault) why h = absurd (omega (arith, h))
+listing_unwritten file (Word text) why h = absurd (omega (arith, h))
+listing_unwritten file Unwritten why h = refl
+listing_unwritten file (Unmade path) why h = absurd why
+listing_unwritten file NoMemory why h = absurd (omega (arith, h))
+
+-- of those of a source none
+source_unwritten : (file : List ℕ) (e : Fault) → IsSourceFault file e → fault_status e ≡ 3 → ⊥
+source_unwritten file NotText why h = absurd (omega (arith, h))
+source_unwritten file (Refused text) why h = absurd (omega (arith, h))
+source_unwritten file (Value text) why h = absurd (omega (arith, h))
+source_unwritten file (Unread path) why h = why
+source_unwritten file NotSource why h = absurd (omega (arith, h))
+source_unwritten file (Source refused) why h = absurd (omega (arith, h))
+source_unwritten file (Load fault) why h = absurd (omega (arith, h))
+source_unwritten file (Boot fault) why h = absurd (omega (arith, h))
+source_unwritten file (Word text) why h = absurd (omega (arith, h))
+source_unwritten file Unwritten why h = why
+source_unwritten file (Unmade path) why h = why
+source_unwritten file NoMemory why h = absurd (omega (arith, h))
+
+-- and so of those of an order
 pub fault-unwritten : (order : Order) (file : List ℕ) (e : Fault) → IsFaultOf order file e → fault_status e ≡ 3 → e ≡ Unwritten
-fault-unwritten order file NotText why h = absurd why
-fault-unwritten order file (Refused text) why h = absurd why
-fault-unwritten order file (Value text) why h = absurd why
-fault-unwritten order file (Unread path) why h = absurd why
-fault-unwritten order file (Load fault) why h = absurd (omega (arith, h))
-fault-unwritten order file (Boot fault) why h = absurd (omega (arith, h))
-fault-unwritten order file (Word text) why h = absurd (omega (arith, h))
-fault-unwritten order file Unwritten why h = refl
-fault-unwritten order file NoMemory why h = absurd (omega (arith, h))
+fault-unwritten (order.Run run) file e why h = run_unwritten run file e why h
+fault-unwritten (order.Dis path) file e why h = listing_unwritten file e why h
+fault-unwritten (order.Asm source target) file e why h = absurd (source_unwritten file e why h)

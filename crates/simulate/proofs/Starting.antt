@@ -2,27 +2,27 @@
 use Rattle.std.proofs.Common.{◌≡◌, ℕ, List, Option, Some, None, Result, Ok, Err, ◌⊎◌, inl, inr, MatchResult, refl}
 use Rattle.std.proofs.lemmas.Result.{MatchResult-at_err}
 use Rattle.loader.specs.Programs.{Program}
-use Rattle.loader.specs.Elf.{IsElfOf}
 use Rattle.flat.specs.Boots.{boot_fault}
 use Rattle.flat.specs.declared.boot_fault.BootFault.{BootFault}
 use Rattle.flat.specs.declared.boot_fault.BootFault.TheVariants as boot
-use Rattle.reference.specs.declared.machine.Machine.{Machine}
+use Rattle.machine.specs.States.{State}
 use Rattle.simulate.specs.Faults.{of_boot}
+use Rattle.simulate.specs.Sources.{IsProgramIn}
 use Rattle.simulate.specs.Starts.{IsStartFault}
 
 -- a machine that was booted had no fault
-pub booted-no_fault : (o : Option BootFault) (r : Result Machine BootFault) (m : Machine) → r ≡ Ok m → ((e : BootFault) → o ≡ Some e → r ≡ Err e) → o ≡ None
+pub booted-no_fault : (o : Option BootFault) (r : Result State BootFault) (m : State) → r ≡ Ok m → ((e : BootFault) → o ≡ Some e → r ≡ Err e) → o ≡ None
 booted-no_fault None r m ok refused = refl
 booted-no_fault (Some e) r m ok refused = let err = refused e refl in absurd (cc)
 
 -- a boot that failed wanted memory, or had this fault
-pub refused-fault : (o : Option BootFault) (r : Result Machine BootFault) (b : BootFault) (P : Machine → Type 0) → r ≡ Err b → ((e : BootFault) → o ≡ Some e → r ≡ Err e) → (o ≡ None → MatchResult r P (λ e. e ≡ boot.NoMemory)) → (b ≡ boot.NoMemory) ⊎ (o ≡ Some b)
+pub refused-fault : (o : Option BootFault) (r : Result State BootFault) (b : BootFault) (P : State → Type 0) → r ≡ Err b → ((e : BootFault) → o ≡ Some e → r ≡ Err e) → (o ≡ None → MatchResult r P (λ e. e ≡ boot.NoMemory)) → (b ≡ boot.NoMemory) ⊎ (o ≡ Some b)
 refused-fault None r b P err refused accepted = inl (MatchResult-at_err P (λ e. e ≡ boot.NoMemory) b err (accepted refl))
 refused-fault (Some e) r b P err refused accepted = let same = refused e refl in inr (cc)
 
 -- the fault of a boot, told to the user
-pub boot-start_fault : (file : List ℕ) (harts memory : ℕ) (p : Program) (b : BootFault) → IsElfOf file p → (b ≡ boot.NoMemory) ⊎ (boot_fault p.segments harts memory ≡ Some b) → IsStartFault file harts memory (of_boot b)
-boot-start_fault file harts memory p boot.BadSize elf h = elim h [ inl e ↦ absurd (cc) | inr e ↦ (p, elf, e) ]
-boot-start_fault file harts memory p boot.BadHarts elf h = elim h [ inl e ↦ absurd (cc) | inr e ↦ (p, elf, e) ]
-boot-start_fault file harts memory p boot.DoesNotFit elf h = elim h [ inl e ↦ absurd (cc) | inr e ↦ (p, elf, e) ]
-boot-start_fault file harts memory p boot.NoMemory elf h = tt
+pub boot-start_fault : (path file : List ℕ) (harts memory : ℕ) (p : Program) (b : BootFault) → IsProgramIn path file p → (b ≡ boot.NoMemory) ⊎ (boot_fault p.segments harts memory ≡ Some b) → IsStartFault path file harts memory (of_boot b)
+boot-start_fault path file harts memory p boot.BadSize holds h = elim h [ inl e ↦ absurd (cc) | inr e ↦ (p, holds, e) ]
+boot-start_fault path file harts memory p boot.BadHarts holds h = elim h [ inl e ↦ absurd (cc) | inr e ↦ (p, holds, e) ]
+boot-start_fault path file harts memory p boot.DoesNotFit holds h = elim h [ inl e ↦ absurd (cc) | inr e ↦ (p, holds, e) ]
+boot-start_fault path file harts memory p boot.NoMemory holds h = tt

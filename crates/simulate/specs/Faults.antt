@@ -9,9 +9,13 @@ use Rattle.loader.specs.Faults.{fault_number, fault_name}
 use Rattle.flat.specs.declared.boot_fault.BootFault.{BootFault}
 use Rattle.flat.specs.declared.boot_fault.BootFault.TheVariants as boot
 use Rattle.flat.specs.BootFaults.{boot_fault_number, boot_fault_name}
+use Rattle.assembler.specs.declared.fault.AsmFault.{AsmFault}
+use Rattle.assembler.specs.declared.fault.AsmFault.TheVariants as asm
+use Rattle.assembler.specs.declared.fault.SourceFault.{SourceFault}
+use Rattle.assembler.specs.Faults.{fault_number as asm_number, fault_name as asm_name}
 use Rattle.simulate.specs.Reports.{line_end}
 use Rattle.simulate.specs.declared.fault.Fault.{Fault}
-use Rattle.simulate.specs.declared.fault.Fault.TheVariants.{NotText, Refused, Value, Unread, Load, Boot, Word, Unwritten, NoMemory}
+use Rattle.simulate.specs.declared.fault.Fault.TheVariants.{NotText, Refused, Value, Unread, NotSource, Source, Load, Boot, Word, Unwritten, Unmade, NoMemory}
 
 -- 2 for the command line, 3 for a file, 4 for what is in the file and for the machine that is asked for, 6 if memory ran out
 abbrev pub fault_status : Fault → ℕ
@@ -19,10 +23,13 @@ fault_status NotText = 2
 fault_status (Refused text) = 2
 fault_status (Value text) = 2
 fault_status (Unread file) = 3
+fault_status NotSource = 4
+fault_status (Source refused) = 4
 fault_status (Load fault) = 4
 fault_status (Boot fault) = 4
 fault_status (Word text) = 2
 fault_status Unwritten = 3
+fault_status (Unmade file) = 3
 fault_status NoMemory = 6
 
 -- a line that the user is told
@@ -33,16 +40,23 @@ line what name = concat (codes "logtm: " ∷ what ∷ name ∷ line_end ∷ [])
 abbrev pub refusal_line : List ℕ → ℕ → List ℕ → List ℕ
 refusal_line what number name = concat (codes "logtm: " ∷ what ∷ decimal number ∷ codes " " ∷ name ∷ line_end ∷ [])
 
+-- the line on a line of a source that is refused
+abbrev pub refused_text : ℕ → ℕ → List ℕ → List ℕ
+refused_text at number name = concat (codes "logtm: line " ∷ decimal at ∷ codes ": " ∷ decimal number ∷ codes " " ∷ name ∷ line_end ∷ [])
+
 -- what the user is told of a fault
 abbrev pub fault_text : Fault → List ℕ
 fault_text NotText = line (codes "an argument is not text") []
 fault_text (Refused text) = concat (string_bytes text ∷ [])
 fault_text (Value text) = line (codes "value ") text.now
 fault_text (Unread file) = line (codes "cannot read ") file.now
+fault_text NotSource = line (codes "source is not text") []
+fault_text (Source refused) = refused_text refused.line (asm_number refused.fault) (asm_name refused.fault)
 fault_text (Load fault) = refusal_line (codes "load ") (fault_number fault) (fault_name fault)
 fault_text (Boot fault) = refusal_line (codes "boot ") (boot_fault_number fault) (boot_fault_name fault)
 fault_text (Word text) = line (codes "word ") text.now
 fault_text Unwritten = line (codes "cannot write standard output") []
+fault_text (Unmade file) = line (codes "cannot write ") file.now
 fault_text NoMemory = line (codes "no memory") []
 
 -- the fault of a command line
@@ -71,3 +85,11 @@ of_boot boot.BadSize = Boot boot.BadSize
 of_boot boot.BadHarts = Boot boot.BadHarts
 of_boot boot.DoesNotFit = Boot boot.DoesNotFit
 of_boot boot.NoMemory = NoMemory
+
+-- the fault of a source, likewise
+abbrev pub of_asm : SourceFault → AsmFault → Fault
+of_asm refused asm.NoMemory = NoMemory
+of_asm refused other = Source refused
+
+abbrev pub of_source : SourceFault → Fault
+of_source refused = of_asm refused refused.fault

@@ -1,10 +1,11 @@
 pub mod Sinks
 pub mod Reports
 pub mod Faults
+pub mod Sources
 pub mod Statuses
-pub mod Turns
 pub mod Runs
 pub mod Unreadable
 pub mod Starts
 pub mod Orders
+pub mod Answers
 pub mod Refusals

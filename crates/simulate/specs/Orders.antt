@@ -1,17 +1,9 @@
 -- What an order asks for.
-use Rattle.std.specs.Prelude.{ℕ, List}
-use Rattle.command_line.specs.declared.request.Order.{Order}
-use Rattle.command_line.specs.declared.request.Order.TheVariants.{Run}
-use Rattle.command_line.specs.declared.request.Word.{Word}
+use Rattle.command_line.specs.declared.request.Cache.{Cache}
+use Rattle.command_line.specs.declared.request.Cache.TheVariants.{Small, Normal}
+use Rattle.protocol.specs.Caches.{Geometry}
 
-abbrev pub harts_of : Order → ℕ
-harts_of (Run path harts memory steps words) = harts
-
-abbrev pub memory_of : Order → ℕ
-memory_of (Run path harts memory steps words) = memory
-
-abbrev pub steps_of : Order → ℕ
-steps_of (Run path harts memory steps words) = steps
-
-abbrev pub words_of : Order → List Word
-words_of (Run path harts memory steps words) = words.items
+-- 2 sets of 1 way, or 16 of 4
+abbrev pub geometry_of : Cache → Geometry
+geometry_of Small = record { sets = 2; ways = 1 }
+geometry_of Normal = record { sets = 16; ways = 4 }

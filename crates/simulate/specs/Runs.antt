@@ -1,27 +1,33 @@
 -- What a run of a file comes to.
 use Rattle.std.specs.Prelude.{ℕ, ◌≡◌, ◌-◌, List, None, map}
 use Rattle.words.specs.declared.entry.Entry.{Entry}
-use Rattle.flat.specs.State.{Flat}
-use Rattle.loader.specs.Programs.{Program}
-use Rattle.loader.specs.Elf.{IsElfOf}
-use Rattle.command_line.specs.declared.request.Order.{Order}
-use Rattle.command_line.specs.declared.request.Word.{Word}
 use Rattle.flat.specs.Boots.{boot_fault, booted}
-use Rattle.simulate.specs.Orders.{harts_of, memory_of, steps_of, words_of}
+use Rattle.flat.specs.State.{Flat}
+use Rattle.flat.specs.Steps.{IsRun}
+use Rattle.loader.specs.Programs.{Program}
+use Rattle.protocol.specs.Caches.{Geometry}
+use Rattle.protocol.specs.Start.{start}
+use Rattle.machine.specs.States.{State, setting_of, shown}
+use Rattle.machine.specs.Turns.{TakesTurns}
+use Rattle.command_line.specs.declared.request.Run.{Run}
+use Rattle.command_line.specs.declared.request.Word.{Word}
+use Rattle.simulate.specs.Orders.{geometry_of}
 use Rattle.simulate.specs.Reports.{report_of, AllReadable}
+use Rattle.simulate.specs.Sources.{IsProgramIn}
 use Rattle.simulate.specs.Statuses.{IsStatusOf}
-use Rattle.simulate.specs.Turns.{TakesTurns}
 
--- so many turns lead from one state to the other, or fewer if no hart runs any more; the lowest running hart has the first
-abbrev pub LeadsTo : Flat → ℕ → Flat → Type 0
-LeadsTo f steps g = (es : List Entry) × TakesTurns steps f (f.setting.count - 1) es g
-
--- the file is a program, which boots, and from there so many turns lead to this state
-pub record ComesTo (file : List ℕ) (harts memory steps : ℕ) (f : Flat) : Type 0 where
+-- the file with this name and these bytes has a program, which boots; so many turns lead from the machine that it begins in to another, or fewer if there are no more; and their
+-- entries, as a run of the flat machine, lead from the program's first state to this one
+pub record ComesTo (path file : List ℕ) (cache : Geometry) (harts memory steps : ℕ) (f : Flat) : Type 0 where
   pub program : Program
-  pub elf : IsElfOf file program
+  pub holds : IsProgramIn path file program
   pub boots : boot_fault program.segments harts memory ≡ None
-  pub runs : LeadsTo (booted program.segments program.entry harts memory) steps f
+  pub first : State
+  pub begins : shown cache.sets first ≡ start (booted program.segments program.entry harts memory).setting program.entry
+  pub last : State
+  pub entries : List Entry
+  pub turns : TakesTurns cache steps first ((setting_of first).count - 1) entries last
+  pub run : IsRun (booted program.segments program.entry harts memory) entries f
 
 -- the addresses of the words that are to be shown
 abbrev pub addresses : List Word → List ℕ
@@ -33,6 +39,7 @@ pub record IsReport (f : Flat) (words : List Word) (shown : List ℕ) (given : �
   pub text : shown ≡ report_of f (addresses words)
   pub status : IsStatusOf f given
 
--- the text is the report that an order asks for, of the file with these bytes, and the status goes with it
-abbrev pub IsReportOf : Order → List ℕ → List ℕ → ℕ → Type 0
-IsReportOf order file text status = (f : Flat) × ComesTo file (harts_of order) (memory_of order) (steps_of order) f × IsReport f (words_of order) text status
+-- the text is the report that a run of the file with these bytes comes to, and the status goes with it
+abbrev pub IsReportOf : Run → List ℕ → List ℕ → ℕ → Type 0
+IsReportOf run file text status =
+    (f : Flat) × ComesTo run.file.now file (geometry_of run.cache) run.harts run.memory run.steps f × IsReport f run.words.items text status

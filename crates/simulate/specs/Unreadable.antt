@@ -6,7 +6,7 @@ use Rattle.flat.specs.Reads.{is_readable}
 use Rattle.simulate.specs.Reports.{AllReadable}
 use Rattle.simulate.specs.Runs.{addresses}
 use Rattle.simulate.specs.declared.fault.Fault.{Fault}
-use Rattle.simulate.specs.declared.fault.Fault.TheVariants.{NotText, Refused, Value, Unread, Load, Boot, Unwritten, NoMemory}
+use Rattle.simulate.specs.declared.fault.Fault.TheVariants.{NoMemory}
 use Rattle.simulate.specs.declared.fault.Fault.TheVariants as fault
 
 -- the word is the first of some that nothing can be read at
@@ -17,12 +17,6 @@ pub record IsFirstUnreadable (s : Setting) (words : List Word) (k : ℕ) (w : Wo
 
 -- why the words can't be shown: the first that nothing can be read at, or that memory ran out
 abbrev pub IsUnreadable : Setting → List Word → Fault → Type 0
-IsUnreadable s words NotText = ⊥
-IsUnreadable s words (Refused text) = ⊥
-IsUnreadable s words (Value text) = ⊥
-IsUnreadable s words (Unread file) = ⊥
-IsUnreadable s words (Load fault) = ⊥
-IsUnreadable s words (Boot fault) = ⊥
 IsUnreadable s words (fault.Word text) = (k : ℕ) × (w : Word) × IsFirstUnreadable s words k w × (w.text ≡ text)
-IsUnreadable s words Unwritten = ⊥
 IsUnreadable s words NoMemory = Unit {0}
+IsUnreadable s words other = ⊥

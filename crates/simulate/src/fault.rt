@@ -1,9 +1,10 @@
 ghost use Rattle.std.specs.Prelude.{◌≡◌};
-ghost use Rattle.simulate.specs.Faults.{fault_status, fault_text, line, refusal_line, of_order, of_load, of_boot};
+ghost use Rattle.simulate.specs.Faults.{fault_status, fault_text, line, refusal_line, refused_text, of_order, of_source, of_load, of_boot};
 ghost use Rattle.simulate.specs.Sinks.{IsPut};
 ghost use Rattle.texts.specs.Puts.{Puts};
 ghost use Rattle.simulate.specs.declared.fault.Fault.TheVariants.{NoMemory, Unwritten};
 
+use assembler::{AsmFault, SourceFault};
 use command_line::OrderFault;
 use flat::BootFault;
 use itoa::Buffer;
@@ -23,6 +24,10 @@ pub enum Fault<'a> {
     Value(&'a str),
     /// The path of a file that can't be read.
     Unread(&'a str),
+    /// The source is not text.
+    NotSource,
+    /// A line of the source is refused.
+    Source(SourceFault),
     /// The file is no program.
     Load(LoadFault),
     /// The program can't be booted.
@@ -31,6 +36,8 @@ pub enum Fault<'a> {
     Word(&'a str),
     /// Standard output failed.
     Unwritten,
+    /// The path of a file that can't be written.
+    Unmade(&'a str),
     NoMemory,
 }
 
@@ -42,8 +49,8 @@ impl<'a> Fault<'a> {
     {
         match self {
             Fault::NotText | Fault::Refused(_) | Fault::Value(_) | Fault::Word(_) => 2,
-            Fault::Unread(_) | Fault::Unwritten => 3,
-            Fault::Load(_) | Fault::Boot(_) => 4,
+            Fault::Unread(_) | Fault::Unwritten | Fault::Unmade(_) => 3,
+            Fault::NotSource | Fault::Source(_) | Fault::Load(_) | Fault::Boot(_) => 4,
             Fault::NoMemory => 6,
         }
     }
@@ -57,10 +64,18 @@ impl<'a> Fault<'a> {
             Fault::Refused(text) => put_all(sink, &[text.as_bytes()]),
             Fault::Value(text) => put_line(sink, b"value ", text),
             Fault::Unread(file) => put_line(sink, b"cannot read ", file),
+            Fault::NotSource => put_line(sink, b"source is not text", ""),
+            Fault::Source(refused) => put_refused(
+                sink,
+                refused.line,
+                refused.fault.number(),
+                refused.fault.name(),
+            ),
             Fault::Load(fault) => put_refusal(sink, b"load ", fault.number(), fault.name()),
             Fault::Boot(fault) => put_refusal(sink, b"boot ", fault.number(), fault.name()),
             Fault::Word(text) => put_line(sink, b"word ", text),
             Fault::Unwritten => put_line(sink, b"cannot write standard output", ""),
+            Fault::Unmade(file) => put_line(sink, b"cannot write ", file),
             Fault::NoMemory => put_line(sink, b"no memory", ""),
         }
     }
@@ -98,6 +113,26 @@ fn put_refusal<S: Sink>(sink: &mut S, what: &[u8], number: u32, name: &str) -> R
     )
 }
 
+/// Puts that a line of source is refused.
+fn put_refused<S: Sink>(sink: &mut S, line: usize, number: u32, name: &str) -> Result<(), SinkFault>
+    ensures { Puts (S.taken sink.old) (S.taken sink.new) (S.failed sink.old) (S.failed sink.new) (refused_text line number name.now) result }
+{
+    let mut place = Buffer::new();
+    let mut digits = Buffer::new();
+    put_all(
+        sink,
+        &[
+            b"logtm: line ",
+            place.format(line).as_bytes(),
+            b": ",
+            digits.format(number).as_bytes(),
+            b" ",
+            name.as_bytes(),
+            b"\n",
+        ],
+    )
+}
+
 impl<'a> From<OrderFault<'a>> for Fault<'a> {
     ghost from_gives = { λ x e. e ≡ of_order x };
 
@@ -117,6 +152,17 @@ impl<'a> From<LoadFault> for Fault<'a> {
         match fault {
             LoadFault::NoMemory => Fault::NoMemory,
             other => Fault::Load(other),
+        }
+    }
+}
+
+impl<'a> From<SourceFault> for Fault<'a> {
+    ghost from_gives = { λ x e. e ≡ of_source x };
+
+    fn from(refused: SourceFault) -> Fault<'a> {
+        match refused.fault {
+            AsmFault::NoMemory => Fault::NoMemory,
+            _ => Fault::Source(refused),
         }
     }
 }

@@ -1,12 +1,11 @@
 //! The program `logtm`: it runs a program on a machine, and reports what became of it.
 #![tactic(auto)]
 
-mod asked;
-mod drive;
 mod fault;
 mod perform;
 mod readable;
 mod report;
+mod source;
 mod status;
 #[cfg(test)]
 mod tests;
@@ -71,8 +70,7 @@ fn try_answer<'a, R: Files + AllocGlobal, W: Write + Drop, E: Sink>(
     error: &mut E,
 ) -> Result<u8, Fault<'a>> {
     let order = order(rt.alloc(), words)?;
-    let Order::Run { file, .. } = &order;
-    let bytes = read(rt, file)?;
+    let bytes = read(rt, order.path())?;
     let Ok(writer) = BufWriter::new(rt.alloc(), out) else {
         return Err(Fault::NoMemory);
     };
@@ -86,6 +84,9 @@ fn try_answer<'a, R: Files + AllocGlobal, W: Write + Drop, E: Sink>(
     if outcome.is_report() && writer.flush().is_err() {
         return Err(Fault::Unwritten);
     }
+    if let (Order::Asm { target, .. }, Some(image)) = (&order, &outcome.image) {
+        write(rt, target, image)?;
+    }
     Ok(outcome.status)
 }
 
@@ -94,5 +95,13 @@ fn read<'a, R: Files + AllocGlobal>(rt: &R, file: &'a str) -> Result<Vec<u8>, Fa
         Ok(bytes) => Ok(bytes),
         Err(error) if error.kind() == ErrorKind::OutOfMemory => Err(Fault::NoMemory),
         Err(_) => Err(Fault::Unread(file)),
+    }
+}
+
+fn write<'a, R: Files + AllocGlobal>(rt: &R, file: &'a str, bytes: &[u8]) -> Result<(), Fault<'a>> {
+    match fs::write(rt, file, bytes) {
+        Ok(()) => Ok(()),
+        Err(error) if error.kind() == ErrorKind::OutOfMemory => Err(Fault::NoMemory),
+        Err(_) => Err(Fault::Unmade(file)),
     }
 }

@@ -1,34 +1,42 @@
-ghost use Rattle.std.specs.Prelude.{◌≡◌, ◌≢◌, ◌↔◌, ◌⊎◌, ℕ, List, MatchResult, IfOk, IfErr, IsTrue};
-ghost use Rattle.simulate.specs.Refusals.{IsCut, IsFaultOf, IsTold};
+ghost use Rattle.std.specs.Prelude.{◌≡◌, ◌≢◌, ◌<◌, ◌*◌, ◌^◌, ◌↔◌, ◌⊎◌, ℕ, List, MatchOption, MatchResult, IfOk, IfErr, IsTrue};
+ghost use Rattle.loader.specs.Programs.{Program};
+ghost use Rattle.loader.specs.Writing.{elf_of};
+ghost use Rattle.machine.specs.States.{geometry};
+ghost use Rattle.simulate.specs.Orders.{geometry_of};
+ghost use Rattle.simulate.specs.Answers.{IsAnswerTo, IsListingOf, IsImageFor, AsksForFile, IsGiven, IsCut};
+ghost use Rattle.simulate.specs.Refusals.{IsFaultOf, IsListingFault, IsRunFault, IsTold};
 ghost use Rattle.simulate.specs.Runs.{IsReportOf};
-ghost use Rattle.simulate.specs.Sinks.{IsUntouched, TookAll};
+ghost use Rattle.simulate.specs.Sources.{IsSourceOf, IsSourceFault};
+ghost use Rattle.simulate.specs.Sinks.{IsUntouched};
 ghost use Rattle.simulate.specs.Starts.{IsStartOf, IsStartFault};
 ghost use Rattle.simulate.specs.Statuses.{IsReported, IsRefused};
 ghost use Rattle.simulate.specs.declared.fault.Fault.TheVariants.{Unwritten};
 
-use crate::asked::{harts_of, memory_of, steps_of, words_of};
-use crate::drive::drive;
 use crate::fault::Fault;
 use crate::readable::readable;
 use crate::report::report;
+use crate::source::{program_in, program_of_source};
 use crate::status::status;
-use command_line::Order;
-use loader::read_elf;
-use reference::Machine;
+use command_line::{Cache, Order, Run};
+use disassembler::listing;
+use loader::{read_elf, write_elf};
+use machine::Machine;
 use std::alloc::Global;
 use words::Sink;
 
 /// What came of an order.
-#[derive(Clone, Copy, Debug, PartialEq, Eq)]
+#[derive(Debug, Drop)]
 pub struct Outcome {
     /// The status that the program ends with.
     pub status: u8,
+    /// The bytes of the file that is to be written, where the order asks for one.
+    pub image: Option<Vec<u8>>,
 }
 
 impl Outcome {
-    /// Whether the report was put.
-    pub fn is_report(self) -> bool
-        ensures { IsTrue result ↔ IsReported self.status }
+    /// Whether the whole answer was put.
+    pub fn is_report(&self) -> bool
+        ensures { IsTrue result ↔ IsReported self.now.status }
     {
         match self.status {
             0 | 1 | 5 => true,
@@ -37,8 +45,8 @@ impl Outcome {
     }
 }
 
-/// Carries out an order, given the bytes of its file: all but reading that file. It puts the report into `out`, or what
-/// the user is told of a fault into `error`.
+/// Carries out an order, given the bytes of its file: all but reading and writing files. It puts the report or the listing into `out`, or
+/// what the user is told of a fault into `error`.
 ///
 /// Memory may run out at any time, which gives 6: no clause says when.
 pub fn perform<O: Sink, E: Sink>(
@@ -48,52 +56,139 @@ pub fn perform<O: Sink, E: Sink>(
     out: &mut O,
     error: &mut E,
 ) -> Outcome
-    // 0, 1 or 5: the whole report was put, and nothing is told.
-    ensures reported { IsReported result.status → (text : List ℕ) × IsReportOf order.now file.now text result.status × TookAll (O.taken out.old) (O.taken out.new) (O.failed out.old) (O.failed out.new) text }
+    // 0, 1 or 5: the whole answer was put, and nothing is told.
+    ensures reported { IsReported result.status → IsGiven (IsAnswerTo order.now file.now) result.status (O.taken out.old) (O.taken out.new) (O.failed out.old) (O.failed out.new) }
     ensures quiet { IsReported result.status → IsUntouched (E.taken error.old) (E.taken error.new) (E.failed error.old) (E.failed error.new) }
 
-    // 3: a put of that report failed. 2, 4 or 6: there is no report.
-    ensures cut { result.status ≡ 3 → IsCut order.now file.now (O.taken out.old) (O.taken out.new) (O.failed out.old) (O.failed out.new) }
+    // 3: a put of that answer failed. 2, 4 or 6: there is none.
+    ensures cut { result.status ≡ 3 → IsCut (IsAnswerTo order.now file.now) (O.taken out.old) (O.taken out.new) (O.failed out.old) (O.failed out.new) }
     ensures refused { IsRefused result.status → IsUntouched (O.taken out.old) (O.taken out.new) (O.failed out.old) (O.failed out.new) }
     ensures known { IsReported result.status ⊎ IsRefused result.status ⊎ (result.status ≡ 3) }
 
-    // The user is told why there is no whole report.
+    // The user is told why there is no whole answer.
     ensures told { (IsReported result.status → ⊥) → IsTold order.now file.now result.status (E.taken error.old) (E.taken error.new) (E.failed error.old) (E.failed error.new) }
+
+    // The file that is to be written is there just where the order asks for one and nothing was refused.
+    ensures image { MatchOption result.image (AsksForFile order.now → IsRefused result.status) (λ image. IsImageFor order.now file.now image.items × (result.status ≡ 0)) }
 {
     match try_perform(alloc, order, file, out) {
-        Ok(status) => Outcome { status },
+        Ok(outcome) => outcome,
         Err(fault) => Outcome {
             status: fault.tell(error),
+            image: None,
         },
     }
 }
 
-/// The same, but for telling of a fault. It answers the status.
+/// The same, but for telling of a fault.
 fn try_perform<'a, S: Sink>(
     alloc: Global,
     order: &Order<'a>,
     file: &[u8],
     out: &mut S,
-) -> Result<u8, Fault<'a>>
-    ensures reported { IfOk result (λ status. (text : List ℕ) × IsReportOf order.now file.now text status × TookAll (S.taken out.old) (S.taken out.new) (S.failed out.old) (S.failed out.new) text) }
-    ensures status { IfOk result IsReported }
-    ensures cut { IfErr result (λ fault. fault ≡ Unwritten → IsCut order.now file.now (S.taken out.old) (S.taken out.new) (S.failed out.old) (S.failed out.new)) }
+) -> Result<Outcome, Fault<'a>>
+    ensures reported { IfOk result (λ o. IsGiven (IsAnswerTo order.now file.now) o.status (S.taken out.old) (S.taken out.new) (S.failed out.old) (S.failed out.new)) }
+    ensures status { IfOk result (λ o. IsReported o.status) }
+    ensures image { IfOk result (λ o. MatchOption o.image (AsksForFile order.now → ⊥) (λ image. IsImageFor order.now file.now image.items × (o.status ≡ 0))) }
+    ensures cut { IfErr result (λ fault. fault ≡ Unwritten → IsCut (IsAnswerTo order.now file.now) (S.taken out.old) (S.taken out.new) (S.failed out.old) (S.failed out.new)) }
     ensures refused { IfErr result (λ fault. fault ≢ Unwritten → IsUntouched (S.taken out.old) (S.taken out.new) (S.failed out.old) (S.failed out.new)) }
     ensures why { IfErr result (IsFaultOf order.now file.now) }
 {
-    let mut machine = boot(alloc, file, harts_of(order), memory_of(order))?;
-    let addrs = readable(alloc, &machine, words_of(order))?;
-    drive(alloc, &mut machine, steps_of(order))?;
+    match order {
+        Order::Run(run) => Ok(Outcome {
+            status: run_and_report(alloc, run, file, out)?,
+            image: None,
+        }),
+        Order::Dis { .. } => Ok(Outcome {
+            status: list(alloc, file, out)?,
+            image: None,
+        }),
+        Order::Asm { .. } => Ok(Outcome {
+            status: 0,
+            image: Some(image(alloc, file)?),
+        }),
+    }
+}
+
+/// The bytes of the file of the program that a source makes.
+fn image<'a>(alloc: Global, source: &[u8]) -> Result<Vec<u8>, Fault<'a>>
+    ensures { MatchResult result (λ bytes. (p : Program) × IsSourceOf source.now p × (bytes.items ≡ elf_of p)) (IsSourceFault source.now) }
+{
+    let program = program_of_source(alloc, source)?;
+    Ok(write_elf(alloc, &program)?)
+}
+
+/// Puts the listing of the program in a file. It answers the status.
+fn list<'a, S: Sink>(alloc: Global, file: &[u8], out: &mut S) -> Result<u8, Fault<'a>>
+    ensures reported { IfOk result (λ status. IsGiven (IsListingOf file.now) status (S.taken out.old) (S.taken out.new) (S.failed out.old) (S.failed out.new)) }
+    ensures status { IfOk result IsReported }
+    ensures cut { IfErr result (λ fault. fault ≡ Unwritten → IsCut (IsListingOf file.now) (S.taken out.old) (S.taken out.new) (S.failed out.old) (S.failed out.new)) }
+    ensures refused { IfErr result (λ fault. fault ≢ Unwritten → IsUntouched (S.taken out.old) (S.taken out.new) (S.failed out.old) (S.failed out.new)) }
+    ensures why { IfErr result (IsListingFault file.now) }
+{
+    let program = read_elf(alloc, file)?;
+    listing(&program, out)?;
+    Ok(0)
+}
+
+/// Runs the program in a file, and puts the report. It answers the status.
+fn run_and_report<'a, S: Sink>(
+    alloc: Global,
+    run: &Run<'a>,
+    file: &[u8],
+    out: &mut S,
+) -> Result<u8, Fault<'a>>
+    ensures reported { IfOk result (λ status. IsGiven (IsReportOf run.now file.now) status (S.taken out.old) (S.taken out.new) (S.failed out.old) (S.failed out.new)) }
+    ensures status { IfOk result IsReported }
+    ensures cut { IfErr result (λ fault. fault ≡ Unwritten → IsCut (IsReportOf run.now file.now) (S.taken out.old) (S.taken out.new) (S.failed out.old) (S.failed out.new)) }
+    ensures refused { IfErr result (λ fault. fault ≢ Unwritten → IsUntouched (S.taken out.old) (S.taken out.new) (S.failed out.old) (S.failed out.new)) }
+    ensures why { IfErr result (IsRunFault run.now file.now) }
+{
+    match run.cache {
+        Cache::Small => run_on::<2, 1, S>(alloc, run, file, out),
+        Cache::Normal => run_on::<16, 4, S>(alloc, run, file, out),
+    }
+}
+
+/// The same on a machine with caches of SETS sets of WAYS ways, which the run asks for.
+fn run_on<'a, const SETS: usize, const WAYS: usize, S: Sink>(
+    alloc: Global,
+    run: &Run<'a>,
+    file: &[u8],
+    out: &mut S,
+) -> Result<u8, Fault<'a>>
+    requires sets { 0 < SETS }
+    requires ways { 0 < WAYS }
+    requires lines { SETS * WAYS < 2 ^ 32 }
+    requires cache { geometry_of run.now.cache ≡ geometry SETS WAYS }
+    ensures reported { IfOk result (λ status. IsGiven (IsReportOf run.now file.now) status (S.taken out.old) (S.taken out.new) (S.failed out.old) (S.failed out.new)) }
+    ensures status { IfOk result IsReported }
+    ensures cut { IfErr result (λ fault. fault ≡ Unwritten → IsCut (IsReportOf run.now file.now) (S.taken out.old) (S.taken out.new) (S.failed out.old) (S.failed out.new)) }
+    ensures refused { IfErr result (λ fault. fault ≢ Unwritten → IsUntouched (S.taken out.old) (S.taken out.new) (S.failed out.old) (S.failed out.new)) }
+    ensures why { IfErr result (IsRunFault run.now file.now) }
+{
+    let mut machine: Machine<SETS, WAYS> = boot(alloc, run.file, file, run.harts, run.memory)?;
+    let addrs = readable(alloc, &machine, &run.words)?;
+    machine.take_turns(run.steps)?;
     let status = status(&machine);
     report(&machine, &addrs, out)?;
     Ok(status)
 }
 
 /// The machine that the program in a file begins in.
-fn boot<'a>(alloc: Global, file: &[u8], harts: u32, memory: u32) -> Result<Machine, Fault<'a>>
-    ensures { MatchResult result (IsStartOf file.now harts memory) (IsStartFault file.now harts memory) }
+fn boot<'a, const SETS: usize, const WAYS: usize>(
+    alloc: Global,
+    path: &str,
+    file: &[u8],
+    harts: u32,
+    memory: u32,
+) -> Result<Machine<SETS, WAYS>, Fault<'a>>
+    requires sets { 0 < SETS }
+    requires ways { 0 < WAYS }
+    requires lines { SETS * WAYS < 2 ^ 32 }
+    ensures { MatchResult result (IsStartOf (geometry SETS WAYS) path.now file.now harts memory) (IsStartFault path.now file.now harts memory) }
 {
-    let program = read_elf(alloc, file)?;
+    let program = program_in(alloc, path, file)?;
     let machine = Machine::boot(alloc, program, harts, memory)?;
     Ok(machine)
 }

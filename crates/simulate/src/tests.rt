@@ -1,33 +1,11 @@
 //! Programs that are run, with the texts and statuses that they have to give.
-ghost use Rattle.std.specs.Prelude.{Some};
-
 use crate::perform::perform;
 use command_line::order;
-use elf_samples::elf_file;
+use elf_samples::{Breaking, COUNTS, EXIT, elf_file};
 use std::alloc::Global;
 use std::process::Abort;
 use std::test::Fail;
-use words::{Sink, SinkFault, Taken};
-
-// li a7, 93 and li a0, 0 and ecall
-const EXIT: [u32; 3] = [0x05d0_0893, 0x0000_0513, 0x0000_0073];
-
-// Two instructions a line: li s0, 100 and lui s1, 2; again: tbegin again and lw t0, 0(s1); addi t0, t0, 1 and
-// sw t0, 0(s1); tcommit and addi s0, s0, -1; bnez s0, again; and then EXIT.
-static COUNTER: [u32; 12] = [
-    0x0640_0413,
-    0x0000_24b7,
-    0x0000_000b,
-    0x0004_a283,
-    0x0012_8293,
-    0x0054_a023,
-    0x0000_100b,
-    0xfff4_0413,
-    0xfe04_14e3,
-    0x05d0_0893,
-    0x0000_0513,
-    0x0000_0073,
-];
+use words::Taken;
 
 fn taken(alloc: Global) -> Taken {
     Taken {
@@ -212,7 +190,7 @@ fn shows_words(rt: HostRuntime) -> Result<(), Fail> {
         "hart 0: exit 0\nword 0x00001000 = 0x05d00893\nword 0x00001008 = 0x00000073\nword 0x000feffc = 0x00000000\n",
         "",
     )?;
-    let counter = elf_file(rt.alloc(), &COUNTER)?;
+    let counter = elf_file(rt.alloc(), &COUNTS)?;
     check(
         &rt,
         &["logtm", "run", "f", "0x2000"],
@@ -221,6 +199,83 @@ fn shows_words(rt: HostRuntime) -> Result<(), Fail> {
         "hart 0: exit 0\nword 0x00002000 = 0x00000064\n",
         "",
     )
+}
+
+#[test]
+fn lists_words(rt: HostRuntime) -> Result<(), Fail> {
+    let dis = ["logtm", "dis", "f"];
+    let first = elf_file(rt.alloc(), &EXIT)?;
+    let lines =
+        "0x00001000: 05d00893  addi a7, zero, 93\n0x00001004: 00000513  addi a0, zero, 0\n0x00001008: 00000073  ecall\n";
+    check(&rt, &dis, &first, 0, lines, "")?;
+    check(&rt, &dis, &[], 4, "", "logtm: load 1 Truncated\n")
+}
+
+#[test]
+fn assembles(rt: HostRuntime) -> Result<(), Fail> {
+    let order = order(rt.alloc(), &["logtm", "asm", "f.s", "f"]);
+    let order = order.ok().ok_or("an order")?;
+    let source = b"li a7, 93\r\n\tli a0, 0 # status\n\nend: ecall";
+    let mut out = taken(rt.alloc());
+    let mut error = taken(rt.alloc());
+    let outcome = perform(rt.alloc(), &order, source, &mut out, &mut error);
+    assert_eq!(rt;
+        (outcome.status, out.bytes.len(), error.bytes.len()),
+        (0, 0, 0)
+    );
+    let image = outcome.image.ok_or("an image")?;
+    assert_eq!(rt; image.as_slice(), elf_file(rt.alloc(), &EXIT)?.as_slice());
+    Ok(())
+}
+
+#[test]
+fn refuses_sources(rt: HostRuntime) -> Result<(), Fail> {
+    let cases: [(&[u8], &str); 8] = [
+        (b"nop\naddi a0, a0, 2048", "logtm: line 2: 4 Range\n"),
+        (b"lw a0, 4(q1)\n", "logtm: line 1: 3 Register\n"),
+        (b"beq a0, a1, nowhere", "logtm: line 1: 6 Label\n"),
+        (b"  foo a0", "logtm: line 1: 1 Unknown\n"),
+        (b".data\n.byte 1\n.half 1", "logtm: line 3: 5 Alignment\n"),
+        (b"a:\na: nop", "logtm: line 2: 7 TwiceDefined\n"),
+        (b"", "logtm: line 0: 9 TooLarge\n"),
+        (b"nop # \xff", "logtm: source is not text\n"),
+    ];
+    for (source, error) in cases {
+        check(&rt, &["logtm", "asm", "f.s", "f"], source, 4, "", error)?;
+        check(&rt, &["logtm", "run", "f.s"], source, 4, "", error)?;
+    }
+    Ok(())
+}
+
+#[test]
+fn runs_sources(rt: HostRuntime) -> Result<(), Fail> {
+    let source = b"_start: li a7, 93\n la a0, five\n lw a0, 0(a0)\n ecall\n .data\nfive: .word 5\n";
+    check(
+        &rt,
+        &["logtm", "run", "f.s"],
+        source,
+        1,
+        "hart 0: exit 5\n",
+        "",
+    )
+}
+
+#[test]
+fn two_harts_count(rt: HostRuntime) -> Result<(), Fail> {
+    let counter = elf_file(rt.alloc(), &COUNTS)?;
+    for cache in ["small", "normal"] {
+        check(
+            &rt,
+            &[
+                "logtm", "run", "f", "--harts", "2", "--cache", cache, "0x2000",
+            ],
+            &counter,
+            0,
+            "hart 0: exit 0\nhart 1: exit 0\nword 0x00002000 = 0x000000c8\n",
+            "",
+        )?;
+    }
+    Ok(())
 }
 
 // li a7, 1; li a0, 'H'; ecall; li a0, '\n'; ecall; and then EXIT
@@ -308,36 +363,6 @@ fn gives_the_greatest_status(rt: HostRuntime) -> Result<(), Fail> {
     )
 }
 
-// A sink that takes so many puts, and half of the next.
-#[derive(Drop)]
-struct Breaking {
-    bytes: Vec<u8>,
-    left: u32,
-    failed: u64,
-}
-
-impl Sink for Breaking {
-    ghost failed = { λ b. b.failed };
-
-    ghost taken = { λ b. Some b.bytes.items };
-
-    fn put(&mut self, bytes: &[u8]) -> Result<(), SinkFault> {
-        if self.left == 0 {
-            let _ = self.bytes.extend_from_slice(&bytes[..bytes.len() / 2]);
-            self.failed = self.failed.saturating_add(1);
-            return Err(SinkFault);
-        }
-        self.left -= 1;
-        match self.bytes.extend_from_slice(bytes) {
-            Ok(()) => Ok(()),
-            Err(_) => {
-                self.failed = self.failed.saturating_add(1);
-                Err(SinkFault)
-            }
-        }
-    }
-}
-
 const REPORT: &str =
     "hart 0 output 2 bytes\nH\n\nhart 0: exit 0\nhart 1 output 2 bytes\nH\n\nhart 1: exit 0\nword 0x00001000 = 0x00100893\n";
 
@@ -349,11 +374,7 @@ fn a_failed_put_cuts_the_report(rt: HostRuntime) -> Result<(), Fail> {
     let mut whole = false;
     let mut longest = 0;
     for left in 0..100 {
-        let mut out = Breaking {
-            bytes: Vec::new(rt.alloc()),
-            left,
-            failed: 0,
-        };
+        let mut out = Breaking::new(rt.alloc(), left);
         let mut error = taken(rt.alloc());
         let outcome = perform(rt.alloc(), &order, &file, &mut out, &mut error);
         let (bytes, failed) = (out.bytes.as_slice(), out.failed);
@@ -381,11 +402,7 @@ fn a_fault_that_is_not_told_stays(rt: HostRuntime) -> Result<(), Fail> {
     let words = ["logtm", "run", "f"];
     let order = order(rt.alloc(), &words).ok().ok_or("an order")?;
     for left in 0..5 {
-        let mut error = Breaking {
-            bytes: Vec::new(rt.alloc()),
-            left,
-            failed: 0,
-        };
+        let mut error = Breaking::new(rt.alloc(), left);
         let mut out = taken(rt.alloc());
         let outcome = perform(rt.alloc(), &order, &[], &mut out, &mut error);
         let (bytes, failed) = (error.bytes.as_slice(), error.failed);

@@ -3,3 +3,4 @@ pub mod Keys
 pub mod Legal
 pub mod OneRow
 pub mod OneWord
+pub mod Slots

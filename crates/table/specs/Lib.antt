@@ -2,4 +2,5 @@ pub mod Atomics
 pub mod Effects
 pub mod Numbers
 pub mod Program
+pub mod Slots
 pub mod Table

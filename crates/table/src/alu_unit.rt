@@ -6,6 +6,7 @@ ghost use Rattle.table.specs.Table.{branch_row, imm_row, shift_row, op_row};
 
 use crate::instr::{AluOp, AmoOp, BranchOp, ImmOp, ShiftOp};
 
+#[inline(always)]
 fn is_less(a: u32, b: u32) -> bool
     ensures { result ≡ is_less_signed a b }
 {
@@ -24,18 +25,21 @@ fn max_signed(a: u32, b: u32) -> u32
     if is_less(a, b) { b } else { a }
 }
 
+#[inline(always)]
 fn shift_left(a: u32, amount: u32) -> u32
     ensures { result ≡ shifted_left a amount }
 {
     a << (amount & 31)
 }
 
+#[inline(always)]
 fn shift_right(a: u32, amount: u32) -> u32
     ensures { result ≡ shifted_right a amount }
 {
     a >> (amount & 31)
 }
 
+#[inline(always)]
 fn shift_right_signed(a: u32, amount: u32) -> u32
     ensures { result ≡ shifted_right_signed a amount }
 {
@@ -126,6 +130,7 @@ fn remainder_signed(a: u32, b: u32) -> u32
     }
 }
 
+#[inline(always)]
 pub fn is_branch_taken(op: BranchOp, a: u32, b: u32) -> bool
     ensures { result ≡ (branch_row op).test a b }
 {
@@ -139,6 +144,7 @@ pub fn is_branch_taken(op: BranchOp, a: u32, b: u32) -> bool
     }
 }
 
+#[inline(always)]
 pub fn with_immediate(op: ImmOp, a: u32, imm: u32) -> u32
     ensures { result ≡ (imm_row op).value a imm }
 {
@@ -152,6 +158,7 @@ pub fn with_immediate(op: ImmOp, a: u32, imm: u32) -> u32
     }
 }
 
+#[inline(always)]
 pub fn shift(op: ShiftOp, a: u32, amount: u32) -> u32
     ensures { result ≡ (shift_row op).value a amount }
 {
@@ -162,6 +169,7 @@ pub fn shift(op: ShiftOp, a: u32, amount: u32) -> u32
     }
 }
 
+#[inline(always)]
 pub fn alu(op: AluOp, a: u32, b: u32) -> u32
     ensures { result ≡ (op_row op).value a b }
 {
@@ -188,6 +196,7 @@ pub fn alu(op: AluOp, a: u32, b: u32) -> u32
 }
 
 /// What an atomic operation puts in the place of the old word.
+#[inline(never)]
 pub fn finish_amo(op: AmoOp, old: u32, b: u32) -> u32
     ensures { result ≡ (amo_row op).value old b }
 {

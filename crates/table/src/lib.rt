@@ -2,17 +2,20 @@
 #![tactic(auto)]
 
 mod alu_unit;
+mod decoded_text;
 mod decoder;
 mod effect;
 mod encoder;
 mod executor;
 mod instr;
 mod laws;
+mod slot;
 #[cfg(test)]
 mod tests;
 mod text;
 
 pub use alu_unit::finish_amo;
+pub use decoded_text::DecodedText;
 pub use decoder::decode;
 pub use effect::{Act, Effect, Load, MemoryAct, Store};
 pub use encoder::encode;
@@ -22,4 +25,5 @@ pub use executor::{
 };
 pub use instr::{AluOp, AmoOp, BranchOp, ImmOp, Instr, LoadOp, ShiftOp, StoreOp};
 pub use laws::one_row;
+pub use slot::Slot;
 pub use text::{Segment, Text};

@@ -420,9 +420,7 @@ fn text_is_what_is_executable(rt: HostRuntime) -> Result<(), Fail> {
             exec: false,
         },
     ]?;
-    let text = Text {
-        segments: &segments,
-    };
+    let text = Text::new(&segments);
     for (pc, want) in [
         (0x0ffc, None),
         (0x1000, Some(0x05d0_0893)),

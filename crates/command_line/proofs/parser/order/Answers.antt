@@ -1,27 +1,25 @@
-use Rattle.std.proofs.Common.{◌∙◌, ap, codes, is_some, map, sym, true≢false}
+use Rattle.std.proofs.Common.{◌∙◌, ap, is_some, map, sym, true≢false}
 use Rattle.clap.specs.Words.{app_of, found_of, rows_of}
-use Rattle.clap.proofs.WalkLemmas.{first_value-rows}
-use Rattle.command_line.proofs.Taken.{matches_of_run, name_is_run, read_words, refused_words}
+use Rattle.command_line.proofs.Taken.{read_words, refused_words, subcommand_asked, subcommand_given}
 use Rattle.command_line.proofs.parser.order.Goals as goal
 
 pub read-requires : goal.read-requires
 read-requires c =
-    let run = matches_of_run (map (λ w. w.now) c.args.words.now) (app_of c.in_ok-command.field-0) c.in-Ok.matches c.in-Some.run'.now
-    c.in_ok-command.ensures c.in-Ok.ensures.kinds c.in-Ok.ensures.matches c.in-Some.ensures.rows in
-    record { file = ap is_some (first_value-rows (found_of c.in-Some.run'.now) (codes "file")) ∙ run.file }
+    (subcommand_asked (map (λ w. w.now) c.args.words.now) (app_of c.in_ok-command.field-0) c.in-Ok.matches c.in-Some.values.now c.in-Some.name.now
+    c.in_ok-command.ensures c.in-Ok.ensures.kinds c.in-Ok.ensures.matches c.in-Some.ensures.name c.in-Some.ensures.rows).complete
 
 pub unreachable-requires : goal.unreachable-requires
 unreachable-requires c =
-    let is = name_is_run (map (λ w. w.now) c.args.words.now) (app_of c.in_ok-command.field-0) c.in-Ok.matches
+    let given = subcommand_given (map (λ w. w.now) c.args.words.now) (app_of c.in_ok-command.field-0) c.in-Ok.matches
     c.in_ok-command.ensures c.in-Ok.ensures.kinds c.in-Ok.ensures.matches in
-    true≢false (sym (c.in-None.ensures.found.1 is))
+    true≢false (sym given ∙ ap is_some (sym c.in-None.ensures.name))
 
 pub returns-in-Some : goal.returns-in-Some
 returns-in-Some c =
     let words = map (λ w. w.now) c.args.words.now in
-    let run = matches_of_run words (app_of c.in_ok-command.field-0) c.in-Ok.matches c.in-Some.run'.now
-    c.in_ok-command.ensures c.in-Ok.ensures.kinds c.in-Ok.ensures.matches c.in-Some.ensures.rows in
-    read_words words (rows_of (found_of c.in-Some.run'.now)) c.read.result run.asks c.read.ensures
+    let asked = subcommand_asked words (app_of c.in_ok-command.field-0) c.in-Ok.matches c.in-Some.values.now c.in-Some.name.now
+    c.in_ok-command.ensures c.in-Ok.ensures.kinds c.in-Ok.ensures.matches c.in-Some.ensures.name c.in-Some.ensures.rows in
+    read_words words c.in-Some.name.now (rows_of (found_of c.in-Some.values.now)) c.read.result asked.asks c.read.ensures
 
 pub returns-in-Err : goal.returns-in-Err
 returns-in-Err c =

@@ -1,22 +1,22 @@
-use Rattle.std.proofs.Common.{IfOk, ap, codes, rules}
+use Rattle.std.proofs.Common.{IfOk, [], ap, codes}
 use Rattle.std.proofs.lemmas.Result.{IfOk-weaker}
-use Rattle.clap.specs.Words.{App, new_app, with_rule}
+use Rattle.clap.specs.Words.{App, new_app}
 use Rattle.command_line.specs.Command as spec
 use Rattle.command_line.proofs.Commands.{IsApp, with_argument}
 use Rattle.command_line.proofs.parser.run_command.Goals as goal
 
-made : (c : goal.After-arg-5) → IfOk c.arg-5.result (λ r. IsApp r (with_rule (with_rule (with_rule (with_rule (with_rule (new_app (codes "run")) spec.file)
-    (spec.option_named (codes "harts"))) (spec.option_named (codes "memory"))) (spec.option_named (codes "steps"))) spec.words))
+made : (c : goal.After-arg-6) → IfOk c.arg-6.result (λ r. IsApp r (record { top = spec.run; subs = [] }))
 made c =
-    let start : IsApp c.about.result (new_app (codes "run")) = record { shape = search rules; local = search rules } in
-    let file = with_argument _ _ _ _ _ start c.file.ensures.rule c.file.ensures.local c.in_ok-arg.ensures in
+    let start : IsApp c.bare.result (new_app (codes "run")) = record { shape = c.bare.ensures.app; local = c.bare.ensures.local } in
+    let file = with_argument _ _ _ _ _ start c.program.ensures.rule c.program.ensures.local c.in_ok-arg.ensures in
     let harts = with_argument _ _ _ _ _ file c.option.ensures.rule c.option.ensures.local c.in_ok-arg-2.ensures in
     let memory = with_argument _ _ _ _ _ harts c.option-2.ensures.rule c.option-2.ensures.local c.in_ok-arg-3.ensures in
     let steps = with_argument _ _ _ _ _ memory c.option-3.ensures.rule c.option-3.ensures.local c.in_ok-arg-4.ensures in
-    IfOk-weaker c.arg-5.result _ _ (λ r adds. with_argument _ _ _ _ _ steps c.words.ensures.rule c.words.ensures.local adds) c.arg-5.ensures
+    let cache = with_argument _ _ _ _ _ steps c.option-4.ensures.rule c.option-4.ensures.local c.in_ok-arg-5.ensures in
+    IfOk-weaker c.arg-6.result _ _ (λ r adds. with_argument _ _ _ _ _ cache c.words.ensures.rule c.words.ensures.local adds) c.arg-6.ensures
 
 pub returns-clause-shape : goal.returns-clause-shape
-returns-clause-shape c = IfOk-weaker c.arg-5.result _ _ (λ r is. ap (λ (a : App). a.top) is.shape) (made c)
+returns-clause-shape c = IfOk-weaker c.arg-6.result _ _ (λ r is. ap (λ (a : App). a.top) is.shape) (made c)
 
 pub returns-clause-local : goal.returns-clause-local
-returns-clause-local c = IfOk-weaker c.arg-5.result _ _ (λ r is. is.local) (made c)
+returns-clause-local c = IfOk-weaker c.arg-6.result _ _ (λ r is. is.local) (made c)

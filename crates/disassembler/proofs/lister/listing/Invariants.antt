@@ -1,7 +1,8 @@
-use Rattle.std.proofs.Common.{Ok}
+use Rattle.std.proofs.Common.{◌*◌, Ok}
 use Rattle.texts.specs.Puts.{Puts}
 use Rattle.disassembler.specs.Listing.{lines}
 use Rattle.disassembler.proofs.lister.listing.Given as goal
 
-abbrev pub invariant-loop-number : goal.invariant-loop-number
-invariant-loop-number g l = Puts (g.S.Sink.taken l.initial.out) (g.S.Sink.taken l.out) (g.S.Sink.failed l.initial.out) (g.S.Sink.failed l.out) (lines l.text.segments.now l.number) (Ok tt)
+abbrev pub invariant-loop-window : goal.invariant-loop-window
+invariant-loop-window g l =
+    Puts (g.S.Sink.taken l.initial.out) (g.S.Sink.taken l.out) (g.S.Sink.failed l.initial.out) (g.S.Sink.failed l.out) (lines l.program.segments (4096 * l.window)) (Ok tt)

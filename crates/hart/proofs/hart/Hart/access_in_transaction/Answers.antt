@@ -28,6 +28,6 @@ returns-clause-row g c = λ output.
     let h = shown_hart g.row.SETS output a.self.now in
     let at = λ (k : Hart). with_line (a.m.now.addr / 32) (Some (line_used true a.m.now l)) k in
     access-fits a.self.now.index a.word a.effect.now a.m.now l t h (c.log_line.ensures.room ∙ ap not c.if-not-log_line.false)
-    ∙ ap (λ (i : ℕ). retire_row i view a.word a.effect.now (at (record h { tx = Some (tx_used a.m.now l t) }))) (sym (c.use_line.ensures.stays.index ∙ c.log_line.ensures.stays.index))
-    ∙ ap (λ k. retire_row c.use_line.new.self.index view a.word a.effect.now k) (ap at (sym (c.log_line.ensures.ok c.if-not-log_line.false output)) ∙ sym (c.use_line.ensures.hart output))
-    ∙ c.retire_access.ensures.row output
+    ∙ ap (λ (i : ℕ). retire_row i view a.word a.effect.now (at (record h { tx = Some (tx_used a.m.now l t) }))) (sym c.log_line.ensures.stays.index)
+    ∙ ap (λ k. retire_row c.log_line.new.self.index view a.word a.effect.now (at k)) (sym (c.log_line.ensures.ok c.if-not-log_line.false output))
+    ∙ c.access_logged.ensures.row output

@@ -44,7 +44,7 @@ makes g c =
     (subst (λ segments. MakesOf g.row.SETS segments (before g c).stamps c.index_mut.result.now c.core_step.new.self c.in_ok-core_step.field-0) c.text.ensures c.in_ok-core_step.ensures.row) in
     core_makes g.row.SETS g.row.WAYS c.index-i.result (before g c) (after g c) c.index_mut.result.now c.core_step.new.self c.self.invariant acts c.in-Some.made c.in_ok-core_step.ensures.victim row
     c.stamps_after-self-inside.ensures
-    (subst (λ f. Sends (in_flight f) (option_to_list (option_map shown_message c.in-Some.made.message)) (in_flight (after g c).flights)) c.reserve.ensures.same c.send.ensures)
+    (subst (λ f. Sends (in_flight f) (option_to_list (option_map shown_message c.in-Some.made.message)) (in_flight (after g c).flights)) c.reserve.ensures.same c.send.ensures.sends)
 
 pub invariant_of-self-in-Some : goal.invariant_of-self-in-Some
 invariant_of-self-in-Some g c = (makes g c).1

@@ -35,7 +35,7 @@ serves g c =
     refl refl refl
     (subst (λ f. Sends (taken c.args.key (in_flight f)) (messages_of c.in-Sent.sends.items) (in_flight (after g c).flights)) c.reserve.ensures.same
     (subst (λ n. Sends n (messages_of c.in-Sent.sends.items) (in_flight (after g c).flights)) c.take.ensures.flight
-    (subst (λ ms. Sends (in_flight c.take.new.net.slots) (messages_of ms) (in_flight (after g c).flights)) c.as_slice.ensures.value c.send_all.ensures)))
+    (subst (λ ms. Sends (in_flight c.take.new.net.slots) (messages_of ms) (in_flight (after g c).flights)) c.as_slice.ensures.value c.send_all.ensures.sends)))
 
 pub invariant_of-self-in-Sent : goal.invariant_of-self-in-Sent
 invariant_of-self-in-Sent g c = (serves g c).1

@@ -12,8 +12,8 @@ use Rattle.machine.proofs.Deliveries.{arrives_nowhere, arrives_at_hart}
 use Rattle.machine.proofs.machine.Machine.deliver_to_hart.Given.{Over}
 use Rattle.machine.proofs.machine.Machine.deliver_to_hart.Goals as goal
 
-pub returns-then-i-len : goal.returns-then-i-len
-returns-then-i-len g c =
+pub returns-then-i-len-clause-steps : goal.returns-then-i-len-clause-steps
+returns-then-i-len-clause-steps g c =
     let v : State = c.args.self.now in
     let count : length c.self.inside.seats.items ≡ length v.seats = ap (λ (m : State). length m.seats) c.self.view_is in
     let past : length v.seats ≤ c.args.id = omega (arith, c.len.ensures, c.index-i.ensures.value, c.if-i-len.true, count) in
@@ -47,10 +47,10 @@ arrives g c =
     let here : in_flight (before g c).flights c.args.key ≡ Some (shown_message c.args.message) = ap (λ (m : State). in_flight m.flights c.args.key) c.self.view_is ∙ c.requires.message in
     arrives_at_hart g.row.SETS g.row.WAYS c.args.key c.index-i.result (before g c) (after g c) (old_seat g c) (new_seat g c) c.args.message c.on_message-reply.result c.self.invariant acts refl refl
     here (c.requires.receiver ∙ ap (λ n. Some n) (sym c.index-i.ensures.value)) c.on_message-reply.ensures.row
-    (subst (λ n. Sends n (option_to_list (option_map shown_message c.on_message-reply.result.message)) (in_flight (after g c).flights)) c.take.ensures.flight c.send.ensures)
+    (subst (λ n. Sends n (option_to_list (option_map shown_message c.on_message-reply.result.message)) (in_flight (after g c).flights)) c.take.ensures.flight c.send.ensures.sends)
 
 pub invariant_of-self : goal.invariant_of-self
 invariant_of-self g c = (arrives g c).1
 
-pub returns : goal.returns
-returns g c = subst (λ m. Steps (geometry g.row.SETS g.row.WAYS) (shown g.row.SETS m) (Deliver c.args.key) c.on_message-reply.result.entry (shown g.row.SETS (after g c))) c.self.view_is (arrives g c).0
+pub returns-clause-steps : goal.returns-clause-steps
+returns-clause-steps g c = subst (λ m. Steps (geometry g.row.SETS g.row.WAYS) (shown g.row.SETS m) (Deliver c.args.key) c.on_message-reply.result.entry (shown g.row.SETS (after g c))) c.self.view_is (arrives g c).0

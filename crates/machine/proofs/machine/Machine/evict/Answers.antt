@@ -45,7 +45,7 @@ gives_up g c =
       stays = c.evict.ensures.stays;
     } in
     evicts g.row.SETS g.row.WAYS c.index-i.result c.args.block (before g c) (after g c) (old_seat g c) (new_seat g c) c.in-Some.reply c.self.invariant acts refl refl c.in-Some.ensures.row
-    (subst (λ f. Sends (in_flight f) (option_to_list (option_map shown_message c.in-Some.reply.message)) (in_flight (after g c).flights)) c.reserve.ensures.same c.send.ensures)
+    (subst (λ f. Sends (in_flight f) (option_to_list (option_map shown_message c.in-Some.reply.message)) (in_flight (after g c).flights)) c.reserve.ensures.same c.send.ensures.sends)
 
 pub invariant_of-self-in-Some : goal.invariant_of-self-in-Some
 invariant_of-self-in-Some g c = (gives_up g c).1

@@ -19,25 +19,25 @@ pub image-requires : goal.image-requires
 image-requires g c = all_fit c.args.program.segments c.args.harts c.args.size c.requires.bootable
 
 -- the machine that is made
-abbrev made : (g : Over) (c : goal.After-new-2 g) → State
-made g c = record { program = c.args.program; seats = c.in_ok-seats.seats.items; directory = c.new.result; flights = c.new-2.result.slots; sent = c.new-2.result.next; stamps = 0 }
+abbrev made : (g : Over) (c : goal.After-new-3 g) → State
+made g c = record { program = c.in_ok-program.program; seats = c.in_ok-seats.seats.items; directory = c.new-2.result; flights = c.new-3.result.slots; sent = c.new-3.result.next; stamps = 0 }
 
-is_first : (g : Over) (c : goal.After-new-2 g) → Begins g.row.SETS c.args.program c.args.harts c.args.size (made g c)
+is_first : (g : Over) (c : goal.After-new-3 g) → Begins g.row.SETS c.args.program c.args.harts c.args.size (made g c)
 is_first g c = record {
-  program = refl;
+  program = c.in_ok-program.ensures;
   count = sym c.in_ok-seats.seats.ok.0 ∙ c.in_ok-seats.ensures.count;
   harts = λ set j size count. c.in_ok-seats.ensures.harts set j size count ∙ ap (λ e. (start set e).harts j) c.entry.ensures.value;
-  blocks = ap (λ n. block_bytes * n) (ap length c.new.ensures.memory ∙ sym c.in_ok-memory.memory.ok.0 ∙ c.in_ok-memory.ensures.count) ∙ whole_blocks c.args.program.segments c.args.harts c.args.size c.requires.bootable;
+  blocks = ap (λ n. block_bytes * n) (ap length c.new-2.ensures.memory ∙ sym c.in_ok-memory.memory.ok.0 ∙ c.in_ok-memory.ensures.count) ∙ whole_blocks c.args.program.segments c.args.harts c.args.size c.requires.bootable;
   words = λ b.
-      ap (λ blocks. words_of blocks b) c.new.ensures.memory
+      ap (λ blocks. words_of blocks b) c.new-2.ensures.memory
       ∙ c.in_ok-memory.ensures.words b
       ∙ words_same (mem_of c.deref.result.now) (image_at c.args.program.segments) b (λ a at. ap (λ bytes. mem_of bytes a) c.deref.ensures.value ∙ c.in_ok-bytes.ensures.memory a);
-  entries = c.new.ensures.entries;
-  flights = λ key. ap (λ o. option_map shown_message (option_map (λ f. f.message) o)) (c.new-2.ensures.empty key);
+  entries = c.new-2.ensures.entries;
+  flights = λ key. ap (λ o. option_map shown_message (option_map (λ f. f.message) o)) (c.new-3.ensures.empty key);
   stamps = refl;
 }
 
-belongs : (g : Over) (c : goal.After-new-2 g) → Belongs (geometry g.row.SETS g.row.WAYS) (booted c.args.program.segments c.args.program.entry c.args.harts c.args.size) (shown g.row.SETS (made g c))
+belongs : (g : Over) (c : goal.After-new-3 g) → Belongs (geometry g.row.SETS g.row.WAYS) (booted c.args.program.segments c.args.program.entry c.args.harts c.args.size) (shown g.row.SETS (made g c))
 belongs g c =
     let set : Setting = record { segments = c.args.program.segments; size = c.args.size; count = c.args.harts } in
     subst (Belongs (geometry g.row.SETS g.row.WAYS) (booted c.args.program.segments c.args.program.entry c.args.harts c.args.size)) (sym (begins g.row.SETS c.args.program c.args.harts c.args.size (made g c) (is_first g c)))
@@ -47,7 +47,7 @@ pub invariant_of-result : goal.invariant_of-result
 invariant_of-result g c = record {
   some_way = c.requires.ways;
   fits = c.requires.lines;
-  count = sym c.in_ok-seats.seats.ok.0 ∙ c.in_ok-seats.ensures.count ∙ sym c.new.ensures.harts;
+  count = sym c.in_ok-seats.seats.ok.0 ∙ c.in_ok-seats.ensures.count ∙ sym c.new-2.ensures.harts;
   seats = λ j x at.
       let b : Begins g.row.SETS c.args.program c.args.harts c.args.size (made g c) = is_first g c in
       c.in_ok-seats.ensures.seated (setting_of (made g c)) j x b.blocks b.count at;

@@ -1,6 +1,6 @@
 use Rattle.std.proofs.Common.{length, sym, ap, ◌∙◌}
 use Rattle.machine.specs.States.{State, shown, geometry}
-use Rattle.machine.proofs.Reading.{same_setting, looks_same, same_regs, regs_seated}
+use Rattle.machine.proofs.Reading.{same_setting}
 use Rattle.machine.proofs.machine.Machine.harts.Goals as goal
 
 pub returns-clause-flat : goal.returns-clause-flat

@@ -1,6 +1,6 @@
 use Rattle.std.proofs.Common.{◌≡◌, ◌<◌, length, get_or, arith, sym, ap, subst, ◌∙◌}
 use Rattle.machine.specs.States.{State, Seat, shown, geometry}
-use Rattle.machine.proofs.Reading.{seat_read, looks_same}
+use Rattle.machine.proofs.Reading.{seat_at, looks_same}
 use Rattle.machine.proofs.machine.Machine.output.Given.{Over}
 use Rattle.machine.proofs.machine.Machine.output.Goals as goal
 
@@ -17,6 +17,6 @@ returns-clause-flat g c = λ f b.
     let inside : c.index.result < length (here g c).seats = omega (arith, c.requires, c.index.ensures.value, count) in
     let at : seat g c ≡ get_or (here g c).seats c.index.result (seat g c) = subst (λ s. s ≡ get_or (here g c).seats c.index.result s) (sym c.behind-self.view_is) c.index-2.ensures in
     c.deref.ensures.value
-    ∙ ap (λ h. h.output) (seat_read g.row.SETS (here g c) c.index.result (seat g c) inside at)
+    ∙ ap (λ h. h.output) (seat_at g.row.SETS (here g c).seats c.index.result (seat g c) inside at)
     ∙ (λ k. ((shown g.row.SETS (c.self.view_is k)).harts (c.index.ensures.value k)).output)
     ∙ (looks_same (geometry g.row.SETS g.row.WAYS) f (shown g.row.SETS c.args.self.now) c.args.id b).output

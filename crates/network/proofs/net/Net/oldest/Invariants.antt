@@ -1,6 +1,7 @@
+use Rattle.std.proofs.Common.{true, false}
 use Rattle.std.specs.Fn.{FnReturnsAt}
 use Rattle.network.proofs.Best.{IsBest}
 use Rattle.network.proofs.net.Net.oldest.Given as goal
 
 abbrev pub invariant-loop-key : goal.invariant-loop-key
-invariant-loop-key g l = IsBest (FnReturnsAt g.F.Fn l.passes) l.self.slots l.key l.best
+invariant-loop-key g l = let answers = FnReturnsAt g.F.Fn l.passes in IsBest (λ k f. answers f.message true) (λ k f. answers f.message false) l.self.slots l.key l.best

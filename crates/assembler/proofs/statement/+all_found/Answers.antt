@@ -1,0 +1,22 @@
+use Rattle.std.proofs.Common.{not, sym, ap, ◌∙◌, option_map}
+use Rattle.assembler.specs.Cutting.{Cut, trim}
+use Rattle.assembler.specs.Statements as spec
+use Rattle.assembler.specs.Places.{find_in}
+use Rattle.assembler.proofs.Parts.{none_more, some_more, not_first}
+use Rattle.assembler.proofs.statement.+all_found.Goals as goal
+
+pub returns-then-is_lost : goal.returns-then-is_lost
+returns-then-is_lost t c =
+    not_first (λ operand. not (spec.is_lost (find_in c.args.names.now) (trim operand))) c.args.text.now _ _ c.cut.ensures.cut
+    (ap not (ap (spec.is_lost (find_in c.args.names.now)) (sym c.trim.ensures.trimmed) ∙ sym c.is_lost.ensures ∙ c.if-is_lost.true))
+
+pub returns-in-Some : goal.returns-in-Some
+returns-in-Some t c =
+    c.all_found.ensures
+    ∙ some_more (λ operand. not (spec.is_lost (find_in c.args.names.now) (trim operand))) c.args.text.now _ _ (rw c.in-Some.is at c.cut.ensures.cut)
+    (ap not (ap (spec.is_lost (find_in c.args.names.now)) (sym c.trim.ensures.trimmed) ∙ sym c.is_lost.ensures ∙ c.if-is_lost.false))
+
+pub returns-in-None : goal.returns-in-None
+returns-in-None t c =
+    none_more (λ operand. not (spec.is_lost (find_in c.args.names.now) (trim operand))) c.args.text.now _ (rw c.in-None.is at c.cut.ensures.cut)
+    (ap not (ap (spec.is_lost (find_in c.args.names.now)) (sym c.trim.ensures.trimmed) ∙ sym c.is_lost.ensures ∙ c.if-is_lost.false))

@@ -1,0 +1,86 @@
+-- The program that a source makes.
+use Rattle.std.specs.Prelude.{◌≡◌, ℕ, ◌+◌, ◌%◌, ◌^◌, ◌==◌, ◌&&◌, ◌<◌, ◌≤◌, if◌then◌else◌, nat_le, Bool, true, false, List, [], ◌∷◌, ◌++◌, length, take, replicate, map, codes, Option, Some, None}
+use Rattle.std.specs.Int.{w32, to_le_bytes}
+use Rattle.std.specs.List.{flat_map}
+use Rattle.words.specs.declared.entry.Width.{Width}
+use Rattle.words.specs.Bytes.{bytes_in}
+use Rattle.table.specs.Table.{decoded}
+use Rattle.table.specs.Program.{Segment}
+use Rattle.table.specs.declared.instr.Instr.{Instr}
+use Rattle.loader.specs.Programs.{Program}
+use Rattle.assembler.specs.declared.place.Place.{Place}
+use Rattle.assembler.specs.declared.place.Section.{Section}
+use Rattle.assembler.specs.declared.place.Section.TheVariants.{Text, Data}
+use Rattle.assembler.specs.Places.{Labels, address, data_start}
+use Rattle.assembler.specs.Statements.{Made}
+use Rattle.assembler.specs.Statements.Made.{Nothing, Enter, One, Two, Numbers, Zeros}
+use Rattle.assembler.specs.Passes.{Layout}
+
+-- Bytes, the lowest of each number first
+
+-- the word of an instruction is the one that the instruction table decodes to it
+pub record IsWordOf (i : Instr) (bytes : List ℕ) : Type 0 where
+  pub word : ℕ
+  pub bound : word < 2 ^ 32
+  pub decodes : decoded word ≡ Some i
+  pub spelled : bytes ≡ to_le_bytes w32 word
+
+-- the low bytes of numbers, as many as the width has
+abbrev pub low_bytes : Width → List ℕ → List ℕ
+low_bytes width values = flat_map (λ v. take (bytes_in width) (to_le_bytes w32 v)) values
+
+-- the bytes of what a line makes
+abbrev pub AreBytesOf : Made → List ℕ → Type 0
+AreBytesOf Nothing bytes = bytes ≡ []
+AreBytesOf (Enter section) bytes = bytes ≡ []
+AreBytesOf (One i) bytes = IsWordOf i bytes
+AreBytesOf (Two i j) bytes = (a : List ℕ) × (b : List ℕ) × IsWordOf i a × IsWordOf j b × (bytes ≡ a ++ b)
+AreBytesOf (Numbers width values) bytes = bytes ≡ low_bytes width values
+AreBytesOf (Zeros count) bytes = bytes ≡ replicate count 0
+
+-- the bytes of what lines make, one behind another
+abbrev pub AreBytesOfAll : List Made → List ℕ → Type 0
+AreBytesOfAll [] bytes = bytes ≡ []
+AreBytesOfAll (m ∷ ms) bytes = (a : List ℕ) × (b : List ℕ) × AreBytesOf m a × AreBytesOfAll ms b × (bytes ≡ a ++ b)
+
+-- The program
+
+-- bytes more in a section
+abbrev pub IsAppended : Section → List ℕ → List ℕ → List ℕ → List ℕ → List ℕ → Type 0
+IsAppended Text more text bytes new_text new_bytes = (new_text ≡ text ++ more) × (new_bytes ≡ bytes)
+IsAppended Data more text bytes new_text new_bytes = (new_text ≡ text) × (new_bytes ≡ bytes ++ more)
+
+-- the bytes of text and of data, as far as a layout goes
+pub record IsImageOf (l : Layout) (text bytes : List ℕ) : Type 0 where
+  pub text_made : AreBytesOfAll l.text text
+  pub data_made : AreBytesOfAll l.data_made bytes
+  pub text_size : length text ≡ l.progress.text_size
+  pub data_size : length bytes ≡ l.progress.data_size
+  pub most : l.progress.text_size + l.progress.data_size ≤ 1048576
+
+abbrev pub is_text : Section → Bool
+is_text Text = true
+is_text Data = false
+
+-- whether a word of text stands at a place
+abbrev pub is_word : ℕ → Place → Bool
+is_word size place = is_text place.section && (place.offset % 4 == 0) && nat_le (place.offset + 4) size
+
+-- it begins at `_start`, if a word of text stands there, else where text begins
+abbrev pub entry_at : ℕ → Option Place → ℕ
+entry_at size None = 4096
+entry_at size (Some place) = if is_word size place then 4096 + place.offset else 4096
+
+-- text, and data, which has a segment if it has a byte
+abbrev pub segments_of : ℕ → List ℕ → List ℕ → List Segment
+segments_of size text bytes =
+    record { addr = 4096; bytes = text; size = length text; exec = true }
+    ∷ (if length bytes == 0 then [] else (record { addr = data_start size; bytes = bytes; size = length bytes; exec = false } ∷ []))
+
+-- a program has the bytes of a layout
+pub record IsProgramOf (labels : Labels) (l : Layout) (p : Program) : Type 0 where
+  pub text : List ℕ
+  pub bytes : List ℕ
+  pub image : IsImageOf l text bytes
+  pub entry : p.entry ≡ entry_at labels.text_size (labels.places (codes "_start"))
+  pub segments : p.segments ≡ segments_of labels.text_size text bytes

@@ -1,0 +1,24 @@
+use Rattle.std.proofs.Common.{◌≡◌, ◌%◌, IsTrue, Option, Some, List, [], get_or, refl, sym, subst, ◌∙◌}
+use Rattle.std.specs.Prelude.{IsSomeAnd, slice_set}
+use Rattle.std.specs.Option.{option_map}
+use Rattle.words.specs.declared.message.LineState.TheVariants.{Modified}
+use Rattle.cache.specs.declared.line.Line.{Line}
+use Rattle.cache.specs.Line.{put_into}
+use Rattle.cache.specs.Sets.{Sets, line_at}
+use Rattle.cache.proofs.Changes.{ChangedThere, changes-there}
+use Rattle.cache.proofs.Rooms.{room-kept}
+use Rattle.cache.proofs.cache.Cache.put_word.Given.{Over}
+use Rattle.cache.proofs.cache.Cache.put_word.Goals as goal
+
+-- the line in its way is changed
+changed : (g : Over) (c : goal.After-self-2-1 g) → ChangedThere g.row.SETS g.row.WAYS c.self.inside.sets c.args.block c.in-Some.way (put_into c.args.word c.args.value c.args.marks)
+changed g c = changes-there g.row.SETS g.row.WAYS c.self.inside.sets c.in-Some.way c.args.block (put_into c.args.word c.args.value c.args.marks) c.self.invariant c.self.told (rw c.index.ensures.value at (sym c.way_of.ensures ∙ c.in-Some.is)) (λ l. refl) (λ l here written. refl)
+
+pub invariant_of-self-2 : goal.invariant_of-self-2
+invariant_of-self-2 g c = rw (c.put_word.ensures, c.index.ensures.value) ((changed g c).sound)
+
+pub returns-clause-line : goal.returns-clause-line
+returns-clause-line g c = rw (← c.self.view_is, c.put_word.ensures, c.index.ensures.value) ((changed g c).line)
+
+pub returns-clause-rooms : goal.returns-clause-rooms
+returns-clause-rooms g c = λ b room. rw (c.put_word.ensures, c.index.ensures.value) (room-kept g.row.SETS g.row.WAYS c.self.inside.sets c.in-Some.way b c.args.block _ c.self.invariant c.self.told (rw c.index.ensures.value at (sym c.way_of.ensures ∙ c.in-Some.is)) (rw (← c.self.view_is) at room))

@@ -1,0 +1,123 @@
+ghost use Rattle.std.specs.Prelude.{◌≡◌, ◌<◌, ◌≤◌, ℕ, length, true, is_none, IfSome, IfNone, IsTrue};
+ghost use Rattle.words.specs.Limits.{most_harts};
+ghost use Rattle.words.specs.declared.cause.Status.TheVariants.{Running};
+ghost use Rattle.protocol.specs.Messages.{Block as BlockWords, shown as shown_message, block_of};
+ghost use Rattle.protocol.specs.Directory.{directory_row};
+ghost use Rattle.protocol.specs.Machine.{Machine as MachineState};
+ghost use Rattle.directory.specs.Blocks.{entry_at};
+ghost use Rattle.machine.specs.States.{hart_at};
+ghost use Rattle.machine.specs.Turns.{AllHeld, IsOldestFree, NoneRuns, NoneFresh, IsFirstFresh, IsHartsTurn, IsNextTurn};
+
+use crate::machine::Machine;
+use crate::seat::Seat;
+use directory::Directory;
+use network::Net;
+use words::{HartId, Message, Status, Step};
+
+/// Whether the directory holds a message now.
+fn is_held(directory: &Directory, message: &Message) -> bool
+    ensures { (n : ℕ) (words : BlockWords) →
+        result ≡ is_none (directory_row n (shown_message message.now) (entry_at directory.now (block_of (shown_message message.now))) words) }
+{
+    match message {
+        Message::Get { block, .. } | Message::Put { block, .. } => {
+            directory.entry(*block).busy.is_some()
+        }
+        _ => false,
+    }
+}
+
+/// The lowest hart that runs and is fresh.
+fn first_fresh<const SETS: usize, const WAYS: usize>(seats: &[Seat<SETS, WAYS>]) -> Option<HartId>
+    requires { length seats.now ≤ most_harts }
+    ensures some { IfSome result (IsFirstFresh (hart_at SETS seats.now) (length seats.now)) }
+    ensures none { IfNone result (NoneFresh (hart_at SETS seats.now) (length seats.now)) }
+{
+    for i in 0..seats.len() {
+        let seat = &seats[i];
+        if seat.hart.is_fresh() && seat.hart.status() == Status::Running {
+            return Some(HartId::new(i as u8));
+        }
+    }
+    None
+}
+
+/// Whether no hart that runs is fresh.
+pub(crate) fn none_is_fresh<const SETS: usize, const WAYS: usize>(
+    seats: &[Seat<SETS, WAYS>],
+    count: usize,
+) -> bool
+    requires count { count ≡ length seats.now }
+    requires few { count ≤ most_harts }
+    ensures { IsTrue result → NoneFresh (hart_at SETS seats.now) (length seats.now) }
+{
+    first_fresh(seats).is_none()
+}
+
+/// The lowest running hart from one number up to another.
+fn lowest_running<const SETS: usize, const WAYS: usize>(
+    seats: &[Seat<SETS, WAYS>],
+    from: usize,
+    to: usize,
+) -> Option<HartId>
+    requires within { to ≤ length seats.now }
+    requires few { to ≤ most_harts }
+    ensures some { IfSome result (λ i. (from ≤ i) × (i < to) × ((hart_at SETS seats.now i).status ≡ Running) × NoneRuns (hart_at SETS seats.now) from i) }
+    ensures none { IfNone result (NoneRuns (hart_at SETS seats.now) from to) }
+{
+    for i in from..to {
+        let seat = &seats[i];
+        if seat.hart.status() == Status::Running {
+            return Some(HartId::new(i as u8));
+        }
+    }
+    None
+}
+
+/// The turn of one of the harts, after another's.
+fn harts_turn<const SETS: usize, const WAYS: usize>(
+    seats: &[Seat<SETS, WAYS>],
+    count: usize,
+    after: HartId,
+) -> Option<Step>
+    requires count { count ≡ length seats.now }
+    requires few { count ≤ most_harts }
+    ensures { IsHartsTurn (hart_at SETS seats.now) (length seats.now) after result }
+{
+    if let Some(fresh) = first_fresh(seats) {
+        return Some(Step::Core(fresh));
+    }
+    match lowest_running(seats, after.index() + 1, count) {
+        Some(next) => Some(Step::Core(next)),
+        None => match lowest_running(seats, 0, count) {
+            Some(next) => Some(Step::Core(next)),
+            None => None,
+        },
+    }
+}
+
+/// The key of the oldest message that the directory doesn't hold.
+fn oldest_free(directory: &Directory, net: &Net) -> Option<usize>
+    ensures some { IfSome result (λ key. (w : MachineState) → w.entries ≡ entry_at directory.now → IsOldestFree w net.now.slots key) }
+    ensures none { IfNone result ((w : MachineState) → w.entries ≡ entry_at directory.now → AllHeld w net.now.slots) }
+{
+    if net.is_empty() {
+        return None;
+    }
+    net.oldest(|message| !is_held(directory, message))
+}
+
+impl<const SETS: usize, const WAYS: usize> Machine<SETS, WAYS> {
+    ghost use Rattle.machine.specs.States.{shown};
+
+    /// The turn after a hart's: the first that there is of the arrival of the oldest message that isn't held, the step of the lowest
+    /// running hart that is fresh, and that of the next running hart in the order of the numbers, and round. `None` where there is none.
+    pub fn next_turn(&self, after: HartId) -> Option<Step>
+        ensures { IsNextTurn (shown SETS self.now) self.now.flights after result }
+    {
+        if let Some(key) = oldest_free(&self.directory, &self.net) {
+            return Some(Step::Deliver(key));
+        }
+        harts_turn(&self.seats, self.directory.harts(), after)
+    }
+}

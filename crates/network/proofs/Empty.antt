@@ -1,0 +1,28 @@
+-- A slab without values has nothing under each key.
+use Rattle.std.proofs.Common.{◌≡◌, ℕ, zero, suc, Bool, true, List, [], ◌∷◌, Option, Some, None, cond, get_or, refl, sym, ◌∙◌}
+use Rattle.std.specs.Prelude.{◌==◌, is_some, count_by}
+use Rattle.std.proofs.lemmas.List.Folds.{sum_by-zero}
+use Rattle.std.specs.List.{list_all}
+
+abbrev none_here : {T : Type 0} → Option T → Bool
+none_here x = cond (is_some x) 1 0 == 0
+
+all_none : {T : Type 0} (slots : List (Option T)) → list_all none_here slots ≡ true → (key : ℕ) → get_or slots key None ≡ None
+all_none [] e key = refl
+all_none (None ∷ rest) e zero = refl
+all_none (None ∷ rest) e (suc key) = all_none rest e key
+all_none (Some x ∷ rest) e key = absurd (cc)
+
+none_all : {T : Type 0} (slots : List (Option T)) → ((key : ℕ) → get_or slots key None ≡ None) → list_all none_here slots ≡ true
+none_all [] none = refl
+none_all (None ∷ rest) none = none_all rest (λ key. none (suc key))
+none_all (Some x ∷ rest) none = absurd (there (none zero))
+  where
+    there : Some x ≡ None → ⊥
+    there e = cc
+
+pub empty_slots : {T : Type 0} (slots : List (Option T)) → count_by is_some slots == 0 ≡ true → (key : ℕ) → get_or slots key None ≡ None
+empty_slots slots e = all_none slots (sym (sum_by-zero (λ x. cond (is_some x) 1 0) slots) ∙ e)
+
+pub no_slots : {T : Type 0} (slots : List (Option T)) → ((key : ℕ) → get_or slots key None ≡ None) → count_by is_some slots == 0 ≡ true
+no_slots slots none = sum_by-zero (λ x. cond (is_some x) 1 0) slots ∙ none_all slots none

@@ -1,0 +1,40 @@
+-- The program in a file: a source's, where the file's name says so, else an ELF file's.
+use Rattle.std.specs.Prelude.{ℕ, ◌≡◌, ◌⊎◌, Bool, true, false, List, Err, Some, codes, nat_eq}
+use Rattle.std.specs.List.{ends_with}
+use Rattle.std.specs.Str.{IsUtf8}
+use Rattle.loader.specs.Programs.{Program}
+use Rattle.loader.specs.Checks.{fault_of}
+use Rattle.loader.specs.Elf.{IsElfOf}
+use Rattle.assembler.specs.Passes.{assembled}
+use Rattle.assembler.specs.Layouts.{IsSourceOf as IsSpelledBy}
+use Rattle.simulate.specs.declared.fault.Fault.{Fault}
+use Rattle.simulate.specs.declared.fault.Fault.TheVariants.{NotSource, Source, Load, NoMemory}
+
+-- whether the name of a file is that of a source
+abbrev pub is_source : List ℕ → Bool
+is_source path = ends_with nat_eq path (codes ".s")
+
+-- the bytes are text, and a source of the program
+abbrev pub IsSourceOf : List ℕ → Program → Type 0
+IsSourceOf file p = IsUtf8 file × IsSpelledBy file p
+
+-- the file with this name and these bytes has the program
+abbrev pub IsProgramIn : List ℕ → List ℕ → Program → Type 0
+IsProgramIn path file p = ((is_source path ≡ true) × IsSourceOf file p) ⊎ ((is_source path ≡ false) × IsElfOf file p)
+
+-- why the bytes are the source of no program: they are no text, or a line is refused. Nothing is said of when memory runs out
+abbrev pub IsSourceFault : List ℕ → Fault → Type 0
+IsSourceFault file NotSource = IsUtf8 file → ⊥
+IsSourceFault file (Source refused) = IsUtf8 file × (assembled file ≡ Err refused)
+IsSourceFault file NoMemory = Unit {0}
+IsSourceFault file other = ⊥
+
+-- why they are no ELF file of a program
+abbrev pub IsElfFault : List ℕ → Fault → Type 0
+IsElfFault file (Load fault) = fault_of file ≡ Some fault
+IsElfFault file NoMemory = Unit {0}
+IsElfFault file other = ⊥
+
+-- why there is no program in the file with this name and these bytes
+abbrev pub IsProgramFault : List ℕ → List ℕ → Fault → Type 0
+IsProgramFault path file fault = ((is_source path ≡ true) × IsSourceFault file fault) ⊎ ((is_source path ≡ false) × IsElfFault file fault)
