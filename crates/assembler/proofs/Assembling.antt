@@ -1,9 +1,9 @@
 -- The two passes together.
-use Rattle.std.proofs.Common.{◌≡◌, ℕ, ◌<◌, ◌≤◌, Bool, true, false, cond, nat_lt, List, Result, Ok, Err, refl, sym, ap, ◌∙◌, arith}
+use Rattle.std.proofs.Common.{◌≡◌, ℕ, ◌≤◌, false, cond, nat_lt, List, Result, Ok, Err, ap, ◌∙◌, arith}
 use Rattle.std.proofs.lemmas.Bool.Decides.{nat_tests}
 use Rattle.assembler.specs.declared.fault.SourceFault.{SourceFault}
-use Rattle.assembler.specs.declared.fault.AsmFault.TheVariants.{TooLarge}
-use Rattle.assembler.specs.Operands.{◌>>=◌}
+use Rattle.source_operands.specs.declared.fault.AsmFault.TheVariants.{TooLarge}
+use Rattle.source_operands.specs.Operands.{◌>>=◌}
 use Rattle.assembler.specs.Passes.{Survey, Layout, Assembled, labels_after, survey, lay, assembled}
 
 laid_after : (s : Survey) (source : List ℕ) → Result Assembled SourceFault

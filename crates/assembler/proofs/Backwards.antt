@@ -1,20 +1,20 @@
 -- Where a source is laid out, both passes find that.
-use Rattle.std.proofs.Common.{◌≡◌, ℕ, ◌+◌, ◌<◌, ◌≤◌, Bool, true, false, cond, not, nat_lt, bytes_eq, List, [], ◌∷◌, Option, Some, None, IfSome, Result, Ok, Err, refl, sym, ap, ap₂, subst, ◌∙◌, arith, true≢false}
+use Rattle.std.proofs.Common.{◌≡◌, ℕ, ◌+◌, ◌≤◌, Bool, true, false, cond, not, bytes_eq, List, [], ◌∷◌, Option, Some, None, IfSome, Result, Ok, refl, sym, ap, ap₂, subst, ◌∙◌, arith, true≢false}
 use mathlib.Core.Path.{fun_ext}
 use Rattle.std.specs.Option.{is_some}
 use Rattle.std.specs.List.{AllByRecursion}
-use Rattle.std.proofs.lemmas.Bool.Decides.{nat_tests}
 use Rattle.std.proofs.lemmas.Slice.Eq.{bytes_eq-Decides}
-use Rattle.assembler.specs.declared.fault.AsmFault.{AsmFault}
-use Rattle.assembler.specs.declared.fault.AsmFault.TheVariants.{TwiceDefined}
-use Rattle.assembler.specs.declared.fault.SourceFault.{SourceFault}
-use Rattle.assembler.specs.declared.place.Place.{Place}
-use Rattle.assembler.specs.declared.place.Progress.{Progress}
-use Rattle.assembler.specs.Cutting.{parts_of}
-use Rattle.assembler.specs.Operands.{◌>>=◌, checked}
-use Rattle.assembler.specs.Places.{Labels, here, start}
-use Rattle.assembler.specs.Statements.{Made, statement_of}
-use Rattle.assembler.specs.Passes.{Survey, Layout, Assembled, lines, checked_line, line_of, behind, with_label, with_made, survey_line, lay_line, at_line, pass, nowhere, survey, lay, labels_after, assembled}
+use Rattle.source_operands.specs.declared.fault.AsmFault.{AsmFault}
+use Rattle.source_operands.specs.declared.fault.AsmFault.TheVariants.{TwiceDefined}
+use Rattle.source_operands.specs.declared.place.Place.{Place}
+use Rattle.assembler.specs.declared.progress.Progress.{Progress}
+use Rattle.source_operands.specs.Cutting.{parts_of}
+use Rattle.source_operands.specs.Operands.{◌>>=◌, checked}
+use Rattle.source_operands.specs.Places.{Labels}
+use Rattle.assembler.specs.Progress.{here, start}
+use Rattle.statements.specs.Statements.{Made, statement_of}
+use Rattle.assembler.specs.Passes.{Survey, Layout, lines, behind, with_label, survey_line, lay_line, at_line, pass, nowhere, survey, lay, labels_after, assembled}
+use Rattle.statements.specs.Lines.{checked_line, line_of}
 use Rattle.assembler.specs.Layouts.{IsLaid, AreLaid, label_of, NoneHas, AreApart, IsLayoutOf}
 use Rattle.assembler.proofs.Sizes.{statement_alike, with_made_progress}
 use Rattle.assembler.proofs.Earlier.{statement_makes}

@@ -1,26 +1,26 @@
 -- What a line makes with the labels it makes without them too: the first pass finds no fault that the second doesn't.
-use Rattle.std.proofs.Common.{◌≡◌, ℕ, ◌%◌, ◌-◌, ◌^◌, ◌==◌, ◌++◌, Bool, true, false, cond, not, List, [], ◌∷◌, length, Option, Some, None, option_map, Result, Ok, Err, refl, sym, ap, ◌∙◌}
+use Rattle.std.proofs.Common.{◌≡◌, ℕ, ◌%◌, ◌-◌, ◌^◌, ◌==◌, ◌++◌, Bool, true, false, cond, List, [], ◌∷◌, length, Option, Some, None, Result, Ok, refl, ap, ◌∙◌}
 use Rattle.words.specs.declared.entry.Width.{Width}
 use Rattle.words.specs.declared.entry.Width.TheVariants as width
 use Rattle.words.specs.Bytes.{bytes_in}
 use Rattle.table.specs.declared.instr.Instr.{Instr}
 use Rattle.table.specs.declared.instr.Instr.TheVariants as instr
 use Rattle.table.specs.declared.instr.BranchOp.{BranchOp}
-use Rattle.assembler.specs.declared.fault.AsmFault.{AsmFault}
-use Rattle.assembler.specs.declared.fault.AsmFault.TheVariants.{Alignment}
-use Rattle.assembler.specs.declared.form.Form.{Form}
-use Rattle.assembler.specs.declared.form.Form.TheVariants as form
-use Rattle.assembler.specs.declared.form.Directive as directives
-use Rattle.assembler.specs.declared.form.Directive.TheVariants as directive
-use Rattle.assembler.specs.declared.place.Place.{Place}
-use Rattle.assembler.specs.Cutting.{cut_word, trim}
-use Rattle.assembler.specs.Numbers.{Number, number_of}
-use Rattle.assembler.specs.Forms.{form_named}
-use Rattle.assembler.specs.Operands.{◌>>=◌, guarded, checked, Find, Named, register, named_of, number_or_named, target, in_range, offset, value}
-use Rattle.assembler.specs.Instructions.{two, three, last, branch_of, branch_swapped_of, branch_zero_of, jal_of, tbegin_of, j_of}
-use Rattle.assembler.specs.Places.{Labels, find}
-use Rattle.assembler.specs.Statements.{Made, in_two, la_of, datum, read_data, operands, at_multiple, data_of, obeyed, directive_of, one, instruction_of, by_form, by_name, pc_of, statement_of}
-use Rattle.assembler.specs.Statements.Made.{Nothing, One, Numbers}
+use Rattle.source_operands.specs.declared.fault.AsmFault.{AsmFault}
+use Rattle.source_operands.specs.declared.fault.AsmFault.TheVariants.{Alignment}
+use Rattle.statements.specs.declared.form.Form.{Form}
+use Rattle.statements.specs.declared.form.Form.TheVariants as form
+use Rattle.statements.specs.declared.form.Directive as directives
+use Rattle.statements.specs.declared.form.Directive.TheVariants as directive
+use Rattle.source_operands.specs.declared.place.Place.{Place}
+use Rattle.source_operands.specs.Cutting.{cut_word, trim}
+use Rattle.source_operands.specs.Numbers.{Number, number_of}
+use Rattle.statements.specs.Forms.{form_named}
+use Rattle.source_operands.specs.Operands.{◌>>=◌, guarded, checked, Find, Named, register, named_of, number_or_named, target, in_range, offset, value}
+use Rattle.statements.specs.Instructions.{two, three, last, branch_of, branch_swapped_of, branch_zero_of, jal_of, tbegin_of, j_of}
+use Rattle.source_operands.specs.Places.{Labels, find}
+use Rattle.statements.specs.Statements.{Made, in_two, la_of, datum, read_data, operands, at_multiple, data_of, obeyed, directive_of, one, instruction_of, by_form, by_name, pc_of, statement_of}
+use Rattle.statements.specs.Statements.Made.{Nothing, One, Numbers}
 use Rattle.assembler.proofs.Sizes.{bind_ok, guarded_ok, checked_ok}
 
 abbrev pub Makes : {A : Type 0} → Result A AsmFault → Type 0

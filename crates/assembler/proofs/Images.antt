@@ -1,14 +1,15 @@
 -- The bytes of what lines make.
-use Rattle.std.proofs.Common.{◌≡◌, ℕ, ◌+◌, ◌*◌, ◌^◌, ◌<◌, suc, List, [], ◌∷◌, ◌++◌, length, take, refl, sym, ap, ap₂, ◌∙◌, arith, append_assoc, append-nil, length-append}
+use Rattle.std.proofs.Common.{◌≡◌, ℕ, ◌+◌, ◌*◌, suc, List, [], ◌∷◌, ◌++◌, length, take, refl, sym, ap, ap₂, ◌∙◌, arith, append_assoc, append-nil, length-append}
 use Rattle.std.specs.Int.{w32, to_le_bytes}
 use Rattle.words.specs.declared.entry.Width.{Width}
 use Rattle.words.specs.declared.entry.Width.TheVariants.{Byte, Half, Word}
 use Rattle.words.specs.Bytes.{bytes_in}
-use Rattle.assembler.specs.Statements.{Made}
-use Rattle.assembler.specs.Statements.Made.{Nothing, Enter, One, Two, Numbers, Zeros}
-use Rattle.assembler.specs.Places.{Labels}
+use Rattle.statements.specs.Statements.{Made}
+use Rattle.statements.specs.Statements.Made.{Nothing, Enter, One, Two, Numbers, Zeros}
+use Rattle.source_operands.specs.Places.{Labels}
 use Rattle.assembler.specs.Passes.{Layout}
-use Rattle.assembler.specs.Programs.{IsWordOf, low_bytes, AreBytesOf, AreBytesOfAll, IsProgramOf, segments_of}
+use Rattle.statements.specs.Bytes.{IsWordOf, low_bytes, AreBytesOf}
+use Rattle.assembler.specs.Programs.{AreBytesOfAll, IsProgramOf, segments_of}
 use Rattle.table.specs.declared.instr.Instr.{Instr}
 use Rattle.table.specs.Program.{Segment}
 use Rattle.table.proofs.OneWord.{one_word}

@@ -1,5 +1,5 @@
 -- A label more in the map.
-use Rattle.std.proofs.Common.{◌≡◌, ℕ, Bool, true, false, cond, not, bytes_eq, List, Option, Some, None, Result, Ok, Err, refl, sym, ap, ◌∙◌}
+use Rattle.std.proofs.Common.{◌≡◌, ℕ, false, cond, not, bytes_eq, List, Option, Some, Ok, sym, ap, ◌∙◌}
 use mathlib.Core.Path.{fun_ext}
 use Rattle.std.specs.Borrow.{Bor}
 use Rattle.std.specs.BTreeMap.{BTreeMap, UpdatesBy}
@@ -7,11 +7,10 @@ use Rattle.std.specs.Cmp.Lexicographic.{slice_cmp}
 use Rattle.std.specs.Ordering.{nat_cmp}
 use Rattle.std.specs.Option.{is_some}
 use Rattle.std.proofs.lemmas.Map.Text.{btree_map_updates_str}
-use Rattle.assembler.specs.declared.fault.AsmFault.{AsmFault}
-use Rattle.assembler.specs.declared.fault.AsmFault.TheVariants.{TwiceDefined}
-use Rattle.assembler.specs.declared.place.Place.{Place}
-use Rattle.assembler.specs.Operands.{checked}
-use Rattle.assembler.specs.Places.{places_in}
+use Rattle.source_operands.specs.declared.fault.AsmFault.TheVariants.{TwiceDefined}
+use Rattle.source_operands.specs.declared.place.Place.{Place}
+use Rattle.source_operands.specs.Operands.{checked}
+use Rattle.source_operands.specs.Places.{places_in}
 use Rattle.assembler.specs.Passes.{with_label}
 
 pub label_kept : (name : List ℕ) (at : Place) (m n : BTreeMap (Bor (List ℕ)) Place)

@@ -1,19 +1,22 @@
 -- A line of the second pass.
-use Rattle.std.proofs.Common.{◌≡◌, ℕ, ◌+◌, ◌≤◌, Bool, true, false, cond, nat_le, List, [], ◌∷◌, ◌++◌, length, Option, Some, None, Result, Ok, Err, refl, sym, ap, subst, ◌∙◌, arith, length-append}
+use Rattle.std.proofs.Common.{◌≡◌, ℕ, ◌+◌, ◌≤◌, Bool, true, false, cond, nat_le, List, ◌++◌, length, Some, None, Result, Ok, Err, refl, sym, ap, subst, ◌∙◌, arith, length-append}
 use Rattle.std.specs.Option.{ok_or}
 use Rattle.std.proofs.lemmas.Bool.Decides.{nat_tests}
-use Rattle.assembler.specs.declared.fault.AsmFault.{AsmFault}
-use Rattle.assembler.specs.declared.fault.AsmFault.TheVariants.{TooLarge}
-use Rattle.assembler.specs.declared.place.Place.{Place}
-use Rattle.assembler.specs.declared.place.Progress.{Progress}
-use Rattle.assembler.specs.declared.place.Section.{Section}
-use Rattle.assembler.specs.declared.place.Section.TheVariants.{Text, Data}
-use Rattle.assembler.specs.Operands.{◌>>=◌}
-use Rattle.assembler.specs.Places.{Labels, here, with_more, grown}
-use Rattle.assembler.specs.Statements.{Made}
-use Rattle.assembler.specs.Statements.Made.{Nothing, Enter, One, Two, Numbers, Zeros}
-use Rattle.assembler.specs.Passes.{Layout, line_of, size_of, entered, behind, with_made, lay_line}
-use Rattle.assembler.specs.Programs.{AreBytesOf, IsAppended, IsImageOf}
+use Rattle.source_operands.specs.declared.fault.AsmFault.{AsmFault}
+use Rattle.source_operands.specs.declared.fault.AsmFault.TheVariants.{TooLarge}
+use Rattle.source_operands.specs.declared.place.Place.{Place}
+use Rattle.assembler.specs.declared.progress.Progress.{Progress}
+use Rattle.source_operands.specs.declared.place.Section.{Section}
+use Rattle.source_operands.specs.declared.place.Section.TheVariants.{Text, Data}
+use Rattle.source_operands.specs.Operands.{◌>>=◌}
+use Rattle.source_operands.specs.Places.{Labels}
+use Rattle.assembler.specs.Progress.{here, with_more, grown}
+use Rattle.statements.specs.Statements.{Made}
+use Rattle.statements.specs.Statements.Made.{Nothing, Enter, One, Two, Numbers, Zeros}
+use Rattle.assembler.specs.Passes.{Layout, size_of, entered, behind, with_made, lay_line}
+use Rattle.statements.specs.Lines.{line_of}
+use Rattle.statements.specs.Bytes.{AreBytesOf}
+use Rattle.assembler.specs.Programs.{IsAppended, IsImageOf}
 use Rattle.assembler.proofs.Images.{bytes_more}
 
 -- so many bytes more in a section

@@ -1,17 +1,17 @@
 -- Where both passes find no fault the source is laid out, and the labels are those of its lines.
-use Rattle.std.proofs.Common.{◌≡◌, ℕ, ◌+◌, ◌<◌, ◌≤◌, Bool, true, false, cond, not, nat_lt, bytes_eq, List, [], ◌∷◌, Option, Some, None, IfSome, Result, Ok, Err, refl, sym, ap, subst, ◌∙◌, arith, true≢false}
+use Rattle.std.proofs.Common.{◌≡◌, ℕ, ◌+◌, Bool, true, false, cond, not, nat_lt, bytes_eq, List, [], ◌∷◌, Option, Some, None, IfSome, Result, Ok, Err, refl, sym, ap, subst, ◌∙◌, arith, true≢false}
 use Rattle.std.specs.Option.{is_some}
 use Rattle.std.proofs.lemmas.Bool.Decides.{nat_tests}
 use Rattle.std.proofs.lemmas.Slice.Eq.{bytes_eq-Decides}
-use Rattle.assembler.specs.declared.fault.AsmFault.{AsmFault}
-use Rattle.assembler.specs.declared.fault.AsmFault.TheVariants.{TwiceDefined, TooLarge}
+use Rattle.source_operands.specs.declared.fault.AsmFault.TheVariants.{TwiceDefined, TooLarge}
 use Rattle.assembler.specs.declared.fault.SourceFault.{SourceFault}
-use Rattle.assembler.specs.declared.place.Place.{Place}
-use Rattle.assembler.specs.declared.place.Progress.{Progress}
-use Rattle.assembler.specs.Cutting.{parts_of}
-use Rattle.assembler.specs.Operands.{◌>>=◌, checked}
-use Rattle.assembler.specs.Places.{Labels, here, start}
-use Rattle.assembler.specs.Passes.{Survey, Layout, Assembled, lines, checked_line, with_label, with_made, survey_line, lay_line, at_line, pass, nowhere, survey, lay, labels_after, assembled}
+use Rattle.source_operands.specs.declared.place.Place.{Place}
+use Rattle.assembler.specs.declared.progress.Progress.{Progress}
+use Rattle.source_operands.specs.Cutting.{parts_of}
+use Rattle.source_operands.specs.Places.{Labels}
+use Rattle.assembler.specs.Progress.{here, start}
+use Rattle.assembler.specs.Passes.{Survey, Layout, Assembled, lines, with_label, survey_line, lay_line, at_line, pass, nowhere, survey, lay, labels_after, assembled}
+use Rattle.statements.specs.Lines.{checked_line}
 use Rattle.assembler.specs.Layouts.{IsLaid, AreLaid, label_of, NoneHas, AreApart, IsLayoutOf}
 use Rattle.assembler.proofs.Sizes.{bind_ok, checked_ok, ok_same, end_same, at_line_ok, SurveyedTo, surveyed_to, LaidTo, laid_to, line_keeps, ends_same}
 

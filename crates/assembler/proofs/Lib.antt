@@ -1,14 +1,10 @@
 pub mod Answering
 pub mod Assembling
 pub mod Backwards
-pub mod Blanks
-pub mod Cuts
 pub mod Earlier
-pub mod Far
 pub mod Images
 pub mod Labels
 pub mod Laying
 pub mod Layouts
-pub mod Parts
 pub mod Passing
 pub mod Sizes

@@ -1,29 +1,31 @@
 -- A line makes as many bytes with the labels as without them, so the second pass ends where the first did.
-use Rattle.std.proofs.Common.{◌≡◌, ℕ, ◌+◌, ◌*◌, ◌==◌, Bool, true, false, cond, not, List, [], ◌∷◌, ◌++◌, length, Option, Some, None, option_map, Result, Ok, Err, refl, sym, ap, subst, ◌∙◌, arith, length-append}
+use Rattle.std.proofs.Common.{◌≡◌, ℕ, ◌+◌, ◌*◌, ◌==◌, Bool, true, false, cond, List, [], ◌∷◌, ◌++◌, length, Option, Some, None, option_map, Result, Ok, Err, refl, sym, ap, ◌∙◌, arith, length-append}
 use Rattle.std.specs.Option.{ok_or}
 use Rattle.words.specs.declared.entry.Width.{Width}
 use Rattle.words.specs.declared.entry.Width.TheVariants as width
 use Rattle.words.specs.Bytes.{bytes_in}
 use Rattle.table.specs.declared.instr.Instr.{Instr}
-use Rattle.assembler.specs.declared.fault.AsmFault.{AsmFault}
-use Rattle.assembler.specs.declared.fault.AsmFault.TheVariants.{TooLarge}
+use Rattle.source_operands.specs.declared.fault.AsmFault.{AsmFault}
+use Rattle.source_operands.specs.declared.fault.AsmFault.TheVariants.{TooLarge}
 use Rattle.assembler.specs.declared.fault.SourceFault.{SourceFault}
-use Rattle.assembler.specs.declared.form.Form.{Form}
-use Rattle.assembler.specs.declared.form.Form.TheVariants as form
-use Rattle.assembler.specs.declared.form.Directive as directives
-use Rattle.assembler.specs.declared.form.Directive.TheVariants as directive
-use Rattle.assembler.specs.declared.place.Place.{Place}
-use Rattle.assembler.specs.declared.place.Progress.{Progress}
-use Rattle.assembler.specs.declared.place.Section.{Section}
-use Rattle.assembler.specs.declared.place.Section.TheVariants.{Text, Data}
-use Rattle.assembler.specs.Cutting.{cut_word, parts_of, trim}
-use Rattle.assembler.specs.Forms.{form_named}
-use Rattle.assembler.specs.Operands.{◌>>=◌, guarded, checked, Find, register, value}
-use Rattle.assembler.specs.Instructions.{two}
-use Rattle.assembler.specs.Places.{Labels, find, here, start, grown}
-use Rattle.assembler.specs.Statements.{Made, in_two, la_of, li_of, datum, read_data, operands, all_found, at_multiple, data_of, obeyed, directive_of, one, by_form, by_name, statement_of}
-use Rattle.assembler.specs.Statements.Made.{Nothing, One, Two, Numbers}
-use Rattle.assembler.specs.Passes.{Survey, Layout, lines, checked_line, line_of, behind, with_label, survey_line, lay_line, with_made, at_line, pass, nowhere, survey, lay}
+use Rattle.statements.specs.declared.form.Form.{Form}
+use Rattle.statements.specs.declared.form.Form.TheVariants as form
+use Rattle.statements.specs.declared.form.Directive as directives
+use Rattle.statements.specs.declared.form.Directive.TheVariants as directive
+use Rattle.source_operands.specs.declared.place.Place.{Place}
+use Rattle.assembler.specs.declared.progress.Progress.{Progress}
+use Rattle.source_operands.specs.declared.place.Section.{Section}
+use Rattle.source_operands.specs.declared.place.Section.TheVariants.{Text, Data}
+use Rattle.source_operands.specs.Cutting.{cut_word, parts_of, trim}
+use Rattle.statements.specs.Forms.{form_named}
+use Rattle.source_operands.specs.Operands.{◌>>=◌, guarded, checked, Find, register, value}
+use Rattle.statements.specs.Instructions.{two}
+use Rattle.source_operands.specs.Places.{Labels, find}
+use Rattle.assembler.specs.Progress.{here, start, grown}
+use Rattle.statements.specs.Statements.{Made, in_two, la_of, datum, read_data, operands, all_found, at_multiple, data_of, obeyed, directive_of, one, by_form, by_name, statement_of}
+use Rattle.statements.specs.Statements.Made.{Nothing, One, Numbers}
+use Rattle.assembler.specs.Passes.{Survey, Layout, lines, behind, with_label, survey_line, lay_line, with_made, at_line, pass, nowhere, survey, lay}
+use Rattle.statements.specs.Lines.{checked_line, line_of}
 
 -- what went before a result that is no fault
 

@@ -2,14 +2,16 @@
 -- are those of the lines.
 use Rattle.std.specs.Prelude.{◌≡◌, ℕ, ◌≤◌, List, [], ◌∷◌, Option, Some, None, IfSome, Result, Ok, Err}
 use Rattle.std.specs.List.{AllByRecursion}
-use Rattle.assembler.specs.declared.fault.AsmFault.{AsmFault}
-use Rattle.assembler.specs.declared.place.Progress.{Progress}
-use Rattle.assembler.specs.Cutting.{parts_of}
-use Rattle.assembler.specs.Places.{Labels, here, start}
-use Rattle.assembler.specs.Statements.{Made, statement_of}
+use Rattle.source_operands.specs.declared.fault.AsmFault.{AsmFault}
+use Rattle.assembler.specs.declared.progress.Progress.{Progress}
+use Rattle.source_operands.specs.Cutting.{parts_of}
+use Rattle.source_operands.specs.Places.{Labels}
+use Rattle.assembler.specs.Progress.{here, start}
+use Rattle.statements.specs.Statements.{Made, statement_of}
 use Rattle.assembler.specs.Programs.{IsProgramOf}
 use Rattle.loader.specs.Programs.{Program}
-use Rattle.assembler.specs.Passes.{Layout, lines, checked_line, behind, with_made}
+use Rattle.assembler.specs.Passes.{Layout, lines, behind, with_made}
+use Rattle.statements.specs.Lines.{checked_line}
 
 -- A line between two layouts: its label is the name of its place, and what its statement makes there comes next in its section.
 pub record IsLaid (labels : Labels) (line : List ℕ) (l k : Layout) : Type 0 where

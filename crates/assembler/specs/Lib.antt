@@ -1,12 +1,4 @@
-pub mod Cutting
-pub mod Faults
-pub mod Forms
-pub mod Instructions
 pub mod Layouts
-pub mod Numbers
-pub mod Operands
 pub mod Passes
-pub mod Places
 pub mod Programs
-pub mod Registers
-pub mod Statements
+pub mod Progress

@@ -1,37 +1,28 @@
 -- The two passes over the lines of a source. The first finds where the labels stand, the second what the lines make.
-use Rattle.std.specs.Prelude.{ℕ, ◌+◌, ◌*◌, ◌==◌, ◌&&◌, not, if◌then◌else◌, nat_le, nat_lt, bytes_eq, Bool, List, [], ◌∷◌, ◌++◌, length, take, replicate, Option, Some, None, Result, Ok, Err}
+use Rattle.std.specs.Prelude.{ℕ, ◌+◌, ◌*◌, ◌==◌, not, if◌then◌else◌, nat_lt, bytes_eq, List, [], ◌∷◌, ◌++◌, length, Option, Some, None, Result, Ok, Err}
 use Rattle.std.specs.List.{slice_split}
 use Rattle.std.specs.Option.{is_some, ok_or}
-use Rattle.std.specs.Str.Lines.{strip_carriage_return}
 use Rattle.words.specs.Bytes.{bytes_in}
-use Rattle.assembler.specs.declared.fault.AsmFault.{AsmFault}
-use Rattle.assembler.specs.declared.fault.AsmFault.TheVariants.{TwiceDefined, TooLarge}
+use Rattle.source_operands.specs.declared.fault.AsmFault.{AsmFault}
+use Rattle.source_operands.specs.declared.fault.AsmFault.TheVariants.{TwiceDefined, TooLarge}
 use Rattle.assembler.specs.declared.fault.SourceFault.{SourceFault}
-use Rattle.assembler.specs.declared.place.Place.{Place}
-use Rattle.assembler.specs.declared.place.Progress.{Progress}
-use Rattle.assembler.specs.declared.place.Section.{Section}
-use Rattle.assembler.specs.declared.place.Section.TheVariants.{Text, Data}
-use Rattle.assembler.specs.Cutting.{parts_of}
-use Rattle.assembler.specs.Places.{Labels, here, start, grown}
-use Rattle.assembler.specs.Operands.{◌>>=◌, checked}
-use Rattle.assembler.specs.Statements.{Made, statement_of}
-use Rattle.assembler.specs.Statements.Made.{Nothing, Enter, One, Two, Numbers, Zeros}
+use Rattle.source_operands.specs.declared.place.Place.{Place}
+use Rattle.assembler.specs.declared.progress.Progress.{Progress}
+use Rattle.source_operands.specs.declared.place.Section.{Section}
+use Rattle.source_operands.specs.declared.place.Section.TheVariants.{Text, Data}
+use Rattle.source_operands.specs.Cutting.{parts_of}
+use Rattle.source_operands.specs.Places.{Labels}
+use Rattle.assembler.specs.Progress.{here, start, grown}
+use Rattle.source_operands.specs.Operands.{◌>>=◌, checked}
+use Rattle.statements.specs.Lines.{checked_line, line_of}
+use Rattle.statements.specs.Statements.{Made, statement_of}
+use Rattle.statements.specs.Statements.Made.{Nothing, Enter, One, Two, Numbers, Zeros}
 
 -- Lines
 
 -- the lines of a source: a line feed ends each but the last
 abbrev pub lines : List ℕ → List (List ℕ)
 lines source = slice_split (λ c. c == 10) source
-
--- a line without a carriage return at its end, if it has at most 255 bytes then
-unfoldable pub checked_line : List ℕ → Result (List ℕ) AsmFault
-checked_line line = checked (nat_le (length (strip_carriage_return line)) 255) TooLarge (strip_carriage_return line)
-
--- what a line makes at its place, with the labels, if they are known yet
-unfoldable pub line_of : Place → Option Labels → List ℕ → Result Made AsmFault
-line_of at labels line = do
-  text ← checked_line line
-  statement_of at labels (parts_of text).statement
 
 -- how many bytes are made
 abbrev pub size_of : Made → ℕ

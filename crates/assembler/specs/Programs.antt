@@ -1,42 +1,14 @@
 -- The program that a source makes.
-use Rattle.std.specs.Prelude.{◌≡◌, ℕ, ◌+◌, ◌%◌, ◌^◌, ◌==◌, ◌&&◌, ◌<◌, ◌≤◌, if◌then◌else◌, nat_le, Bool, true, false, List, [], ◌∷◌, ◌++◌, length, take, replicate, map, codes, Option, Some, None}
-use Rattle.std.specs.Int.{w32, to_le_bytes}
-use Rattle.std.specs.List.{flat_map}
-use Rattle.words.specs.declared.entry.Width.{Width}
-use Rattle.words.specs.Bytes.{bytes_in}
-use Rattle.table.specs.Table.{decoded}
+use Rattle.std.specs.Prelude.{◌≡◌, ℕ, ◌+◌, ◌%◌, ◌==◌, ◌&&◌, ◌≤◌, if◌then◌else◌, nat_le, Bool, true, false, List, [], ◌∷◌, ◌++◌, length, codes, Option, Some, None}
 use Rattle.table.specs.Program.{Segment}
-use Rattle.table.specs.declared.instr.Instr.{Instr}
 use Rattle.loader.specs.Programs.{Program}
-use Rattle.assembler.specs.declared.place.Place.{Place}
-use Rattle.assembler.specs.declared.place.Section.{Section}
-use Rattle.assembler.specs.declared.place.Section.TheVariants.{Text, Data}
-use Rattle.assembler.specs.Places.{Labels, address, data_start}
-use Rattle.assembler.specs.Statements.{Made}
-use Rattle.assembler.specs.Statements.Made.{Nothing, Enter, One, Two, Numbers, Zeros}
+use Rattle.source_operands.specs.declared.place.Place.{Place}
+use Rattle.source_operands.specs.declared.place.Section.{Section}
+use Rattle.source_operands.specs.declared.place.Section.TheVariants.{Text, Data}
+use Rattle.source_operands.specs.Places.{Labels, data_start}
+use Rattle.statements.specs.Statements.{Made}
+use Rattle.statements.specs.Bytes.{AreBytesOf}
 use Rattle.assembler.specs.Passes.{Layout}
-
--- Bytes, the lowest of each number first
-
--- the word of an instruction is the one that the instruction table decodes to it
-pub record IsWordOf (i : Instr) (bytes : List ℕ) : Type 0 where
-  pub word : ℕ
-  pub bound : word < 2 ^ 32
-  pub decodes : decoded word ≡ Some i
-  pub spelled : bytes ≡ to_le_bytes w32 word
-
--- the low bytes of numbers, as many as the width has
-abbrev pub low_bytes : Width → List ℕ → List ℕ
-low_bytes width values = flat_map (λ v. take (bytes_in width) (to_le_bytes w32 v)) values
-
--- the bytes of what a line makes
-abbrev pub AreBytesOf : Made → List ℕ → Type 0
-AreBytesOf Nothing bytes = bytes ≡ []
-AreBytesOf (Enter section) bytes = bytes ≡ []
-AreBytesOf (One i) bytes = IsWordOf i bytes
-AreBytesOf (Two i j) bytes = (a : List ℕ) × (b : List ℕ) × IsWordOf i a × IsWordOf j b × (bytes ≡ a ++ b)
-AreBytesOf (Numbers width values) bytes = bytes ≡ low_bytes width values
-AreBytesOf (Zeros count) bytes = bytes ≡ replicate count 0
 
 -- the bytes of what lines make, one behind another
 abbrev pub AreBytesOfAll : List Made → List ℕ → Type 0

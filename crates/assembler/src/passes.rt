@@ -1,46 +1,26 @@
 //! A source as a program, in two passes over its lines.
 ghost use Rattle.std.specs.Prelude.{ℕ, ◌≡◌, ◌≢◌, ◌≤◌, ◌<◌, ◌+◌, ◌++◌, ◌%◌, ◌^◌, List, [], length, replicate, ◌⊎◌, option_map, codes, Some, Ok, Err, MatchResult, IfOk, OnOk};
-ghost use Rattle.assembler.specs.Programs.{IsWordOf, AreBytesOf, IsAppended, IsImageOf, IsProgramOf, low_bytes};
+ghost use Rattle.statements.specs.Bytes.{IsWordOf, AreBytesOf, low_bytes};
+ghost use Rattle.assembler.specs.Programs.{IsAppended, IsImageOf, IsProgramOf};
 ghost use Rattle.assembler.specs.Passes.{Assembled, Layout};
 ghost use Rattle.assembler.specs.Layouts.{IsSourceOf};
-ghost use Rattle.assembler.specs.declared.place.Progress.{Progress};
-ghost use Rattle.assembler.specs.Statements.{made};
-ghost use Rattle.assembler.specs.Places as places;
+ghost use Rattle.assembler.specs.declared.progress.Progress.{Progress};
+ghost use Rattle.statements.specs.Statements.{made};
+ghost use Rattle.source_operands.specs.Places as places;
 ghost use Rattle.std.specs.Result.{IfErr, IsErrAnd};
 ghost use Rattle.loader.specs.Programs.{Program as ProgramValue};
 ghost use Rattle.assembler.specs.Passes as spec;
 ghost use Rattle.assembler.specs.Programs as programs;
 
-use crate::fault::{AsmFault, SourceFault};
-use crate::made::Words;
-use crate::place::{Names, Place, Progress, Section, Size, data_start};
-use crate::statement::statement;
-use crate::text::{cut, cut_line};
+use crate::fault::SourceFault;
+use crate::progress::Progress;
 use loader::Program;
+use source_operands::{AsmFault, Names, Place, Section, Size, cut, cut_line, data_start};
+use statements::{Words, checked_line, line_at, read_statement};
 use std::alloc::{AllocError, Global};
 use std::collections::BTreeMap;
 use table::{Instr, Segment, byte_count, encode};
 use words::{Addr, Width};
-
-/// How many bytes a line may have.
-const LINE: usize = 255;
-
-/// A line without the CR at its end, if it is not too long.
-#[tactic(auto, unfolding(crate::specs::Passes::checked_line))]
-fn checked_line(line: &[u8]) -> Result<&[u8], AsmFault>
-    ensures exact { MatchResult result (λ x. spec.checked_line line.now ≡ Ok x.now) (λ e. spec.checked_line line.now ≡ Err e) }
-    ensures short { IfOk result (λ x. length x.now ≤ 255) }
-{
-    let line = match line {
-        [text @ .., b'\r'] => text,
-        _ => line,
-    };
-    if line.len() <= LINE {
-        Ok(line)
-    } else {
-        Err(AsmFault::TooLarge)
-    }
-}
 
 /// How many bytes are made.
 fn size_of(words: &Words) -> u64
@@ -105,7 +85,7 @@ fn survey_line<'a>(
     let parts = cut_line(checked_line(line)?);
     let here = progress.here();
     keep_label(labels, parts.label, here)?;
-    let words = statement(parts.statement, here, None)?;
+    let words = read_statement(parts.statement, here, None)?;
     behind(&words, &progress)
 }
 
@@ -141,8 +121,8 @@ fn survey<'a>(
 /// The bytes of text and of data.
 #[derive(Drop)]
 struct Image {
-    text: Vec<u8>,
-    data: Vec<u8>,
+    text_bytes: Vec<u8>,
+    data_bytes: Vec<u8>,
 }
 
 /// Appends the word of an instruction.
@@ -189,22 +169,13 @@ fn append(bytes: &mut Vec<u8>, words: &Words) -> Result<(), AllocError>
     }
 }
 
-/// What a line makes at its place, as far as that is known.
-#[tactic(auto, unfolding(crate::specs::Passes::line_of))]
-fn line_at(line: &[u8], names: &Names, at: Place) -> Result<Words, AsmFault>
-    ensures { MatchResult result (λ x. spec.line_of at (Some (places.labels_of names.now)) line.now ≡ Ok (made x)) (λ e. spec.line_of at (Some (places.labels_of names.now)) line.now ≡ Err e) }
-{
-    let parts = cut_line(checked_line(line)?);
-    statement(parts.statement, at, Some(names))
-}
-
 /// Appends what a line made in a section.
 fn append_to(image: &mut Image, section: Section, words: &Words) -> Result<(), AllocError>
-    ensures { OnOk result ((more : List ℕ) × AreBytesOf (made words.now) more × (length more ≡ spec.size_of (made words.now)) × IsAppended section more image.old.text.items image.old.data.items image.new.text.items image.new.data.items) }
+    ensures { OnOk result ((more : List ℕ) × AreBytesOf (made words.now) more × (length more ≡ spec.size_of (made words.now)) × IsAppended section more image.old.text_bytes.items image.old.data_bytes.items image.new.text_bytes.items image.new.data_bytes.items) }
 {
     match section {
-        Section::Text => append(&mut image.text, words),
-        Section::Data => append(&mut image.data, words),
+        Section::Text => append(&mut image.text_bytes, words),
+        Section::Data => append(&mut image.data_bytes, words),
     }
 }
 
@@ -215,8 +186,8 @@ fn write_line(
     line: &[u8],
     image: &mut Image,
 ) -> Result<Progress, AsmFault>
-    ensures { (l : Layout) → l.progress ≡ progress.now → IsImageOf l image.old.text.items image.old.data.items → MatchResult result
-        (λ p. (m : Layout) × (spec.lay_line (places.labels_of names.now) line.now l ≡ Ok m) × (m.progress ≡ p) × IsImageOf m image.new.text.items image.new.data.items)
+    ensures { (l : Layout) → l.progress ≡ progress.now → IsImageOf l image.old.text_bytes.items image.old.data_bytes.items → MatchResult result
+        (λ p. (m : Layout) × (spec.lay_line (places.labels_of names.now) line.now l ≡ Ok m) × (m.progress ≡ p) × IsImageOf m image.new.text_bytes.items image.new.data_bytes.items)
         (λ e. e ≢ AsmFault.NoMemory → spec.lay_line (places.labels_of names.now) line.now l ≡ Err e) }
 {
     let here = progress.here();
@@ -228,10 +199,10 @@ fn write_line(
 
 /// The second pass: the bytes of the lines.
 fn write(source: &[u8], names: &Names, image: &mut Image) -> Result<(), SourceFault>
-    requires no_text { image.old.text.items ≡ [] }
-    requires no_data { image.old.data.items ≡ [] }
+    requires no_text { image.old.text_bytes.items ≡ [] }
+    requires no_data { image.old.data_bytes.items ≡ [] }
     ensures { MatchResult result
-        (λ _. (l : Layout) × (spec.lay (places.labels_of names.now) source.now ≡ Ok l) × IsImageOf l image.new.text.items image.new.data.items)
+        (λ _. (l : Layout) × (spec.lay (places.labels_of names.now) source.now ≡ Ok l) × IsImageOf l image.new.text_bytes.items image.new.data_bytes.items)
         (λ e. e.fault ≢ AsmFault.NoMemory → spec.lay (places.labels_of names.now) source.now ≡ Err e) }
 {
     let mut progress = Progress::start();
@@ -272,43 +243,39 @@ fn entry(names: &Names) -> u32
 
 /// The segments of text and of data, which has one if it has a byte.
 fn segments(alloc: Global, image: Image, text_size: Size) -> Result<Vec<Segment>, AllocError>
-    requires text { length image.text.items ≤ 1048576 }
-    requires bytes { length image.data.items ≤ 1048576 }
-    ensures { IfOk result (λ v. v.items ≡ programs.segments_of text_size image.text.items image.data.items) }
+    requires text { length image.text_bytes.items ≤ 1048576 }
+    requires bytes { length image.data_bytes.items ≤ 1048576 }
+    ensures { IfOk result (λ v. v.items ≡ programs.segments_of text_size image.text_bytes.items image.data_bytes.items) }
 {
-    let Image { text, data } = image;
+    let Image {
+        text_bytes,
+        data_bytes,
+    } = image;
     let mut segments = Vec::new(alloc);
     segments.push(Segment {
         addr: 4096,
-        size: text.len() as u32,
-        bytes: text,
+        size: text_bytes.len() as u32,
+        bytes: text_bytes,
         exec: true,
     })?;
-    if !data.is_empty() {
+    if !data_bytes.is_empty() {
         segments.push(Segment {
             addr: data_start(text_size),
-            size: data.len() as u32,
-            bytes: data,
+            size: data_bytes.len() as u32,
+            bytes: data_bytes,
             exec: false,
         })?;
     }
     Ok(segments)
 }
 
-/// What a line of source makes at its place, with the labels of its source.
-pub fn line(text: &str, names: &Names, at: Place) -> Result<Words, AsmFault>
-    ensures { MatchResult result (λ x. spec.line_of at (Some (places.labels_of names.now)) text.now ≡ Ok (made x)) (λ e. spec.line_of at (Some (places.labels_of names.now)) text.now ≡ Err e) }
-{
-    line_at(text.as_bytes(), names, at)
-}
-
 /// The program of an image.
 fn program(alloc: Global, image: Image, names: &Names) -> Result<Program, AllocError>
-    requires some_word { 4 ≤ length image.text.items }
-    requires size { length image.text.items ≡ names.now.text_size }
-    requires most { length image.text.items + length image.data.items ≤ 1048576 }
+    requires some_word { 4 ≤ length image.text_bytes.items }
+    requires size { length image.text_bytes.items ≡ names.now.text_size }
+    requires most { length image.text_bytes.items + length image.data_bytes.items ≤ 1048576 }
     ensures entry { IfOk result (λ p. p.entry ≡ programs.entry_at names.now.text_size (places.places_in names.now.labels.now (codes "_start"))) }
-    ensures segments { IfOk result (λ p. p.segments ≡ programs.segments_of names.now.text_size image.text.items image.data.items) }
+    ensures segments { IfOk result (λ p. p.segments ≡ programs.segments_of names.now.text_size image.text_bytes.items image.data_bytes.items) }
 {
     let entry = entry(names);
     let segments = segments(alloc, image, names.text_size)?;
@@ -330,8 +297,8 @@ fn finish(
 {
     let names = Names { labels, text_size };
     let mut image = Image {
-        text: Vec::new(alloc),
-        data: Vec::new(alloc),
+        text_bytes: Vec::new(alloc),
+        data_bytes: Vec::new(alloc),
     };
     write(source, &names, &mut image)?;
     Ok(program(alloc, image, &names)?)

@@ -1,3 +1,4 @@
+mod hostile;
 mod tables;
 
 use crate::{AsmFault, SourceFault, assemble};

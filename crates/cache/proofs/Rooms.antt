@@ -1,7 +1,6 @@
 -- Room in a set, while lines of it change.
 use Rattle.std.proofs.Common.{◌≡◌, ◌≢◌, ℕ, ◌%◌, Bool, false, true, IsSome, Option, Some, None, List, [], length, get_or, set, refl, ap, ◌∙◌, position, get_or-set_same, get_or-set_other, length-set, inl, inr}
 use Rattle.std.proofs.lemmas.Bool.{cases_eq}
-use Rattle.std.proofs.lemmas.Option.{none-some}
 use Rattle.cache.specs.declared.line.Line.{Line}
 use Rattle.cache.specs.Ways.{holds, is_free}
 use Rattle.cache.specs.Sets.{Sets, IsSound, HasRoom, with_way}

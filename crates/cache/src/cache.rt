@@ -11,9 +11,7 @@ ghost use Rattle.cache.specs.Sets.{line_at, HasRoom, GoesFor, victim_at, SetsLin
 
 use crate::bytes::with_bytes;
 use crate::line::Line;
-use crate::ways::{
-    Victim, clear_sets, free_way, line_of, line_ref, mark, put_word, victim_of, way_of,
-};
+use crate::ways::{Victim, clear_sets, free_way, line_of, mark, put_word, victim_of, way_of};
 use std::array;
 use std::marker::Model;
 use words::{Addr, BLOCK_WORDS, Block, BlockNo, LineState, Marks, Width};
@@ -67,18 +65,6 @@ impl<const SETS: usize, const WAYS: usize> Cache<SETS, WAYS> {
     {
         let sets = &self.sets[..];
         line_of(&sets[block.index() % SETS], block)
-    }
-
-    /// The line of a block where it stands, if there is one.
-    #[inline(always)]
-    #[tactic(auto, unfolding(crate::specs::Sets::line_at))]
-    pub fn peek(&self, block: BlockNo) -> Option<&Line>
-        ensures value { option_map (λ line. line.now) result ≡ line_at SETS self.now block }
-        ensures block { IfSome result (λ line. line.now.block ≡ block) }
-        ensures owned { IfSome result (λ line. IsTrue line.now.marks.written → line.now.state ≡ Modified) }
-    {
-        let sets = &self.sets[..];
-        line_ref(&sets[block.index() % SETS], block)
     }
 
     /// The word at an address, which is rounded down to a multiple of 4, if its block has a line.

@@ -70,20 +70,6 @@ pub fn line_of(ways: &[Option<Line>], block: BlockNo) -> Option<Line>
     }
 }
 
-/// The same line, where it stands.
-#[inline(always)]
-pub fn line_ref(ways: &[Option<Line>], block: BlockNo) -> Option<&Line>
-    ensures { option_map (λ line. line.now) result ≡ line_in block ways.now }
-{
-    match way_of(ways, block) {
-        Some(way) => match &ways[way] {
-            Some(line) => Some(line),
-            None => None,
-        },
-        None => None,
-    }
-}
-
 /// What has to go before a line comes into these ways.
 pub fn victim_of(ways: &[Option<Line>]) -> Victim
     requires { 0 < length ways.now }

@@ -1,6 +1,6 @@
 -- What the values that clap found stand for.
 use Rattle.std.specs.Prelude.{◌≡◌, ◌≢◌, ◌⊎◌, IsSome, ⊤, List, [], ◌++◌, Option, Some, None, codes, filter, if◌then◌else◌, is_some, map, not, slice_get, unwrap_or}
-use Rattle.std.specs.Option.{option_map_or, option_to_list}
+use Rattle.std.specs.Option.{option_map, option_map_or, option_to_list}
 use Rattle.std.specs.Str.{bytes_eq}
 use Rattle.clap.specs.Words.{Row, Text, all_of, fault_of, first_of, subcommand_of}
 use Rattle.command_line.specs.Command.{logtm}
@@ -57,6 +57,7 @@ IsRunOf rows run =
     × (read_or number_of 1048576 (codes "memory") rows ≡ Some run.memory)
     × (read_or number_of 10000000 (codes "steps") rows ≡ Some run.steps)
     × (read_or cache_of Normal (codes "cache") rows ≡ Some run.cache)
+    × (option_map (λ path. path.now) run.schedule ≡ first_of (codes "schedule") rows)
     × IsReadingOfWords (words_of rows) run.words.items
 
 -- the order is what the values of the subcommand of this name stand for

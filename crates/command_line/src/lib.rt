@@ -2,7 +2,7 @@
 //!
 //! The subcommands are:
 //!
-//! - `logtm run FILE [--harts N] [--memory S] [--steps N] [--cache small|normal] [WORD..]`
+//! - `logtm run FILE [--harts N] [--memory S] [--steps N] [--cache small|normal] [--schedule LIST] [WORD..]`
 //! - `logtm dis FILE`
 //! - `logtm asm IN OUT`
 //!

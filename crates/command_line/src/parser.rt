@@ -53,12 +53,14 @@ fn run_command<'a>(alloc: Global) -> Result<Command<'a>, AllocError>
     let memory = "How many bytes of memory there are, 1048576 if not given";
     let steps = "How many steps are taken at most, 10000000 if not given";
     let cache = "The cache of each hart, small or normal, normal if not given";
+    let schedule = "A file whose lines choose the first steps";
     bare(alloc, "run", about)
         .arg(program(alloc))?
         .arg(option(alloc, "harts", "N", harts))?
         .arg(option(alloc, "memory", "S", memory))?
         .arg(option(alloc, "steps", "N", steps))?
         .arg(option(alloc, "cache", "NAME", cache))?
+        .arg(option(alloc, "schedule", "LIST", schedule))?
         .arg(words(alloc))
 }
 

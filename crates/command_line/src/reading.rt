@@ -1,4 +1,4 @@
-ghost use Rattle.std.specs.Prelude.{◌≡◌, MatchResult, Some, codes, map};
+ghost use Rattle.std.specs.Prelude.{◌≡◌, MatchResult, Some, codes, map, option_map};
 ghost use Rattle.clap.specs.Words.{first_of, found_of, rows_of};
 ghost use Rattle.command_line.specs.Numbers.{number_of};
 ghost use Rattle.command_line.specs.Reading.{HasValue, IsComplete, IsReadingOf, IsReadingOfWords, IsRunOf};
@@ -62,6 +62,7 @@ fn read_run<'a>(alloc: Global, matches: &ArgMatches<'a>) -> Result<Run<'a>, Orde
     let memory = number_given(matches, "memory", DEFAULT_MEMORY)?;
     let steps = number_given(matches, "steps", DEFAULT_STEPS)?;
     let cache = cache_given(matches, "cache", DEFAULT_CACHE)?;
+    let schedule = path_given(matches, "schedule");
     let words = words_given(alloc, matches)?;
     Ok(Run {
         file,
@@ -69,6 +70,7 @@ fn read_run<'a>(alloc: Global, matches: &ArgMatches<'a>) -> Result<Run<'a>, Orde
         memory,
         steps,
         cache,
+        schedule,
         words,
     })
 }
@@ -97,6 +99,12 @@ fn cache_given<'a>(
         Some(text) => cache_named(text).ok_or(OrderFault::Value(text)),
         None => Ok(default),
     }
+}
+
+fn path_given<'a>(matches: &ArgMatches<'a>, id: &str) -> Option<&'a str>
+    ensures { option_map (λ path. path.now) result ≡ first_of id.now (rows_of (found_of matches.now)) }
+{
+    matches.get_str(id)
 }
 
 fn cache_named(name: &str) -> Option<Cache>

@@ -19,7 +19,8 @@ pub enum Order<'a> {
 
 impl<'a> Order<'a> {
     ghost use Rattle.std.specs.Prelude.{◌≡◌};
-    ghost use Rattle.command_line.specs.Paths.{path_of};
+    ghost use Rattle.std.specs.Option.{option_map};
+    ghost use Rattle.command_line.specs.Paths.{path_of, schedule_of};
 
     /// The path of the file that is read: a program's, or that of the source.
     pub fn path(&self) -> &'a str
@@ -29,6 +30,16 @@ impl<'a> Order<'a> {
             Order::Run(run) => run.file,
             Order::Dis { file } => file,
             Order::Asm { source, .. } => source,
+        }
+    }
+
+    /// The path of the schedule's file, if the order names one.
+    pub fn schedule(&self) -> Option<&'a str>
+        ensures { option_map (λ path. path.now) result ≡ schedule_of self.now }
+    {
+        match self {
+            Order::Run(run) => run.schedule,
+            Order::Dis { .. } | Order::Asm { .. } => None,
         }
     }
 }
@@ -46,6 +57,8 @@ pub struct Run<'a> {
     pub steps: u32,
     /// The cache that each hart has.
     pub cache: Cache,
+    /// The path of the file whose lines choose the first steps, if there is one.
+    pub schedule: Option<&'a str>,
     /// The words of memory to show at the end.
     pub words: Vec<Word<'a>>,
 }

@@ -12,7 +12,8 @@ use Rattle.protocol.specs.Directory.{DirEntry, first_entry, Served, directory_ro
 use Rattle.directory.specs.declared.entry.DirEntry.{DirEntry as CodedEntry}
 use Rattle.directory.specs.declared.received.Received.{Received}
 use Rattle.directory.specs.declared.received.Received.TheVariants.{Held, Sent}
-use Rattle.directory.specs.Sends.{messages_of}
+use Rattle.directory.specs.declared.received.Answer.{Answer}
+use Rattle.directory.specs.Sends.{messages_of, messages_in}
 use Rattle.directory.specs.Entries.{shown_entry, NamesBelow}
 
 -- how many harts there are; the entries that are kept, by rising number of their blocks; the words of each block
@@ -77,3 +78,8 @@ IsGet _ = ⊥
 abbrev pub Follows : Received → Option Served → ℕ → Blocks → Blocks → Type 0
 Follows Held row b old new = (row ≡ None) × (new ≡ old)
 Follows (Sent sends) row b old new = IsSomeAnd row (λ served. (messages_of sends ≡ served.sent) × SetsBlock old new b served.entry served.memory)
+
+-- the same, of what it is answered with, where it isn't held
+abbrev pub Answers : Option Answer → Option Served → ℕ → Blocks → Blocks → Type 0
+Answers None row b old new = (row ≡ None) × (new ≡ old)
+Answers (Some answer) row b old new = IsSomeAnd row (λ served. (messages_in old.harts answer ≡ served.sent) × SetsBlock old new b served.entry served.memory)

@@ -3,14 +3,14 @@ ghost use Rattle.words.specs.Limits.{most_harts};
 ghost use Rattle.protocol.specs.Messages.{shown, block_of, Get, Put};
 ghost use Rattle.protocol.specs.Directory.{first_entry, done_of, done_row};
 ghost use Rattle.directory.specs.Entries.{shown_entry, NamesBelow};
-ghost use Rattle.directory.specs.Blocks.{kept_at, entry_at, memory_at, row_of, sender_of, SetsBlock, Follows, IsInOrder, IsGet};
+ghost use Rattle.directory.specs.Blocks.{kept_at, entry_at, memory_at, row_of, sender_of, SetsBlock, Follows, Answers, IsInOrder, IsGet};
+ghost use Rattle.directory.specs.Sends.{AwaitsOthers};
 
 use crate::entry::{Busy, DirEntry, Owner};
-use crate::received::{Outgoing, Received, acknowledgement};
+use crate::received::{Answer, Received, sends_of};
 use crate::rules::{
-    Request, expected, forward, given, is_owned_by, owner_after, push, sharers_after, words_after,
+    Request, expected, given, is_owned_by, owner_after, sharers_after, words_after,
 };
-use arrayvec::ArrayVec;
 use std::alloc::{AllocError, Global};
 use std::collections::BTreeMap;
 use std::marker::Model;
@@ -111,6 +111,24 @@ impl Directory {
         ensures request { OnErr result (IsGet (shown message)) }
         ensures absent { OnErr result (kept_at self.old (block_of (shown message)) ≡ None) }
     {
+        match self.serve(&message)? {
+            Some(answer) => Ok(Received::Sent(sends_of(&answer, self.harts))),
+            None => Ok(Received::Held),
+        }
+    }
+
+    /// The same, with the messages told in short. `None` where the message has to wait.
+    pub fn serve(&mut self, message: &Message) -> Result<Option<Answer>, AllocError>
+        requires block { block_of (shown message.now) < length self.old.memory }
+        requires hart { IfSome (sender_of (shown message.now)) (λ h. h < self.old.harts) }
+        ensures ok { let row = row_of self.old (shown message.now) in
+            IfOk result (λ answer. Answers answer row (block_of (shown message.now)) self.old self.new) }
+        ensures harts { self.new.harts ≡ self.old.harts }
+        ensures others { IfOk result (λ answer. IfSome answer AwaitsOthers) }
+        ensures err { OnErr result (self.new ≡ self.old) }
+        ensures request { OnErr result (IsGet (shown message.now)) }
+        ensures absent { OnErr result (kept_at self.old (block_of (shown message.now)) ≡ None) }
+    {
         match message {
             Message::Get {
                 from,
@@ -118,60 +136,57 @@ impl Directory {
                 kind,
                 stamp,
             } => self.get(&Request {
-                requester: from,
-                block,
-                kind,
-                stamp,
+                requester: *from,
+                block: *block,
+                kind: *kind,
+                stamp: *stamp,
             }),
             Message::Put {
                 from,
                 block,
                 content,
                 marked,
-            } => Ok(self.put(from, block, &content, marked)),
+            } => Ok(self.put(*from, *block, content, *marked)),
             Message::Done {
                 from,
                 block,
                 ok,
                 content,
             } => {
-                self.done(from, block, ok, content);
-                Ok(Received::Sent(ArrayVec::new()))
+                self.done(*from, *block, *ok, content);
+                Ok(Some(Answer::Silent))
             }
-            _ => Ok(Received::Sent(ArrayVec::new())),
+            _ => Ok(Some(Answer::Silent)),
         }
     }
 
     /// A hart asks for a block: the grant comes first.
-    fn get(&mut self, request: &Request) -> Result<Received, AllocError>
+    fn get(&mut self, request: &Request) -> Result<Option<Answer>, AllocError>
         requires block { request.now.block < length self.old.memory }
         requires hart { request.now.requester < self.old.harts }
         ensures ok { let row = row_of self.old (Get request.now.requester request.now.block request.now.kind request.now.stamp) in
-            IfOk result (λ received. Follows received row request.now.block self.old self.new) }
+            IfOk result (λ answer. Answers answer row request.now.block self.old self.new) }
+        ensures harts { self.new.harts ≡ self.old.harts }
+        ensures others { IfOk result (λ answer. IfSome answer AwaitsOthers) }
         ensures err { OnErr result (self.new ≡ self.old) }
         ensures absent { OnErr result (kept_at self.old request.now.block ≡ None) }
     {
         let entry = self.entry(request.block);
         if entry.busy.is_some() {
-            return Ok(Received::Held);
+            return Ok(None);
         }
         let requester = request.requester;
         let give = given(&entry, requester, request.kind, self.harts);
         self.occupy(request.block, entry, Busy { requester, give })?;
-        let expect = expected(&entry, requester, request.kind);
-        let grant = Outgoing {
-            message: Message::Grant {
-                to: requester,
-                block: request.block,
-                give,
-                content: self.memory(request.block),
-                expect,
-            },
-        };
-        let mut sends = ArrayVec::new();
-        push(&mut sends, &grant);
-        forward(&mut sends, &expect, request, self.harts);
-        Ok(Received::Sent(sends))
+        Ok(Some(Answer::Granted {
+            to: requester,
+            block: request.block,
+            kind: request.kind,
+            stamp: request.stamp,
+            give,
+            content: self.memory(request.block),
+            expect: expected(&entry, requester, request.kind),
+        }))
     }
 
     /// Makes a block, whose entry this is, busy with a request.
@@ -190,14 +205,16 @@ impl Directory {
     }
 
     /// A hart gives up a block: its content becomes memory's if the hart is the owner.
-    fn put(&mut self, from: HartId, block: BlockNo, content: &Block, marked: bool) -> Received
+    fn put(&mut self, from: HartId, block: BlockNo, content: &Block, marked: bool) -> Option<Answer>
         requires block { block < length self.old.memory }
         requires hart { from < self.old.harts }
-        ensures { Follows result (row_of self.old (Put from block content.now marked)) block self.old self.new }
+        ensures answers { Answers result (row_of self.old (Put from block content.now marked)) block self.old self.new }
+        ensures harts { self.new.harts ≡ self.old.harts }
+        ensures others { IfSome result AwaitsOthers }
     {
         let mut entry = self.entry(block);
         if entry.busy.is_some() {
-            return Received::Held;
+            return None;
         }
         if is_owned_by(&entry, from) {
             entry.owner = if marked {
@@ -208,23 +225,21 @@ impl Directory {
             self.replace(block, entry);
             self.memory[block.index()] = *content;
         }
-        let mut sends = ArrayVec::new();
-        push(&mut sends, &acknowledgement(from, block));
-        Received::Sent(sends)
+        Some(Answer::Acknowledged { to: from, block })
     }
 
     /// A request is over: it was granted (`ok`) or refused. A Done from a hart whose request the block isn't busy with changes nothing.
-    fn done(&mut self, from: HartId, block: BlockNo, ok: bool, content: Option<Block>)
+    fn done(&mut self, from: HartId, block: BlockNo, ok: bool, content: &Option<Block>)
         requires block { block < length self.old.memory }
         requires hart { from < self.old.harts }
-        ensures { let served = done_of (entry_at self.old block).busy from ok content (entry_at self.old block) (memory_at self.old block) in
+        ensures { let served = done_of (entry_at self.old block).busy from ok content.now (entry_at self.old block) (memory_at self.old block) in
             SetsBlock self.old self.new block served.entry served.memory }
     {
         let entry = self.entry(block);
         if let Some(busy) = &entry.busy {
             if busy.requester.index() == from.index() {
                 if ok {
-                    self.settle(block, &entry, busy, content);
+                    self.settle(block, &entry, busy, *content);
                 } else {
                     self.replace(block, entry.ended());
                 }

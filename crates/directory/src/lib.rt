@@ -11,4 +11,5 @@ mod tests;
 
 pub use directory::{BLOCKS, Directory};
 pub use entry::{Busy, DirEntry, Owner};
-pub use received::{Outgoing, Received, Sends};
+pub use received::{Answer, Outgoing, Received, Sends};
+pub use rules::Request;

@@ -1,8 +1,10 @@
-ghost use Rattle.std.specs.Prelude.{◌≡◌};
-ghost use Rattle.protocol.specs.Messages.{shown, PutAck};
+ghost use Rattle.std.specs.Prelude.{◌≡◌, ◌≤◌};
+ghost use Rattle.words.specs.Limits.{most_harts};
+ghost use Rattle.directory.specs.Sends.{messages_of, messages_in, AwaitsOthers};
 
+use crate::rules::{Request, forward, push};
 use arrayvec::ArrayVec;
-use words::{BlockNo, HARTS, HartId, Message};
+use words::{Block, BlockNo, HARTS, HartId, HartSet, Kind, LineState, Message, Stamp};
 
 /// A message that the directory sends. `Message` has no default value, which the places of a list that aren't used yet have to
 /// have.
@@ -25,6 +27,29 @@ impl Default for Outgoing {
 /// The messages that one message makes the directory send: a grant and up to 7 forwards, or an acknowledgement, or none.
 pub type Sends = ArrayVec<Outgoing, HARTS>;
 
+/// The messages that a message to the directory is answered with.
+#[derive(Clone, Copy, Debug, PartialEq, Eq)]
+pub enum Answer {
+    /// None.
+    Silent,
+    /// A Put's hart is told that it has arrived.
+    Acknowledged {
+        to: HartId,
+        block: BlockNo,
+    },
+    /// The requester is told what it is given, and then its request is forwarded to each hart whose answer it has to await, by rising
+    /// number.
+    Granted {
+        to: HartId,
+        block: BlockNo,
+        kind: Kind,
+        stamp: Option<Stamp>,
+        give: LineState,
+        content: Block,
+        expect: HartSet,
+    },
+}
+
 /// What the directory did with a message.
 #[derive(Debug, Drop)]
 pub enum Received {
@@ -34,11 +59,47 @@ pub enum Received {
     Sent(Sends),
 }
 
-/// The answer to a Put.
-pub(crate) fn acknowledgement(to: HartId, block: BlockNo) -> Outgoing
-    ensures { shown result.message ≡ PutAck to block }
+/// The messages of an answer, in order.
+pub(crate) fn sends_of(answer: &Answer, harts: usize) -> Sends
+    requires harts { harts ≤ most_harts }
+    requires others { AwaitsOthers answer.now }
+    ensures { messages_of result ≡ messages_in harts answer.now }
 {
-    Outgoing {
-        message: Message::PutAck { to, block },
+    let mut sends = ArrayVec::new();
+    match answer {
+        Answer::Silent => {}
+        Answer::Acknowledged { to, block } => {
+            let message = Message::PutAck {
+                to: *to,
+                block: *block,
+            };
+            push(&mut sends, &Outgoing { message });
+        }
+        Answer::Granted {
+            to,
+            block,
+            kind,
+            stamp,
+            give,
+            content,
+            expect,
+        } => {
+            let message = Message::Grant {
+                to: *to,
+                block: *block,
+                give: *give,
+                content: *content,
+                expect: *expect,
+            };
+            push(&mut sends, &Outgoing { message });
+            let request = Request {
+                requester: *to,
+                block: *block,
+                kind: *kind,
+                stamp: *stamp,
+            };
+            forward(&mut sends, expect, &request, harts);
+        }
     }
+    sends
 }

@@ -91,7 +91,7 @@ pub(crate) fn expected(entry: &DirEntry, hart: HartId, kind: Kind) -> HartSet
 
 /// A request for a block.
 #[derive(Clone, Copy, Debug, PartialEq, Eq)]
-pub(crate) struct Request {
+pub struct Request {
     pub requester: HartId,
     pub block: BlockNo,
     pub kind: Kind,

@@ -15,21 +15,28 @@ use Rattle.disassembler.proofs.Rows.{row_name, row_named, named-row, row_name-la
 use Rattle.disassembler.proofs.Apart.{unordered, same-instr}
 
 -- a row with the text of its word
-record Spelt (w : ℕ) : Type 0 where
+pub record Spelt (w : ℕ) : Type 0 where
+  pub row : Row
+  pub fit : fits (key row) w ≡ true
+  pub is : decoded w ≡ Some (instr row w)
+  pub text : spelled (instr row w) ≡ Some (canonical w)
+
+-- a row that a word fits, with the instruction that the word is
+record IsRowOf (w : ℕ) (i : Instr) : Type 0 where
   row : Row
-  is : decoded w ≡ Some (instr row w)
-  text : spelled (instr row w) ≡ Some (canonical w)
+  fit : fits (key row) w ≡ true
+  is : instr row w ≡ i
 
-at_row : (row : Row) (w : ℕ) (i : Instr) (here : Bool) (later : Option Instr) → (later ≡ Some i → (r : Row) × (instr r w ≡ i))
-    → cond here (Some (instr row w)) later ≡ Some i → (r : Row) × (instr r w ≡ i)
-at_row row w i true later rest found = (row, same_Some _ _ found)
-at_row row w i false later rest found = rest found
+at_row : (row : Row) (w : ℕ) (i : Instr) (here : Bool) (later : Option Instr) → fits (key row) w ≡ here → (later ≡ Some i → IsRowOf w i)
+    → cond here (Some (instr row w)) later ≡ Some i → IsRowOf w i
+at_row row w i true later fit rest found = record { row = row; fit = fit; is = same_Some _ _ found }
+at_row row w i false later fit rest found = rest found
 
-row-of : (rows : List Row) (w : ℕ) (i : Instr) → instr_in rows w ≡ Some i → (r : Row) × (instr r w ≡ i)
+row-of : (rows : List Row) (w : ℕ) (i : Instr) → instr_in rows w ≡ Some i → IsRowOf w i
 row-of [] w i found = absurd (cc)
-row-of (row ∷ rows) w i found = at_row row w i (fits (key row) w) (instr_in rows w) (row-of rows w i) found
+row-of (row ∷ rows) w i found = at_row row w i (fits (key row) w) (instr_in rows w) refl (row-of rows w i) found
 
-row-of_decoded : (w : ℕ) (i : Instr) → decoded w ≡ Some i → (r : Row) × (instr r w ≡ i)
+row-of_decoded : (w : ℕ) (i : Instr) → decoded w ≡ Some i → IsRowOf w i
 unfolding decoded
 row-of_decoded w i found = row-of table w i found
 
@@ -42,16 +49,16 @@ by_text : (w : ℕ) (i : Instr) (text : Option (List ℕ)) → decoded w ≡ Som
 by_text w i None found text = inl (canonical-is w (Some i) None found text)
 by_text w i (Some t) found text =
     let r = row-of_decoded w i found in
-    let is : decoded w ≡ Some (instr r.0 w) = found ∙ ap (λ j. Some j) (sym r.1) in
+    let is : decoded w ≡ Some (instr r.row w) = found ∙ ap (λ j. Some j) (sym r.is) in
     let whole : canonical w ≡ t = canonical-is w (Some i) (Some t) found text in
-    inr (record { row = r.0; is = is; text = ap spelled r.1 ∙ text ∙ ap (λ l. Some l) (sym whole) })
+    inr (record { row = r.row; fit = r.fit; is = is; text = ap spelled r.is ∙ text ∙ ap (λ l. Some l) (sym whole) })
 
 by_instr : (w : ℕ) (o : Option Instr) → decoded w ≡ o → (canonical w ≡ plain w) ⊎ Spelt w
 by_instr w None found = inl (canonical-is w None None found refl)
 by_instr w (Some i) found = by_text w i (spelled i) found refl
 
 -- a word has the text of its row, or no other than its digits
-spelt-or_plain : (w : ℕ) → (canonical w ≡ plain w) ⊎ Spelt w
+pub spelt-or_plain : (w : ℕ) → (canonical w ≡ plain w) ⊎ Spelt w
 spelt-or_plain w = by_instr w (decoded w) refl
 
 followed : (row : Row) (rest t : List ℕ) → row_name row ++ 32 ∷ rest ≡ t → first_word t ≡ row_name row
@@ -60,7 +67,7 @@ followed row rest t e = ap first_word (sym e) ∙ first_word-followed (row_name 
 alone : (row : Row) (t : List ℕ) → row_name row ≡ t → first_word t ≡ row_name row
 alone row t e = ap first_word (sym e) ∙ first_word-alone (row_name row) (row_name-lacks row)
 
-fence-text : (b : Bool) (x t : List ℕ) → cond b (Some x) None ≡ Some t → x ≡ t
+pub fence-text : (b : Bool) (x t : List ℕ) → cond b (Some x) None ≡ Some t → x ≡ t
 fence-text true x t e = same_Some x t e
 fence-text false x t e = absurd (cc)
 

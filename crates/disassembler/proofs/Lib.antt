@@ -1,4 +1,3 @@
-pub mod Texts
 pub mod Listed
 pub mod Words
 pub mod Windows

@@ -13,4 +13,5 @@ mod window;
 
 pub use laws::texts_differ;
 pub use lister::listing;
+pub use names::register as register_name;
 pub use printer::text;

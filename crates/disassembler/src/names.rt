@@ -6,7 +6,7 @@ use words::Reg;
 
 /// The name of a register in the ABI.
 #[tactic(auto, unfolding(crate::specs::Mnemonics::register))]
-pub(crate) fn register(r: Reg) -> &'static str
+pub fn register(r: Reg) -> &'static str
     ensures name { result.now ≡ register r }
     ensures short { length result.now ≤ 4 }
 {

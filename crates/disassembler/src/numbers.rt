@@ -2,7 +2,6 @@ ghost use Rattle.std.specs.Prelude.{◌≡◌, ◌≤◌, IsAscii, length};
 ghost use Rattle.disassembler.specs.Canonical.{trimmed, signed};
 
 use itoa::Buffer;
-use std::str;
 
 /// A number of 32 bits in two's complement, as a decimal that is written into the buffer.
 #[tactic(auto, unfolding(crate::specs::Canonical::signed))]
@@ -23,17 +22,5 @@ pub(crate) fn trimmed(digits: &[u8]) -> &[u8]
     match digits {
         [b'0', rest @ ..] if !rest.is_empty() => trimmed(rest),
         _ => digits,
-    }
-}
-
-/// Digits as text.
-#[tactic(auto, using(crate::proofs::Texts::ascii_text))]
-pub(crate) fn ascii(bytes: &[u8]) -> &str
-    requires { IsAscii bytes.now }
-    ensures { result.now ≡ bytes.now }
-{
-    match str::from_utf8(bytes) {
-        Ok(text) => text,
-        Err(_) => unreachable!(),
     }
 }

@@ -3,12 +3,11 @@ ghost use Rattle.table.specs.declared.instr.Instr.TheVariants.{Amo, Fence};
 ghost use Rattle.disassembler.specs.Canonical.{canonical, spelled, plain};
 
 use crate::names::{amo_name, branch_name, imm_name, load_name, op_name, shift_name, store_name};
-use crate::numbers::ascii;
 use crate::shapes::{Line, atomic, based, begin, jump, named, numbered, registers, shifted, upper};
 use arrayvec::ArrayString;
 use operands::FenceBits;
 use table::{AmoOp, Instr, decode};
-use texts::hexadecimal;
+use texts::{ascii, hexadecimal};
 use words::Reg;
 
 /// The canonical text of a word: its mnemonic and its operands, or `.word` with its digits. No other word has the same.

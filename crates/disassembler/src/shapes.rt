@@ -5,11 +5,11 @@ ghost use Rattle.disassembler.specs.Mnemonics.{register};
 ghost use Rattle.disassembler.specs.Canonical as spec;
 
 use crate::names::register;
-use crate::numbers::{ascii, signed, trimmed};
+use crate::numbers::{signed, trimmed};
 use arrayvec::ArrayString;
 use itoa::Buffer;
 use operands::{AbortOffset, Imm12, Shamt, UpperImm};
-use texts::hexadecimal;
+use texts::{ascii, hexadecimal};
 use words::Reg;
 
 /// A text of a word: none is longer than 40 bytes.

@@ -1,4 +1,5 @@
-ghost use Rattle.std.specs.Prelude.{◌≡◌, [], Some};
+ghost use Rattle.std.specs.Prelude.{◌≡◌, ◌+◌, ◌++◌, [], Some, min, IsErr, OnOk, OnErr};
+ghost use Rattle.words.specs.Taken.{TookBeginning};
 
 use std::alloc::Global;
 use words::{Sink, SinkFault, Taken};
@@ -33,7 +34,15 @@ impl Sink for Breaking {
 
     ghost taken = { λ b. Some b.bytes.items };
 
-    fn put(&mut self, bytes: &[u8]) -> Result<(), SinkFault> {
+    fn put(&mut self, bytes: &[u8]) -> Result<(), SinkFault>
+        ensures clean { OnOk result (self.new.failed ≡ self.old.failed) }
+        ensures fault { OnErr result (self.new.failed ≡ min (self.old.failed + 1) 18446744073709551615) }
+        ensures all { OnOk result (Some self.new.bytes.items ≡ Some (self.old.bytes.items ++ bytes.now)) }
+        ensures part { OnErr result (TookBeginning (Some self.old.bytes.items) (Some self.new.bytes.items) bytes.now) }
+        // It fails where none is left, and each put that it takes leaves one fewer.
+        ensures breaks { self.old.left ≡ 0 → IsErr result }
+        ensures left { OnOk result (self.new.left + 1 ≡ self.old.left) }
+    {
         if self.left == 0 {
             let _ = self.bytes.extend_from_slice(&bytes[..bytes.len() / 2]);
             self.failed = self.failed.saturating_add(1);

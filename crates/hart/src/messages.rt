@@ -22,9 +22,9 @@ impl<const SETS: usize, const WAYS: usize> Hart<SETS, WAYS> {
 
     /// Does what the protocol's row for the message says. A message that the hart doesn't await, or that is for the directory,
     /// changes nothing.
-    pub fn on_message(&mut self, message: Message) -> Reply
+    pub fn on_message(&mut self, message: &Message) -> Reply
         ensures row { (output : List ℕ) →
-            message_row self.old.harts self.old.index (shown message) (shown_hart SETS output self.old)
+            message_row self.old.harts self.old.index (shown message.now) (shown_hart SETS output self.old)
             ≡ replied SETS output self.new result }
         ensures stays { StaysPut self.old self.new }
     {
@@ -36,11 +36,11 @@ impl<const SETS: usize, const WAYS: usize> Hart<SETS, WAYS> {
                 content,
                 expect,
             } => self.on_grant(
-                block,
+                *block,
                 Granted {
-                    give,
-                    content,
-                    expect,
+                    give: *give,
+                    content: *content,
+                    expect: *expect,
                 },
             ),
             Message::Forward {
@@ -49,9 +49,9 @@ impl<const SETS: usize, const WAYS: usize> Hart<SETS, WAYS> {
                 kind,
                 requester,
                 stamp,
-            } => self.on_forward(block, kind, requester, stamp),
+            } => self.on_forward(*block, *kind, *requester, *stamp),
             Message::PutAck { to: _, block } => {
-                self.on_put_ack(block);
+                self.on_put_ack(*block);
                 Reply::none()
             }
             Message::Ack {
@@ -59,13 +59,13 @@ impl<const SETS: usize, const WAYS: usize> Hart<SETS, WAYS> {
                 to: _,
                 block,
                 content,
-            } => self.on_ack(block, from, content),
+            } => self.on_ack(*block, *from, *content),
             Message::Nack {
                 from,
                 to: _,
                 block,
                 stamp,
-            } => self.on_nack(block, from, stamp),
+            } => self.on_nack(*block, *from, *stamp),
             Message::Get { .. } | Message::Put { .. } | Message::Done { .. } => Reply::none(),
         }
     }

@@ -93,7 +93,7 @@ fn is_given(rt: &impl Abort, hart: &mut Small, text: &Text, kind: Kind, give: Li
     };
     assert_eq!(rt; step.message, Some(get));
     assert_eq!(rt; hart.core_step(text, 9), None);
-    let reply = hart.on_message(Message::Grant {
+    let reply = hart.on_message(&Message::Grant {
         to: from,
         block,
         give,
@@ -113,7 +113,7 @@ fn is_given(rt: &impl Abort, hart: &mut Small, text: &Text, kind: Kind, give: Li
 /// Another hart asks for the block.
 fn forwarded(rt: &impl Abort, hart: &mut Small, kind: Kind, stamp: Option<Stamp>) -> Reply {
     let to = hart.index();
-    hart.on_message(Message::Forward {
+    hart.on_message(&Message::Forward {
         to,
         block: BlockNo::new(BLOCK),
         kind,
@@ -134,7 +134,7 @@ fn granted_but_for_one(rt: &impl Abort, hart: &mut Small, block: BlockNo) -> Rep
     let mut expect = HartSet::empty();
     expect.insert(self::hart(rt, 0));
     let to = hart.index();
-    hart.on_message(Message::Grant {
+    hart.on_message(&Message::Grant {
         to,
         block,
         give: LineState::Shared,
@@ -147,7 +147,7 @@ fn granted_but_for_one(rt: &impl Abort, hart: &mut Small, block: BlockNo) -> Rep
 fn refused(rt: &impl Abort, hart: &mut Small, block: BlockNo, stamp: Option<Stamp>) -> Reply {
     let from = self::hart(rt, 0);
     let to = hart.index();
-    hart.on_message(Message::Nack {
+    hart.on_message(&Message::Nack {
         from,
         to,
         block,
@@ -328,7 +328,7 @@ fn a_spill_in_a_transaction(rt: HostRuntime) -> Result<(), Fail> {
     assert_eq!(rt; hart.transaction().aborting(), None);
     assert!(rt; !hart.is_waiting());
     assert!(rt; hart.put().is_some());
-    hart.on_message(Message::PutAck { to, block });
+    hart.on_message(&Message::PutAck { to, block });
     assert!(rt; hart.put().is_none());
     Ok(())
 }

@@ -2,10 +2,11 @@
 use Rattle.std.proofs.Common.{◌≡◌, ◌≤◌, ℕ, Option, Some, None, List, length, sym, ap, subst, ◌∙◌}
 use Rattle.std.specs.Prelude.{option_to_list}
 use Rattle.std.specs.Option.{option_map}
+use Rattle.std.proofs.lemmas.Option.{same_Some}
 use Rattle.words.specs.declared.message.Message.{Message}
 use Rattle.words.specs.declared.entry.Entry.{Entry}
 use Rattle.words.specs.declared.entry.Step.TheVariants.{Deliver}
-use Rattle.protocol.specs.Messages.{shown as shown_message, receiver_of}
+use Rattle.protocol.specs.Messages.{Message as Told, shown as shown_message, receiver_of}
 use Rattle.protocol.specs.HartMessages.{message_row}
 use Rattle.protocol.specs.Network.{Network, Sends, taken}
 use Rattle.protocol.specs.Machine.{Steps, ComesAbout, hart_change, delivery, arrival}
@@ -27,6 +28,10 @@ arrives sets ways key v m to e w here goes about = (
   subst (λ o. ComesAbout (delivery key o (shown sets v)) e (shown sets w)) (sym here)
       (subst (λ o. ComesAbout (arrival key (shown_message m) o (shown sets v)) e (shown sets w)) (sym goes) about),
 )
+
+-- where a message goes
+pub goes_to : (o : Option Told) (m : Told) (to : Option ℕ) → o ≡ Some m → option_map receiver_of o ≡ Some to → receiver_of m ≡ to
+goes_to o m to here goes = same_Some (receiver_of m) to (sym (ap (option_map receiver_of) here) ∙ goes)
 
 -- no message arrives under a key that has none
 pub arrives_none : (sets ways key : ℕ) (v : State) → in_flight v.flights key ≡ None → Steps (geometry sets ways) (shown sets v) (Deliver key) None (shown sets v)

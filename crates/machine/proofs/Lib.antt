@@ -20,4 +20,5 @@ mod Logs
 mod Turning
 mod Oldest
 mod Playing
+mod Naming
 pub mod Calm

@@ -38,3 +38,12 @@ sent_more sends k o first old new key f lt is same s before =
     map_more (λ s. shown s.message) sends k o lt ∙ ap (λ x. messages_of (take k sends) ++ x ∷ []) (ap (λ x. shown x.message) (sym is) ∙ ap shown (sym same)) in
     subst (λ ms. Sends first ms (in_flight new)) (sym more)
     (one_more (messages_of (take k sends)) first (in_flight old) (in_flight new) (shown f.message) key before (ap (λ o. option_map shown (option_map (λ g. g.message) o)) s.free) (sent_under old new key f s))
+
+-- messages, and then others
+pub sends_on : (ms others : List Message) (old mid new : Network) → Sends old ms mid → Sends mid others new → Sends old (ms ++ others) new
+sends_on [] others old mid new first then = subst (λ net. Sends net others new) first then
+sends_on (x ∷ ms) others old mid new (key, unused, first) then = (key, unused, sends_on ms others (put_at key (Some x) old) mid new first then)
+
+-- a message under a key that was free
+pub sends_one : (old new : List (Option Flight)) (key : ℕ) (f : Flight) → IsSent old new key f → Sends (in_flight old) (shown f.message ∷ []) (in_flight new)
+sends_one old new key f s = (key, ap (λ o. option_map shown (option_map (λ g. g.message) o)) s.free, sent_under old new key f s)

@@ -11,16 +11,15 @@ use Rattle.protocol.specs.Messages.{Block, Message as Told, Get, Put, Done, Gran
 use Rattle.protocol.specs.Network.{Sends, taken}
 use Rattle.protocol.specs.Directory.{Served, directory_row}
 use Rattle.protocol.specs.Machine.{Steps, ComesAbout, served_change, directory_change}
-use Rattle.directory.specs.declared.received.Received.TheVariants.{Held, Sent}
-use Rattle.directory.specs.Blocks.{Blocks, entry_at, row_of, sender_of, SetsBlock, Follows}
+use Rattle.directory.specs.Blocks.{Blocks, entry_at, row_of, sender_of, SetsBlock, Answers}
+use Rattle.directory.specs.Sends.{messages_in}
+use Rattle.directory.specs.declared.received.Answer.{Answer}
 use Rattle.bounds.specs.Memory.{IsWithinMemory}
 use Rattle.bounds.proofs.Machines.{run_within}
 use Rattle.isolation.specs.Facts.{whose, IsAwaited}
 use Rattle.isolation.proofs.Consequences.RequestLaws.{awaited}
 use Rattle.isolation.proofs.Belongs.Belonging.{world, inv_of, belongs_next}
-use Rattle.arrayvec.specs.ArrayVec.{ArrayVec}
-use Rattle.directory.specs.declared.received.Outgoing.{Outgoing}
-use Rattle.machine.specs.Mail.{in_flight, messages_of}
+use Rattle.machine.specs.Mail.{in_flight}
 use Rattle.machine.specs.States.{State, shown, geometry, hart_at, words_of, setting_of, IsSeated, IsSound}
 use Rattle.machine.proofs.Places.{within, beyond}
 use Rattle.machine.proofs.Changed.{changed_at}
@@ -134,18 +133,18 @@ serves sets ways key v w m s sound here goes d = (steps, kept)
         }
 
 -- the same, of what the directory has answered
-pub follows : (sets ways key : ℕ) (v w : State) (m : Message) (sent : ArrayVec Outgoing) → IsSound sets ways v → in_flight v.flights key ≡ Some (shown_message m) → receiver_of (shown_message m) ≡ None
-    → Follows (Sent sent) (row_of v.directory (shown_message m)) (block_of (shown_message m)) v.directory w.directory
-    → w.program ≡ v.program → w.seats ≡ v.seats → w.stamps ≡ v.stamps → Sends (taken key (in_flight v.flights)) (messages_of sent.items) (in_flight w.flights)
+pub follows : (sets ways key : ℕ) (v w : State) (m : Message) (answer : Answer) → IsSound sets ways v → in_flight v.flights key ≡ Some (shown_message m) → receiver_of (shown_message m) ≡ None
+    → Answers (Some answer) (row_of v.directory (shown_message m)) (block_of (shown_message m)) v.directory w.directory
+    → w.program ≡ v.program → w.seats ≡ v.seats → w.stamps ≡ v.stamps → Sends (taken key (in_flight v.flights)) (messages_in v.directory.harts answer) (in_flight w.flights)
     → Steps (geometry sets ways) (shown sets v) (Deliver key) None (shown sets w) × IsSound sets ways w
-follows sets ways key v w m sent sound here goes f program seats stamps sends = at (row_of v.directory (shown_message m)) refl f
+follows sets ways key v w m answer sound here goes f program seats stamps sends = at (row_of v.directory (shown_message m)) refl f
   where
-    at : (row : Option Served) → row_of v.directory (shown_message m) ≡ row → Follows (Sent sent) row (block_of (shown_message m)) v.directory w.directory
+    at : (row : Option Served) → row_of v.directory (shown_message m) ≡ row → Answers (Some answer) row (block_of (shown_message m)) v.directory w.directory
         → Steps (geometry sets ways) (shown sets v) (Deliver key) None (shown sets w) × IsSound sets ways w
     at None is none = absurd none
     at (Some s) is (told, block) = serves sets ways key v w m s sound here goes (record { program = program; seats = seats; stamps = stamps; row = is; block = block; sends = subst (λ ms. Sends (taken key (in_flight v.flights)) ms (in_flight w.flights)) told sends })
 
 -- or has held
 pub held : (sets ways key : ℕ) (v : State) (m : Message) (new : Blocks) → IsSound sets ways v → in_flight v.flights key ≡ Some (shown_message m) → receiver_of (shown_message m) ≡ None
-    → Follows Held (row_of v.directory (shown_message m)) (block_of (shown_message m)) v.directory new → Steps (geometry sets ways) (shown sets v) (Deliver key) None (shown sets v)
+    → Answers None (row_of v.directory (shown_message m)) (block_of (shown_message m)) v.directory new → Steps (geometry sets ways) (shown sets v) (Deliver key) None (shown sets v)
 held sets ways key v m new sound here goes f = holds sets ways key v m sound here goes f.0

@@ -1,12 +1,16 @@
-ghost use Rattle.std.specs.Prelude.{◌≡◌, ◌<◌, ◌≤◌, ◌+◌, length, option_to_list, IsSome};
+ghost use Rattle.std.specs.Prelude.{◌≡◌, ◌<◌, ◌≤◌, ◌+◌, option_to_list, IsSome};
 ghost use Rattle.std.specs.Option.{option_map};
 ghost use Rattle.protocol.specs.Messages.{shown, receiver_of};
 ghost use Rattle.protocol.specs.Network.{Sends, taken};
-ghost use Rattle.machine.specs.Mail.{in_flight, messages_of, NumbersOn};
+ghost use Rattle.words.specs.Harts.{names};
+ghost use Rattle.words.specs.Limits.{most_harts};
+ghost use Rattle.protocol.specs.Directory.{forwards};
+ghost use Rattle.directory.specs.Sends.{messages_in};
+ghost use Rattle.machine.specs.Mail.{in_flight, NumbersOn};
 
-use directory::Outgoing;
+use directory::{Answer, Request};
 use network::Net;
-use words::{HartId, Message};
+use words::{HartId, HartSet, Message};
 
 /// The hart that a message goes to. `None` where it goes to the directory.
 pub fn receiver(message: &Message) -> Option<HartId>
@@ -43,13 +47,67 @@ pub fn send(net: &mut Net, message: Option<Message>)
     }
 }
 
-/// Sends messages in order.
-pub fn send_all(net: &mut Net, messages: &[Outgoing])
-    requires { length messages.now ≤ net.old.room }
-    ensures sends { Sends (in_flight net.old.slots) (messages_of messages.now) (in_flight net.new.slots) }
+/// Sends what the directory answers to a message.
+pub fn send_answer(net: &mut Net, answer: &Answer, harts: usize)
+    requires harts { harts ≤ most_harts }
+    requires room { most_harts < net.old.room }
+    ensures sends { Sends (in_flight net.old.slots) (messages_in harts answer.now) (in_flight net.new.slots) }
     ensures numbers { NumbersOn net.old.slots net.old.next net.new.slots net.new.next }
 {
-    for sent in messages {
-        net.send(sent.message);
+    match answer {
+        Answer::Silent => {}
+        Answer::Acknowledged { to, block } => {
+            net.send(Message::PutAck {
+                to: *to,
+                block: *block,
+            });
+        }
+        Answer::Granted {
+            to,
+            block,
+            kind,
+            stamp,
+            give,
+            content,
+            expect,
+        } => {
+            net.send(Message::Grant {
+                to: *to,
+                block: *block,
+                give: *give,
+                content: *content,
+                expect: *expect,
+            });
+            let request = Request {
+                requester: *to,
+                block: *block,
+                kind: *kind,
+                stamp: *stamp,
+            };
+            forward(net, &request, expect, harts);
+        }
+    }
+}
+
+/// Forwards a request to each hart of a set, by rising number.
+fn forward(net: &mut Net, request: &Request, expect: &HartSet, harts: usize)
+    requires harts { harts ≤ most_harts }
+    requires room { harts ≤ net.old.room }
+    ensures sends { Sends (in_flight net.old.slots)
+        (forwards harts (names expect.now) request.now.block request.now.kind request.now.requester request.now.stamp)
+        (in_flight net.new.slots) }
+    ensures numbers { NumbersOn net.old.slots net.old.next net.new.slots net.new.next }
+{
+    for h in 0..harts {
+        let to = HartId::new(h as u8);
+        if expect.contains(to) {
+            net.send(Message::Forward {
+                to,
+                block: request.block,
+                kind: request.kind,
+                requester: request.requester,
+                stamp: request.stamp,
+            });
+        }
     }
 }

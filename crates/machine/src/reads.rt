@@ -1,16 +1,17 @@
-ghost use Rattle.std.specs.Prelude.{◌≡◌, ◌≢◌, ◌≤◌, ◌<◌, ◌↔◌, ℕ, length, slice_get, None, IsSome, IfSome, IfNone};
+ghost use Rattle.std.specs.Prelude.{◌≡◌, ◌≢◌, ◌≤◌, ◌<◌, ◌↔◌, ℕ, length, slice_get, Some, None, IsSome, IfSome, IfNone};
 ghost use Rattle.std.specs.List.{slice_index_or};
 ghost use Rattle.std.specs.Option.{option_map};
 ghost use Rattle.words.specs.Limits.{most_harts};
 ghost use Rattle.flat.specs.State.{Flat};
 ghost use Rattle.flat.specs.Reads.{shown_if};
 ghost use Rattle.network.specs.Flights.{IsNext, NoneAfter};
-ghost use Rattle.protocol.specs.Messages.{shown as shown_message};
+ghost use Rattle.protocol.specs.Messages.{Message as MessageValue, shown as shown_message};
 ghost use Rattle.protocol.specs.Directory.{first_entry};
 ghost use Rattle.directory.specs.Blocks.{kept_at, IsInOrder};
 ghost use Rattle.directory.specs.Entries.{shown_entry};
 ghost use Rattle.hart.specs.Shown.{shown_line};
 ghost use Rattle.isolation.specs.Belongs.{Belongs};
+ghost use Rattle.isolation.specs.Facts.{IsAlike};
 ghost use Rattle.machine.specs.Reads.{regs_if, info_of, log_word};
 
 use crate::info::{TxInfo, info};
@@ -125,8 +126,17 @@ impl<const SETS: usize, const WAYS: usize> Machine<SETS, WAYS> {
     pub fn message(&self, key: usize) -> Option<Message>
         ensures value { option_map shown_message result ≡ (shown SETS self.now).net key }
         ensures flight { result ≡ option_map (λ f. f.message) (slice_index_or self.now.flights key None) }
+        // Of its sort, block and hart it is the only one.
+        ensures alone { IfSome result (λ m. (other : ℕ) (n : MessageValue) → (shown SETS self.now).net other ≡ Some n → IsAlike n (shown_message m) → other ≡ key) }
     {
         self.net.get(key)
+    }
+
+    /// A number below which all keys lie that messages in flight have.
+    pub fn keys(&self) -> usize
+        ensures { (key : ℕ) → result ≤ key → slice_index_or self.now.flights key None ≡ None }
+    {
+        self.net.keys()
     }
 
     /// The key of the message in flight that was sent next after the one under a key. Without a key, and where nothing is under it, that of

@@ -1,4 +1,5 @@
 ghost use Rattle.std.specs.Prelude.{◌≡◌, ◌<◌, ℕ, IfOk, OnErr, Some, None};
+ghost use Rattle.std.specs.Option.{option_map};
 ghost use Rattle.words.specs.declared.entry.Step.TheVariants.{Core, Evict, Deliver};
 ghost use Rattle.flat.specs.State.{Flat};
 ghost use Rattle.flat.specs.Steps.{CarriesSome};
@@ -8,8 +9,7 @@ ghost use Rattle.isolation.specs.Belongs.{Belongs};
 ghost use Rattle.machine.specs.Mail.{in_flight, NumbersOn};
 
 use crate::machine::Machine;
-use crate::mail::{receiver, send, send_all, take};
-use directory::Received;
+use crate::mail::{receiver, send, send_answer, take};
 use std::alloc::AllocError;
 use words::{BlockNo, Entry, HARTS, HartId, Message, Step};
 
@@ -29,7 +29,7 @@ impl<const SETS: usize, const WAYS: usize> Machine<SETS, WAYS> {
     ghost use Rattle.machine.specs.States.{shown, geometry};
 
     /// One step of a hart's core.
-    fn core(&mut self, id: HartId) -> Result<Option<Entry>, AllocError>
+    pub(crate) fn core(&mut self, id: HartId) -> Result<Option<Entry>, AllocError>
         ensures steps { IfOk result (λ e. Steps (geometry SETS WAYS) (shown SETS self.old) (Core id) e (shown SETS self.new)) }
         ensures numbers { NumbersOn self.old.flights self.old.sent self.new.flights self.new.sent }
         ensures err { OnErr result (self.new ≡ self.old) }
@@ -77,28 +77,34 @@ impl<const SETS: usize, const WAYS: usize> Machine<SETS, WAYS> {
         ensures numbers { NumbersOn self.old.flights self.old.sent self.new.flights self.new.sent }
         ensures err { OnErr result (self.new ≡ self.old) }
     {
-        match self.net.get(key) {
+        match self.net.peek(key) {
             None => Ok(None),
-            Some(message) => match receiver(&message) {
-                Some(id) => Ok(self.deliver_to_hart(key, id, message)),
-                None => self.deliver_to_directory(key, message),
+            Some(message) => match receiver(message) {
+                Some(id) => Ok(self.deliver_to_hart(key, id)),
+                None => {
+                    let message = *message;
+                    self.deliver_to_directory(key, &message)
+                }
             },
         }
     }
 
     /// The message under a key arrives at a hart. One for no hart stays in flight.
-    fn deliver_to_hart(&mut self, key: usize, id: HartId, message: Message) -> Option<Entry>
-        requires message { in_flight self.old.flights key ≡ Some (shown_message message) }
-        requires receiver { receiver_of (shown_message message) ≡ Some id }
+    #[inline(always)]
+    fn deliver_to_hart(&mut self, key: usize, id: HartId) -> Option<Entry>
+        requires { option_map receiver_of (in_flight self.old.flights key) ≡ Some (Some id) }
         ensures steps { Steps (geometry SETS WAYS) (shown SETS self.old) (Deliver key) result (shown SETS self.new) }
         ensures numbers { NumbersOn self.old.flights self.old.sent self.new.flights self.new.sent }
     {
+        let Some(message) = self.net.peek(key) else {
+            return None;
+        };
         let i = id.index();
         if i >= self.seats.len() {
             return None;
         }
-        take(&mut self.net, key);
         let reply = self.seats[i].hart.on_message(message);
+        take(&mut self.net, key);
         send(&mut self.net, reply.message);
         reply.entry
     }
@@ -107,20 +113,20 @@ impl<const SETS: usize, const WAYS: usize> Machine<SETS, WAYS> {
     fn deliver_to_directory(
         &mut self,
         key: usize,
-        message: Message,
+        message: &Message,
     ) -> Result<Option<Entry>, AllocError>
-        requires message { in_flight self.old.flights key ≡ Some (shown_message message) }
-        requires receiver { receiver_of (shown_message message) ≡ None }
+        requires message { in_flight self.old.flights key ≡ Some (shown_message message.now) }
+        requires receiver { receiver_of (shown_message message.now) ≡ None }
         ensures steps { IfOk result (λ e. Steps (geometry SETS WAYS) (shown SETS self.old) (Deliver key) e (shown SETS self.new)) }
         ensures numbers { NumbersOn self.old.flights self.old.sent self.new.flights self.new.sent }
         ensures err { OnErr result (self.new ≡ self.old) }
     {
         self.net.reserve(HARTS)?;
-        match self.directory.receive(message)? {
-            Received::Held => Ok(None),
-            Received::Sent(sends) => {
+        match self.directory.serve(message)? {
+            None => Ok(None),
+            Some(answer) => {
                 take(&mut self.net, key);
-                send_all(&mut self.net, sends.as_slice());
+                send_answer(&mut self.net, &answer, self.directory.harts());
                 Ok(None)
             }
         }

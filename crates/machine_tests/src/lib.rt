@@ -1,5 +1,4 @@
-//! Programs run on the coherent machine, under schedules that a simulator wouldn't choose; the entries are checked by the plain machine,
-//! which shares nothing with it but the instruction table.
+//! Programs run on the coherent machine, step by step, and what is read of it on the way.
 #![tactic(auto)]
 
 #[cfg(test)]

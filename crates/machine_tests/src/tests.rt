@@ -1,9 +1,4 @@
-mod alike;
-mod moves;
-mod play;
-mod programs;
+mod checks;
 mod rows;
-mod runs;
-mod schedules;
 mod sharing;
 mod traps;

@@ -103,12 +103,19 @@ inside slots key f at = elim (cases_lt key (length slots)) [
   | inr k ↦ absurd (none-some f (sym (get_or_past slots key None (omega arith)) ∙ at))
 ]
 
--- the best of all keys is the oldest
-pub IsOldest-best : (answers : Message → Bool → Type 0) (net : Flights) (n key number : ℕ) → length net.slots ≤ n
+-- or below each number from which on there is none
+pub below_end : (slots : List (Option Flight)) (n key : ℕ) (f : Flight) → ((other : ℕ) → n ≤ other → get_or slots other None ≡ None) → get_or slots key None ≡ Some f → key < n
+below_end slots n key f none at = elim (cases_lt key n) [
+  | inl k ↦ k
+  | inr k ↦ absurd (none-some f (sym (none key k) ∙ at))
+]
+
+-- the best of all keys up to where no message is left is the oldest
+pub IsOldest-best : (answers : Message → Bool → Type 0) (net : Flights) (n key number : ℕ) → ((other : ℕ) → n ≤ other → get_or net.slots other None ≡ None)
     → BestAt (λ k f. answers f.message true) (λ k f. answers f.message false) net.slots n key number → IsOldest answers net key
 IsOldest-best answers net n key number all h = record {
   flight = h.flight;
   here = h.here;
   passes = h.passes;
-  first = λ other f at. rw h.numbered (h.first other f (let k : other < length net.slots = inside net.slots other f at in omega arith) at);
+  first = λ other f at. rw h.numbered (h.first other f (below_end net.slots n other f all at) at);
 }

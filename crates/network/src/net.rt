@@ -1,5 +1,6 @@
 ghost use Rattle.std.specs.Prelude.{◌≡◌, ◌≢◌, ◌+◌, ◌<◌, ◌≤◌, ◌↔◌, ℕ, Some, None, min, IsTrue, OnOk, OnErr, IsSome, IfSome, IfNone};
 ghost use Rattle.std.specs.Fn.{FnReturnsAt};
+ghost use Rattle.std.specs.Option.{option_map};
 ghost use Rattle.network.specs.Flights.{message_at, flight_at, IsOldest, NonePasses, IsNext, NoneAfter, position_of, is_after, first_of};
 ghost use Rattle.slab.specs.Slab.{HasRoomFor, Updates, get, slab_len};
 
@@ -102,6 +103,17 @@ impl Net {
         }
     }
 
+    /// The same message, where it stands.
+    #[inline(always)]
+    pub fn peek(&self, key: usize) -> Option<&Message>
+        ensures { option_map (λ message. message.now) result ≡ message_at self.now key }
+    {
+        match self.slab.get(key) {
+            Some(flight) => Some(&flight.message),
+            None => None,
+        }
+    }
+
     /// Takes the message under a key out.
     pub fn take(&mut self, key: usize) -> Option<Message>
         ensures value { result ≡ message_at self.old key }
@@ -124,12 +136,16 @@ impl Net {
         ensures some { IfSome result (λ key. IsOldest (FnReturnsAt F.Fn passes) self.now key) }
     {
         let mut best = None;
-        for key in 0..self.slab.capacity() {
+        let mut key = 0;
+        let mut left = self.slab.len();
+        while key < self.slab.capacity() && left > 0 {
             if let Some(flight) = self.slab.get(key) {
+                left -= 1;
                 if passes(&flight.message) {
                     best = first_of(best, key, flight.number);
                 }
             }
+            key += 1;
         }
         match best {
             Some((key, _)) => Some(key),

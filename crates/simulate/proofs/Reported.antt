@@ -13,7 +13,7 @@ use Rattle.simulate.specs.Refusals.{IsFaultOf, IsListingFault, IsRunFault}
 use Rattle.simulate.specs.Sources.{IsProgramFault, IsSourceFault}
 use Rattle.simulate.specs.Statuses.{status_for, IsGreatest, IsReported, IsRefused}
 use Rattle.simulate.specs.declared.fault.Fault.{Fault}
-use Rattle.simulate.specs.declared.fault.Fault.TheVariants.{NotText, Refused, Value, Unread, NotSource, Source, Load, Boot, Word, Unwritten, Unmade, NoMemory}
+use Rattle.simulate.specs.declared.fault.Fault.TheVariants.{NotText, Refused, Value, Unread, NotSource, Source, Load, Boot, Word, NotSchedule, Schedule, Unwritten, Unmade, NoMemory}
 use Rattle.std.specs.Prelude.{List}
 
 exit_status : (b : Bool) → IsReported (cond b 0 1)
@@ -73,6 +73,8 @@ fault-not_reported (Source refused) h = omega (arith, h)
 fault-not_reported (Load fault) h = omega (arith, h)
 fault-not_reported (Boot fault) h = omega (arith, h)
 fault-not_reported (Word text) h = omega (arith, h)
+fault-not_reported NotSchedule h = omega (arith, h)
+fault-not_reported (Schedule number) h = omega (arith, h)
 fault-not_reported Unwritten h = omega (arith, h)
 fault-not_reported (Unmade file) h = omega (arith, h)
 fault-not_reported NoMemory h = omega (arith, h)
@@ -88,24 +90,28 @@ program_unwritten path file (Source refused) why h = absurd (omega (arith, h))
 program_unwritten path file (Load fault) why h = absurd (omega (arith, h))
 program_unwritten path file (Boot fault) why h = absurd (omega (arith, h))
 program_unwritten path file (Word text) why h = absurd (omega (arith, h))
+program_unwritten path file NotSchedule why h = absurd (omega (arith, h))
+program_unwritten path file (Schedule number) why h = absurd (omega (arith, h))
 program_unwritten path file Unwritten why h = elim why [ inl x ↦ x.1 | inr x ↦ x.1 ]
 program_unwritten path file (Unmade other) why h = elim why [ inl x ↦ x.1 | inr x ↦ x.1 ]
 program_unwritten path file NoMemory why h = absurd (omega (arith, h))
 
 -- of the faults of a run only one has
-run_unwritten : (run : Run) (file : List ℕ) (e : Fault) → IsRunFault run file e → fault_status e ≡ 3 → e ≡ Unwritten
-run_unwritten run file NotText why h = absurd (omega (arith, h))
-run_unwritten run file (Refused text) why h = absurd (omega (arith, h))
-run_unwritten run file (Value text) why h = absurd (omega (arith, h))
-run_unwritten run file (Unread path) why h = absurd (program_unwritten run.file.now file (Unread path) why h)
-run_unwritten run file NotSource why h = absurd (omega (arith, h))
-run_unwritten run file (Source refused) why h = absurd (omega (arith, h))
-run_unwritten run file (Load fault) why h = absurd (omega (arith, h))
-run_unwritten run file (Boot fault) why h = absurd (omega (arith, h))
-run_unwritten run file (Word text) why h = absurd (omega (arith, h))
-run_unwritten run file Unwritten why h = refl
-run_unwritten run file (Unmade path) why h = absurd (program_unwritten run.file.now file (Unmade path) why h)
-run_unwritten run file NoMemory why h = absurd (omega (arith, h))
+run_unwritten : (run : Run) (file list : List ℕ) (e : Fault) → IsRunFault run file list e → fault_status e ≡ 3 → e ≡ Unwritten
+run_unwritten run file list NotText why h = absurd (omega (arith, h))
+run_unwritten run file list (Refused text) why h = absurd (omega (arith, h))
+run_unwritten run file list (Value text) why h = absurd (omega (arith, h))
+run_unwritten run file list (Unread path) why h = absurd (program_unwritten run.file.now file (Unread path) why h)
+run_unwritten run file list NotSource why h = absurd (omega (arith, h))
+run_unwritten run file list (Source refused) why h = absurd (omega (arith, h))
+run_unwritten run file list (Load fault) why h = absurd (omega (arith, h))
+run_unwritten run file list (Boot fault) why h = absurd (omega (arith, h))
+run_unwritten run file list (Word text) why h = absurd (omega (arith, h))
+run_unwritten run file list NotSchedule why h = absurd (omega (arith, h))
+run_unwritten run file list (Schedule number) why h = absurd (omega (arith, h))
+run_unwritten run file list Unwritten why h = refl
+run_unwritten run file list (Unmade path) why h = absurd (program_unwritten run.file.now file (Unmade path) why h)
+run_unwritten run file list NoMemory why h = absurd (omega (arith, h))
 
 -- of those of a listing
 listing_unwritten : (file : List ℕ) (e : Fault) → IsListingFault file e → fault_status e ≡ 3 → e ≡ Unwritten
@@ -118,6 +124,8 @@ listing_unwritten file (Source refused) why h = absurd (omega (arith, h))
 listing_unwritten file (Load fault) why h = absurd (omega (arith, h))
 listing_unwritten file (Boot fault) why h = absurd (omega (arith, h))
 listing_unwritten file (Word text) why h = absurd (omega (arith, h))
+listing_unwritten file NotSchedule why h = absurd (omega (arith, h))
+listing_unwritten file (Schedule number) why h = absurd (omega (arith, h))
 listing_unwritten file Unwritten why h = refl
 listing_unwritten file (Unmade path) why h = absurd why
 listing_unwritten file NoMemory why h = absurd (omega (arith, h))
@@ -133,12 +141,14 @@ source_unwritten file (Source refused) why h = absurd (omega (arith, h))
 source_unwritten file (Load fault) why h = absurd (omega (arith, h))
 source_unwritten file (Boot fault) why h = absurd (omega (arith, h))
 source_unwritten file (Word text) why h = absurd (omega (arith, h))
+source_unwritten file NotSchedule why h = absurd (omega (arith, h))
+source_unwritten file (Schedule number) why h = absurd (omega (arith, h))
 source_unwritten file Unwritten why h = why
 source_unwritten file (Unmade path) why h = why
 source_unwritten file NoMemory why h = absurd (omega (arith, h))
 
 -- and so of those of an order
-pub fault-unwritten : (order : Order) (file : List ℕ) (e : Fault) → IsFaultOf order file e → fault_status e ≡ 3 → e ≡ Unwritten
-fault-unwritten (order.Run run) file e why h = run_unwritten run file e why h
-fault-unwritten (order.Dis path) file e why h = listing_unwritten file e why h
-fault-unwritten (order.Asm source target) file e why h = absurd (source_unwritten file e why h)
+pub fault-unwritten : (order : Order) (file list : List ℕ) (e : Fault) → IsFaultOf order file list e → fault_status e ≡ 3 → e ≡ Unwritten
+fault-unwritten (order.Run run) file list e why h = run_unwritten run file list e why h
+fault-unwritten (order.Dis path) file list e why h = listing_unwritten file e why h
+fault-unwritten (order.Asm source target) file list e why h = absurd (source_unwritten file e why h)

@@ -14,11 +14,11 @@ use Rattle.simulate.specs.Sinks.{TookAll, TookPart}
 abbrev pub IsListingOf : List ℕ → List ℕ → ℕ → Type 0
 IsListingOf file text status = (p : Program) × IsElfOf file p × (text ≡ listing_of p) × (status ≡ 0)
 
--- the text is what an order asks for, of the file with these bytes, and the status goes with it
-abbrev pub IsAnswerTo : Order → List ℕ → List ℕ → ℕ → Type 0
-IsAnswerTo (Run run) file text status = IsReportOf run file text status
-IsAnswerTo (Dis path) file text status = IsListingOf file text status
-IsAnswerTo (Asm source target) file text status = ((p : Program) × IsSourceOf file p) × (text ≡ []) × (status ≡ 0)
+-- the text is what an order asks for, of the file with these bytes and by the list with these, and the status goes with it
+abbrev pub IsAnswerTo : Order → List ℕ → List ℕ → List ℕ → ℕ → Type 0
+IsAnswerTo (Run run) file list text status = IsReportOf run file list text status
+IsAnswerTo (Dis path) file list text status = IsListingOf file text status
+IsAnswerTo (Asm source target) file list text status = ((p : Program) × IsSourceOf file p) × (text ≡ []) × (status ≡ 0)
 
 -- the bytes are those of the file that an order asks to be written: the program of a source
 abbrev pub IsImageFor : Order → List ℕ → List ℕ → Type 0

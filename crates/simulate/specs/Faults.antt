@@ -9,15 +9,17 @@ use Rattle.loader.specs.Faults.{fault_number, fault_name}
 use Rattle.flat.specs.declared.boot_fault.BootFault.{BootFault}
 use Rattle.flat.specs.declared.boot_fault.BootFault.TheVariants as boot
 use Rattle.flat.specs.BootFaults.{boot_fault_number, boot_fault_name}
-use Rattle.assembler.specs.declared.fault.AsmFault.{AsmFault}
-use Rattle.assembler.specs.declared.fault.AsmFault.TheVariants as asm
+use Rattle.source_operands.specs.declared.fault.AsmFault.{AsmFault}
+use Rattle.source_operands.specs.declared.fault.AsmFault.TheVariants as asm
 use Rattle.assembler.specs.declared.fault.SourceFault.{SourceFault}
-use Rattle.assembler.specs.Faults.{fault_number as asm_number, fault_name as asm_name}
+use Rattle.source_operands.specs.Faults.{fault_number as asm_number, fault_name as asm_name}
+use Rattle.schedule.specs.declared.lines.ScheduleFault.{ScheduleFault}
+use Rattle.schedule.specs.declared.lines.ScheduleFault.TheVariants as schedule
 use Rattle.simulate.specs.Reports.{line_end}
 use Rattle.simulate.specs.declared.fault.Fault.{Fault}
-use Rattle.simulate.specs.declared.fault.Fault.TheVariants.{NotText, Refused, Value, Unread, NotSource, Source, Load, Boot, Word, Unwritten, Unmade, NoMemory}
+use Rattle.simulate.specs.declared.fault.Fault.TheVariants.{NotText, Refused, Value, Unread, NotSource, Source, Load, Boot, Word, NotSchedule, Schedule, Unwritten, Unmade, NoMemory}
 
--- 2 for the command line, 3 for a file, 4 for what is in the file and for the machine that is asked for, 6 if memory ran out
+-- 2 for the command line and a schedule, 3 for a file, 4 for what is in the file and for the machine that is asked for, 6 if memory ran out
 abbrev pub fault_status : Fault → ℕ
 fault_status NotText = 2
 fault_status (Refused text) = 2
@@ -28,6 +30,8 @@ fault_status (Source refused) = 4
 fault_status (Load fault) = 4
 fault_status (Boot fault) = 4
 fault_status (Word text) = 2
+fault_status NotSchedule = 2
+fault_status (Schedule number) = 2
 fault_status Unwritten = 3
 fault_status (Unmade file) = 3
 fault_status NoMemory = 6
@@ -44,6 +48,10 @@ refusal_line what number name = concat (codes "logtm: " ∷ what ∷ decimal num
 abbrev pub refused_text : ℕ → ℕ → List ℕ → List ℕ
 refused_text at number name = concat (codes "logtm: line " ∷ decimal at ∷ codes ": " ∷ decimal number ∷ codes " " ∷ name ∷ line_end ∷ [])
 
+-- the line on a line of a schedule that spells no step
+abbrev pub unspelled_text : ℕ → List ℕ
+unspelled_text at = concat (codes "logtm: schedule line " ∷ decimal at ∷ codes ": no step" ∷ line_end ∷ [])
+
 -- what the user is told of a fault
 abbrev pub fault_text : Fault → List ℕ
 fault_text NotText = line (codes "an argument is not text") []
@@ -55,6 +63,8 @@ fault_text (Source refused) = refused_text refused.line (asm_number refused.faul
 fault_text (Load fault) = refusal_line (codes "load ") (fault_number fault) (fault_name fault)
 fault_text (Boot fault) = refusal_line (codes "boot ") (boot_fault_number fault) (boot_fault_name fault)
 fault_text (Word text) = line (codes "word ") text.now
+fault_text NotSchedule = line (codes "schedule is not text") []
+fault_text (Schedule number) = unspelled_text number
 fault_text Unwritten = line (codes "cannot write standard output") []
 fault_text (Unmade file) = line (codes "cannot write ") file.now
 fault_text NoMemory = line (codes "no memory") []
@@ -93,3 +103,8 @@ of_asm refused other = Source refused
 
 abbrev pub of_source : SourceFault → Fault
 of_source refused = of_asm refused refused.fault
+
+-- the fault of a schedule, likewise
+abbrev pub of_schedule : ScheduleFault → Fault
+of_schedule (schedule.Line number) = Schedule number
+of_schedule schedule.NoMemory = NoMemory

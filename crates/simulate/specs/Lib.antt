@@ -2,6 +2,7 @@ pub mod Sinks
 pub mod Reports
 pub mod Faults
 pub mod Sources
+pub mod Schedules
 pub mod Statuses
 pub mod Runs
 pub mod Unreadable

@@ -8,25 +8,29 @@ use Rattle.loader.specs.Programs.{Program}
 use Rattle.protocol.specs.Caches.{Geometry}
 use Rattle.protocol.specs.Start.{start}
 use Rattle.machine.specs.States.{State, setting_of, shown}
-use Rattle.machine.specs.Turns.{TakesTurns}
 use Rattle.command_line.specs.declared.request.Run.{Run}
 use Rattle.command_line.specs.declared.request.Word.{Word}
+use Rattle.schedule.specs.declared.choices.Choice.{Choice}
+use Rattle.schedule.specs.Follows.{Follows}
 use Rattle.simulate.specs.Orders.{geometry_of}
 use Rattle.simulate.specs.Reports.{report_of, AllReadable}
+use Rattle.simulate.specs.Schedules.{AreChosenBy}
 use Rattle.simulate.specs.Sources.{IsProgramIn}
 use Rattle.simulate.specs.Statuses.{IsStatusOf}
 
--- the file with this name and these bytes has a program, which boots; so many turns lead from the machine that it begins in to another, or fewer if there are no more; and their
--- entries, as a run of the flat machine, lead from the program's first state to this one
-pub record ComesTo (path file : List ℕ) (cache : Geometry) (harts memory steps : ℕ) (f : Flat) : Type 0 where
+-- the file with this name and these bytes has a program, which boots; so many steps, those that a list chooses and then turns, lead from the machine that it begins in to another, or
+-- fewer if there are no more; and their entries, as a run of the flat machine, lead from the program's first state to this one
+pub record ComesTo (path file list : List ℕ) (cache : Geometry) (harts memory steps : ℕ) (f : Flat) : Type 0 where
   pub program : Program
   pub holds : IsProgramIn path file program
   pub boots : boot_fault program.segments harts memory ≡ None
   pub first : State
   pub begins : shown cache.sets first ≡ start (booted program.segments program.entry harts memory).setting program.entry
+  pub choices : List Choice
+  pub chosen : AreChosenBy list choices
   pub last : State
   pub entries : List Entry
-  pub turns : TakesTurns cache steps first ((setting_of first).count - 1) entries last
+  pub made : Follows cache choices steps first ((setting_of first).count - 1) entries last
   pub run : IsRun (booted program.segments program.entry harts memory) entries f
 
 -- the addresses of the words that are to be shown
@@ -39,7 +43,7 @@ pub record IsReport (f : Flat) (words : List Word) (shown : List ℕ) (given : �
   pub text : shown ≡ report_of f (addresses words)
   pub status : IsStatusOf f given
 
--- the text is the report that a run of the file with these bytes comes to, and the status goes with it
-abbrev pub IsReportOf : Run → List ℕ → List ℕ → ℕ → Type 0
-IsReportOf run file text status =
-    (f : Flat) × ComesTo run.file.now file (geometry_of run.cache) run.harts run.memory run.steps f × IsReport f run.words.items text status
+-- the text is the report that a run of the file with these bytes, by this list, comes to, and the status goes with it
+abbrev pub IsReportOf : Run → List ℕ → List ℕ → List ℕ → ℕ → Type 0
+IsReportOf run file list text status =
+    (f : Flat) × ComesTo run.file.now file list (geometry_of run.cache) run.harts run.memory run.steps f × IsReport f run.words.items text status

@@ -1,5 +1,5 @@
 ghost use Rattle.std.specs.Prelude.{◌≡◌};
-ghost use Rattle.simulate.specs.Faults.{fault_status, fault_text, line, refusal_line, refused_text, of_order, of_source, of_load, of_boot};
+ghost use Rattle.simulate.specs.Faults.{fault_status, fault_text, line, refusal_line, refused_text, unspelled_text, of_order, of_source, of_load, of_boot, of_schedule};
 ghost use Rattle.simulate.specs.Sinks.{IsPut};
 ghost use Rattle.texts.specs.Puts.{Puts};
 ghost use Rattle.simulate.specs.declared.fault.Fault.TheVariants.{NoMemory, Unwritten};
@@ -9,6 +9,7 @@ use command_line::OrderFault;
 use flat::BootFault;
 use itoa::Buffer;
 use loader::LoadFault;
+use schedule::ScheduleFault;
 use std::alloc::{AllocError, AllocFailed};
 use texts::put_all;
 use words::{Sink, SinkFault};
@@ -34,6 +35,10 @@ pub enum Fault<'a> {
     Boot(BootFault),
     /// A WORD where nothing can be read, as the user wrote it.
     Word(&'a str),
+    /// The schedule is not text.
+    NotSchedule,
+    /// The number of a line of the schedule that spells no step.
+    Schedule(usize),
     /// Standard output failed.
     Unwritten,
     /// The path of a file that can't be written.
@@ -42,13 +47,14 @@ pub enum Fault<'a> {
 }
 
 impl<'a> Fault<'a> {
-    /// The status that the program ends with: 2 for the command line, 3 for a file, 4 for what is in the file and for
+    /// The status that the program ends with: 2 for the command line and a schedule, 3 for a file, 4 for what is in the file and for
     /// the machine that is asked for, 6 if memory ran out.
     pub fn status(&self) -> u8
         ensures { result ≡ fault_status self.now }
     {
         match self {
             Fault::NotText | Fault::Refused(_) | Fault::Value(_) | Fault::Word(_) => 2,
+            Fault::NotSchedule | Fault::Schedule(_) => 2,
             Fault::Unread(_) | Fault::Unwritten | Fault::Unmade(_) => 3,
             Fault::NotSource | Fault::Source(_) | Fault::Load(_) | Fault::Boot(_) => 4,
             Fault::NoMemory => 6,
@@ -74,6 +80,8 @@ impl<'a> Fault<'a> {
             Fault::Load(fault) => put_refusal(sink, b"load ", fault.number(), fault.name()),
             Fault::Boot(fault) => put_refusal(sink, b"boot ", fault.number(), fault.name()),
             Fault::Word(text) => put_line(sink, b"word ", text),
+            Fault::NotSchedule => put_line(sink, b"schedule is not text", ""),
+            Fault::Schedule(line) => put_unspelled(sink, *line),
             Fault::Unwritten => put_line(sink, b"cannot write standard output", ""),
             Fault::Unmade(file) => put_line(sink, b"cannot write ", file),
             Fault::NoMemory => put_line(sink, b"no memory", ""),
@@ -133,6 +141,22 @@ fn put_refused<S: Sink>(sink: &mut S, line: usize, number: u32, name: &str) -> R
     )
 }
 
+/// Puts that a line of a schedule spells no step.
+fn put_unspelled<S: Sink>(sink: &mut S, line: usize) -> Result<(), SinkFault>
+    ensures { Puts (S.taken sink.old) (S.taken sink.new) (S.failed sink.old) (S.failed sink.new) (unspelled_text line) result }
+{
+    let mut place = Buffer::new();
+    put_all(
+        sink,
+        &[
+            b"logtm: schedule line ",
+            place.format(line).as_bytes(),
+            b": no step",
+            b"\n",
+        ],
+    )
+}
+
 impl<'a> From<OrderFault<'a>> for Fault<'a> {
     ghost from_gives = { λ x e. e ≡ of_order x };
 
@@ -174,6 +198,17 @@ impl<'a> From<BootFault> for Fault<'a> {
         match fault {
             BootFault::NoMemory => Fault::NoMemory,
             other => Fault::Boot(other),
+        }
+    }
+}
+
+impl<'a> From<ScheduleFault> for Fault<'a> {
+    ghost from_gives = { λ x e. e ≡ of_schedule x };
+
+    fn from(fault: ScheduleFault) -> Fault<'a> {
+        match fault {
+            ScheduleFault::Line(line) => Fault::Schedule(line),
+            ScheduleFault::NoMemory => Fault::NoMemory,
         }
     }
 }

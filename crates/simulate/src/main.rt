@@ -71,11 +71,15 @@ fn try_answer<'a, R: Files + AllocGlobal, W: Write + Drop, E: Sink>(
 ) -> Result<u8, Fault<'a>> {
     let order = order(rt.alloc(), words)?;
     let bytes = read(rt, order.path())?;
+    let list = match order.schedule() {
+        Some(path) => read(rt, path)?,
+        None => Vec::new(rt.alloc()),
+    };
     let Ok(writer) = BufWriter::new(rt.alloc(), out) else {
         return Err(Fault::NoMemory);
     };
     let mut out = Counted { writer, failed: 0 };
-    let outcome = perform(rt.alloc(), &order, &bytes, &mut out, error);
+    let outcome = perform(rt.alloc(), &order, &bytes, &list, &mut out, error);
     let Counted {
         mut writer,
         failed: _,

@@ -15,12 +15,13 @@ ghost use Rattle.simulate.specs.declared.fault.Fault.TheVariants.{Unwritten};
 use crate::fault::Fault;
 use crate::readable::readable;
 use crate::report::report;
-use crate::source::{program_in, program_of_source};
+use crate::source::{choices_in, program_in, program_of_source};
 use crate::status::status;
 use command_line::{Cache, Order, Run};
 use disassembler::listing;
 use loader::{read_elf, write_elf};
 use machine::Machine;
+use schedule::follow;
 use std::alloc::Global;
 use words::Sink;
 
@@ -45,7 +46,7 @@ impl Outcome {
     }
 }
 
-/// Carries out an order, given the bytes of its file: all but reading and writing files. It puts the report or the listing into `out`, or
+/// Carries out an order, given the bytes of its file and those of its schedule, none where it has none: all but reading and writing files. It puts the report or the listing into `out`, or
 /// what the user is told of a fault into `error`.
 ///
 /// Memory may run out at any time, which gives 6: no clause says when.
@@ -53,25 +54,26 @@ pub fn perform<O: Sink, E: Sink>(
     alloc: Global,
     order: &Order<'_>,
     file: &[u8],
+    schedule: &[u8],
     out: &mut O,
     error: &mut E,
 ) -> Outcome
     // 0, 1 or 5: the whole answer was put, and nothing is told.
-    ensures reported { IsReported result.status → IsGiven (IsAnswerTo order.now file.now) result.status (O.taken out.old) (O.taken out.new) (O.failed out.old) (O.failed out.new) }
+    ensures reported { IsReported result.status → IsGiven (IsAnswerTo order.now file.now schedule.now) result.status (O.taken out.old) (O.taken out.new) (O.failed out.old) (O.failed out.new) }
     ensures quiet { IsReported result.status → IsUntouched (E.taken error.old) (E.taken error.new) (E.failed error.old) (E.failed error.new) }
 
     // 3: a put of that answer failed. 2, 4 or 6: there is none.
-    ensures cut { result.status ≡ 3 → IsCut (IsAnswerTo order.now file.now) (O.taken out.old) (O.taken out.new) (O.failed out.old) (O.failed out.new) }
+    ensures cut { result.status ≡ 3 → IsCut (IsAnswerTo order.now file.now schedule.now) (O.taken out.old) (O.taken out.new) (O.failed out.old) (O.failed out.new) }
     ensures refused { IsRefused result.status → IsUntouched (O.taken out.old) (O.taken out.new) (O.failed out.old) (O.failed out.new) }
     ensures known { IsReported result.status ⊎ IsRefused result.status ⊎ (result.status ≡ 3) }
 
     // The user is told why there is no whole answer.
-    ensures told { (IsReported result.status → ⊥) → IsTold order.now file.now result.status (E.taken error.old) (E.taken error.new) (E.failed error.old) (E.failed error.new) }
+    ensures told { (IsReported result.status → ⊥) → IsTold order.now file.now schedule.now result.status (E.taken error.old) (E.taken error.new) (E.failed error.old) (E.failed error.new) }
 
     // The file that is to be written is there just where the order asks for one and nothing was refused.
     ensures image { MatchOption result.image (AsksForFile order.now → IsRefused result.status) (λ image. IsImageFor order.now file.now image.items × (result.status ≡ 0)) }
 {
-    match try_perform(alloc, order, file, out) {
+    match try_perform(alloc, order, file, schedule, out) {
         Ok(outcome) => outcome,
         Err(fault) => Outcome {
             status: fault.tell(error),
@@ -85,18 +87,19 @@ fn try_perform<'a, S: Sink>(
     alloc: Global,
     order: &Order<'a>,
     file: &[u8],
+    schedule: &[u8],
     out: &mut S,
 ) -> Result<Outcome, Fault<'a>>
-    ensures reported { IfOk result (λ o. IsGiven (IsAnswerTo order.now file.now) o.status (S.taken out.old) (S.taken out.new) (S.failed out.old) (S.failed out.new)) }
+    ensures reported { IfOk result (λ o. IsGiven (IsAnswerTo order.now file.now schedule.now) o.status (S.taken out.old) (S.taken out.new) (S.failed out.old) (S.failed out.new)) }
     ensures status { IfOk result (λ o. IsReported o.status) }
     ensures image { IfOk result (λ o. MatchOption o.image (AsksForFile order.now → ⊥) (λ image. IsImageFor order.now file.now image.items × (o.status ≡ 0))) }
-    ensures cut { IfErr result (λ fault. fault ≡ Unwritten → IsCut (IsAnswerTo order.now file.now) (S.taken out.old) (S.taken out.new) (S.failed out.old) (S.failed out.new)) }
+    ensures cut { IfErr result (λ fault. fault ≡ Unwritten → IsCut (IsAnswerTo order.now file.now schedule.now) (S.taken out.old) (S.taken out.new) (S.failed out.old) (S.failed out.new)) }
     ensures refused { IfErr result (λ fault. fault ≢ Unwritten → IsUntouched (S.taken out.old) (S.taken out.new) (S.failed out.old) (S.failed out.new)) }
-    ensures why { IfErr result (IsFaultOf order.now file.now) }
+    ensures why { IfErr result (IsFaultOf order.now file.now schedule.now) }
 {
     match order {
         Order::Run(run) => Ok(Outcome {
-            status: run_and_report(alloc, run, file, out)?,
+            status: run_and_report(alloc, run, file, schedule, out)?,
             image: None,
         }),
         Order::Dis { .. } => Ok(Outcome {
@@ -136,17 +139,18 @@ fn run_and_report<'a, S: Sink>(
     alloc: Global,
     run: &Run<'a>,
     file: &[u8],
+    schedule: &[u8],
     out: &mut S,
 ) -> Result<u8, Fault<'a>>
-    ensures reported { IfOk result (λ status. IsGiven (IsReportOf run.now file.now) status (S.taken out.old) (S.taken out.new) (S.failed out.old) (S.failed out.new)) }
+    ensures reported { IfOk result (λ status. IsGiven (IsReportOf run.now file.now schedule.now) status (S.taken out.old) (S.taken out.new) (S.failed out.old) (S.failed out.new)) }
     ensures status { IfOk result IsReported }
-    ensures cut { IfErr result (λ fault. fault ≡ Unwritten → IsCut (IsReportOf run.now file.now) (S.taken out.old) (S.taken out.new) (S.failed out.old) (S.failed out.new)) }
+    ensures cut { IfErr result (λ fault. fault ≡ Unwritten → IsCut (IsReportOf run.now file.now schedule.now) (S.taken out.old) (S.taken out.new) (S.failed out.old) (S.failed out.new)) }
     ensures refused { IfErr result (λ fault. fault ≢ Unwritten → IsUntouched (S.taken out.old) (S.taken out.new) (S.failed out.old) (S.failed out.new)) }
-    ensures why { IfErr result (IsRunFault run.now file.now) }
+    ensures why { IfErr result (IsRunFault run.now file.now schedule.now) }
 {
     match run.cache {
-        Cache::Small => run_on::<2, 1, S>(alloc, run, file, out),
-        Cache::Normal => run_on::<16, 4, S>(alloc, run, file, out),
+        Cache::Small => run_on::<2, 1, S>(alloc, run, file, schedule, out),
+        Cache::Normal => run_on::<16, 4, S>(alloc, run, file, schedule, out),
     }
 }
 
@@ -155,21 +159,23 @@ fn run_on<'a, const SETS: usize, const WAYS: usize, S: Sink>(
     alloc: Global,
     run: &Run<'a>,
     file: &[u8],
+    schedule: &[u8],
     out: &mut S,
 ) -> Result<u8, Fault<'a>>
     requires sets { 0 < SETS }
     requires ways { 0 < WAYS }
     requires lines { SETS * WAYS < 2 ^ 32 }
     requires cache { geometry_of run.now.cache ≡ geometry SETS WAYS }
-    ensures reported { IfOk result (λ status. IsGiven (IsReportOf run.now file.now) status (S.taken out.old) (S.taken out.new) (S.failed out.old) (S.failed out.new)) }
+    ensures reported { IfOk result (λ status. IsGiven (IsReportOf run.now file.now schedule.now) status (S.taken out.old) (S.taken out.new) (S.failed out.old) (S.failed out.new)) }
     ensures status { IfOk result IsReported }
-    ensures cut { IfErr result (λ fault. fault ≡ Unwritten → IsCut (IsReportOf run.now file.now) (S.taken out.old) (S.taken out.new) (S.failed out.old) (S.failed out.new)) }
+    ensures cut { IfErr result (λ fault. fault ≡ Unwritten → IsCut (IsReportOf run.now file.now schedule.now) (S.taken out.old) (S.taken out.new) (S.failed out.old) (S.failed out.new)) }
     ensures refused { IfErr result (λ fault. fault ≢ Unwritten → IsUntouched (S.taken out.old) (S.taken out.new) (S.failed out.old) (S.failed out.new)) }
-    ensures why { IfErr result (IsRunFault run.now file.now) }
+    ensures why { IfErr result (IsRunFault run.now file.now schedule.now) }
 {
     let mut machine: Machine<SETS, WAYS> = boot(alloc, run.file, file, run.harts, run.memory)?;
     let addrs = readable(alloc, &machine, &run.words)?;
-    machine.take_turns(run.steps)?;
+    let choices = choices_in(alloc, schedule)?;
+    follow(&mut machine, &choices, run.steps)?;
     let status = status(&machine);
     report(&machine, &addrs, out)?;
     Ok(status)

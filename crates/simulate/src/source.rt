@@ -1,10 +1,12 @@
-//! The program in a file: a source's, where the file's name says so, else an ELF file's.
+//! The program in a file: a source's, where the file's name says so, else an ELF file's. And the choices in a schedule's file.
 ghost use Rattle.std.specs.Prelude.{◌≡◌, MatchResult};
 ghost use Rattle.simulate.specs.Sources.{is_source, IsSourceOf, IsProgramIn, IsSourceFault, IsProgramFault};
+ghost use Rattle.simulate.specs.Schedules.{AreChosenBy, IsScheduleFault};
 
 use crate::fault::Fault;
 use assembler::assemble;
 use loader::{Program, read_elf};
+use schedule::{Choice, read};
 use std::alloc::Global;
 use std::str;
 
@@ -33,5 +35,15 @@ pub(crate) fn program_in<'a>(alloc: Global, path: &str, file: &[u8]) -> Result<P
         program_of_source(alloc, file)
     } else {
         Ok(read_elf(alloc, file)?)
+    }
+}
+
+/// The choices that the lines of a schedule's file spell. Want of memory is no fault of the schedule.
+pub(crate) fn choices_in<'a>(alloc: Global, list: &[u8]) -> Result<Vec<Choice>, Fault<'a>>
+    ensures { MatchResult result (λ choices. AreChosenBy list.now choices.items) (IsScheduleFault list.now) }
+{
+    match str::from_utf8(list) {
+        Ok(text) => Ok(read(alloc, text)?),
+        Err(_) => Err(Fault::NotSchedule),
     }
 }

@@ -1,4 +1,6 @@
 //! Programs that are run, with the texts and statuses that they have to give.
+mod schedules;
+
 use crate::perform::perform;
 use command_line::order;
 use elf_samples::{Breaking, COUNTS, EXIT, elf_file};
@@ -23,10 +25,23 @@ fn check(
     out: &str,
     error: &str,
 ) -> Result<(), Fail> {
+    check_by(rt, words, file, &[], status, out, error)
+}
+
+// The same by a schedule.
+fn check_by(
+    rt: &(impl Abort + AllocGlobal),
+    words: &[&str],
+    file: &[u8],
+    schedule: &[u8],
+    status: u8,
+    out: &str,
+    error: &str,
+) -> Result<(), Fail> {
     let mut given = taken(rt.alloc());
     let mut told = taken(rt.alloc());
     let order = order(rt.alloc(), words).ok().ok_or("an order")?;
-    let outcome = perform(rt.alloc(), &order, file, &mut given, &mut told);
+    let outcome = perform(rt.alloc(), &order, file, schedule, &mut given, &mut told);
     assert_eq!(rt; outcome.status, status, "{out}{error}");
     assert_eq!(rt; given.bytes.as_slice(), out.as_bytes());
     assert_eq!(rt; told.bytes.as_slice(), error.as_bytes());
@@ -218,7 +233,7 @@ fn assembles(rt: HostRuntime) -> Result<(), Fail> {
     let source = b"li a7, 93\r\n\tli a0, 0 # status\n\nend: ecall";
     let mut out = taken(rt.alloc());
     let mut error = taken(rt.alloc());
-    let outcome = perform(rt.alloc(), &order, source, &mut out, &mut error);
+    let outcome = perform(rt.alloc(), &order, source, &[], &mut out, &mut error);
     assert_eq!(rt;
         (outcome.status, out.bytes.len(), error.bytes.len()),
         (0, 0, 0)
@@ -376,7 +391,7 @@ fn a_failed_put_cuts_the_report(rt: HostRuntime) -> Result<(), Fail> {
     for left in 0..100 {
         let mut out = Breaking::new(rt.alloc(), left);
         let mut error = taken(rt.alloc());
-        let outcome = perform(rt.alloc(), &order, &file, &mut out, &mut error);
+        let outcome = perform(rt.alloc(), &order, &file, &[], &mut out, &mut error);
         let (bytes, failed) = (out.bytes.as_slice(), out.failed);
         assert!(rt; REPORT.as_bytes().starts_with(bytes));
         assert!(rt; longest <= bytes.len());
@@ -404,7 +419,7 @@ fn a_fault_that_is_not_told_stays(rt: HostRuntime) -> Result<(), Fail> {
     for left in 0..5 {
         let mut error = Breaking::new(rt.alloc(), left);
         let mut out = taken(rt.alloc());
-        let outcome = perform(rt.alloc(), &order, &[], &mut out, &mut error);
+        let outcome = perform(rt.alloc(), &order, &[], &[], &mut out, &mut error);
         let (bytes, failed) = (error.bytes.as_slice(), error.failed);
         assert_eq!(rt; (outcome.status, failed), (4, 1));
         assert!(rt; b"logtm: load 1 Truncated\n".starts_with(bytes));
@@ -438,7 +453,7 @@ fn runs_or_wants_memory(rt: HostRuntime) -> Result<(), Fail> {
         bytes: more,
         failed: 0,
     };
-    let outcome = perform(rt.alloc(), &order, &file, &mut out, &mut error);
+    let outcome = perform(rt.alloc(), &order, &file, &[], &mut out, &mut error);
     if outcome.status == 6 {
         assert_eq!(rt; out.bytes.as_slice(), b"".as_slice());
         assert_eq!(rt; error.bytes.as_slice(), b"logtm: no memory\n".as_slice());

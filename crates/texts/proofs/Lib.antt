@@ -1,3 +1,4 @@
+pub mod AsciiText
 pub mod Digits
 pub mod Pieces
 pub mod Putting

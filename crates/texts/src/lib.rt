@@ -1,10 +1,12 @@
 //! Numbers as text, and texts put into a sink piece by piece.
 #![tactic(auto)]
 
+mod characters;
 mod numerals;
 mod put;
 #[cfg(test)]
 mod tests;
 
+pub use characters::ascii;
 pub use numerals::hexadecimal;
 pub use put::put_all;

@@ -1,33 +1,22 @@
 //! One hart, turn by turn.
 
-use super::moves::{block, go, place, settle, zero};
-use super::play::{LARGE, SIZE, booted, is_running, make};
-use super::programs::{LOADS_AND_STORES, SPILLS, STORES_113, STORES_114, STORES_ONCE};
+use super::checks::{
+    check_count, check_directory, check_entry, check_events, check_hart, check_last, check_line,
+    check_log, check_place, check_register, check_tx, check_used, check_view, check_word,
+};
 use directory::{DirEntry, Owner};
 use elf_samples::{ABORTS, COMMITS, EXIT};
 use machine::{Machine, TxInfo};
+use machine_play::{
+    LARGE, LOADS_AND_STORES, SIZE, SPILLS, STORES_113, STORES_114, STORES_ONCE, block, booted, go,
+    is_running, make, place, settle, zero,
+};
 use std::process::Abort;
 use std::test::Fail;
 use words::{
-    AbortCause, Access, Addr, BlockNo, Entry, HartId, HartSet, LineState, Marks, Reg, Stamp,
-    Status, Step, Width,
+    AbortCause, Access, Addr, BlockNo, Entry, HartSet, LineState, Marks, Reg, Stamp, Status, Step,
+    Width,
 };
-
-/// An entry that tells more than that a word was retired.
-fn event(entry: &Entry) -> Option<Entry> {
-    match entry {
-        Entry::Retire { .. } => None,
-        _ => Some(*entry),
-    }
-}
-
-/// That the entries are these, `None` for a word that was retired.
-pub fn check_events(rt: &impl Abort, entries: &[Entry], want: &[Option<Entry>]) {
-    assert_eq!(rt; entries.len(), want.len());
-    for (entry, want) in entries.iter().zip(want) {
-        assert_eq!(rt; event(entry), *want);
-    }
-}
 
 /// A block that hart 0 alone holds.
 fn owned_by_zero() -> DirEntry {
@@ -38,15 +27,66 @@ fn owned_by_zero() -> DirEntry {
     }
 }
 
-/// That the line at 0x2000 of hart 0 is in this state, with these marks.
-fn check_line<const SETS: usize, const WAYS: usize>(
-    rt: &impl Abort,
-    machine: &Machine<SETS, WAYS>,
-    state: LineState,
-    marks: Marks,
-) -> Result<(), Fail> {
-    let line = machine.line(zero(), block()).ok_or("no line")?;
-    assert_eq!(rt; (line.state, line.marks), (state, marks));
+/// A store that hart 0 retired: its pc, its word, and the word that it stored at 0x2000.
+fn stored(pc: u32, word: u32, value: u32) -> Entry {
+    Entry::Retire {
+        hart: zero(),
+        pc: Addr::new(pc),
+        word,
+        write: None,
+        load: None,
+        store: Some(Access {
+            addr: place(),
+            width: Width::Word,
+            value,
+        }),
+    }
+}
+
+/// An abort of hart 0.
+fn aborted(cause: AbortCause) -> Entry {
+    Entry::Abort {
+        hart: zero(),
+        cause,
+    }
+}
+
+/// The first transaction of hart 0, with so many records in its log.
+fn running(records: usize, overflow: bool) -> Option<TxInfo> {
+    Some(TxInfo {
+        depth: 1,
+        records,
+        stamp: Stamp {
+            count: 0,
+            hart: zero(),
+        },
+        overflow,
+        cycle: false,
+        aborting: None,
+    })
+}
+
+/// A line that is written in place, in a transaction or not.
+fn modified(written: bool) -> Option<(LineState, Marks)> {
+    let marks = Marks {
+        written,
+        ..Marks::none()
+    };
+    Some((LineState::Modified, marks))
+}
+
+#[test]
+fn a_transaction_stores_in_place(rt: HostRuntime) -> Result<(), Fail> {
+    let mut machine = booted::<16, 4>(rt.alloc(), &COMMITS, 1, SIZE)?;
+    let mut entries = Vec::new(rt.alloc());
+    go(&mut machine, zero(), 4, &mut entries)?;
+    check_entry(&rt, &entries, 3, stored(0x100c, 0x0062_a023, 7));
+    check_place(&rt, &machine, 7, 0);
+    check_view(&rt, &machine, zero(), 7);
+    check_line(&rt, &machine, zero(), modified(true));
+    check_used(&rt, &machine, 1);
+    check_directory(&rt, &machine, owned_by_zero());
+    check_tx(&rt, &machine, zero(), running(1, false));
     Ok(())
 }
 
@@ -54,63 +94,14 @@ fn check_line<const SETS: usize, const WAYS: usize>(
 fn a_transaction_commits(rt: HostRuntime) -> Result<(), Fail> {
     let mut machine = booted::<16, 4>(rt.alloc(), &COMMITS, 1, SIZE)?;
     let mut entries = Vec::new(rt.alloc());
-    let before = go(&mut machine, zero(), 4, &mut entries)?;
-    let store = Entry::Retire {
-        hart: zero(),
-        pc: Addr::new(0x100c),
-        word: 0x0062_a023,
-        write: None,
-        load: None,
-        store: Some(Access {
-            addr: place(),
-            width: Width::Word,
-            value: 7,
-        }),
-    };
-    assert_eq!(rt; entries.get(3).copied(), Some(store));
-    assert_eq!(rt;
-        (
-            machine.raw(place()),
-            machine.peek(place()),
-            machine.view(zero(), place())
-        ),
-        (Some(7), Some(0), Some(7))
-    );
-    let written = Marks {
-        written: true,
-        ..Marks::none()
-    };
-    check_line(&rt, &machine, LineState::Modified, written)?;
-    assert_eq!(rt;
-        (machine.used(), machine.entry(block())),
-        (1, owned_by_zero())
-    );
-    let running = TxInfo {
-        depth: 1,
-        records: 1,
-        stamp: Stamp {
-            count: 0,
-            hart: zero(),
-        },
-        overflow: false,
-        cycle: false,
-        aborting: None,
-    };
-    assert_eq!(rt; machine.tx(zero()), Some(running));
-    let commit = go(&mut machine, zero(), 1, &mut entries)?;
-    assert_eq!(rt;
-        (machine.raw(place()), machine.peek(place())),
-        (Some(7), Some(7))
-    );
-    assert_eq!(rt; machine.tx(zero()), None);
-    check_line(&rt, &machine, LineState::Modified, Marks::none())?;
+    let commit = go(&mut machine, zero(), 5, &mut entries)?;
+    check_place(&rt, &machine, 7, 7);
+    check_tx(&rt, &machine, zero(), None);
+    check_line(&rt, &machine, zero(), modified(false));
     let after = go(&mut machine, zero(), 100, &mut entries)?;
     check_events(&rt, &entries, &[None; 8]);
-    assert_eq!(rt; before + commit + after, 12);
-    assert_eq!(rt;
-        machine.regs(zero()).map(|(_, _, status)| status),
-        Some(Status::Exited(0))
-    );
+    check_count(&rt, commit + after, 12);
+    check_hart(&rt, &machine, zero(), Addr::new(0x1020), Status::Exited(0));
     Ok(())
 }
 
@@ -119,17 +110,12 @@ fn a_transaction_is_rolled_back(rt: HostRuntime) -> Result<(), Fail> {
     let mut machine = booted::<16, 4>(rt.alloc(), &ABORTS, 1, SIZE)?;
     let mut entries = Vec::new(rt.alloc());
     go(&mut machine, zero(), 5, &mut entries)?;
-    let (regs, pc, _) = machine.regs(zero()).ok_or("a hart")?;
-    assert_eq!(rt; (pc, regs[5], regs[6]), (Addr::new(0x1014), 0, 0));
-    assert_eq!(rt;
-        (machine.raw(place()), machine.peek(place())),
-        (Some(0), Some(0))
-    );
+    check_hart(&rt, &machine, zero(), Addr::new(0x1014), Status::Running);
+    check_register(&rt, &machine, zero(), 5, 0);
+    check_register(&rt, &machine, zero(), 6, 0);
+    check_place(&rt, &machine, 0, 0);
     go(&mut machine, zero(), 100, &mut entries)?;
-    let abort = Some(Entry::Abort {
-        hart: zero(),
-        cause: AbortCause::Asked,
-    });
+    let abort = Some(aborted(AbortCause::Asked));
     check_events(
         &rt,
         &entries,
@@ -146,29 +132,27 @@ fn spill(block: u32) -> Option<Entry> {
 }
 
 #[test]
-fn a_spilled_block_is_rolled_back(rt: HostRuntime) -> Result<(), Fail> {
+fn a_spilled_block_is_logged(rt: HostRuntime) -> Result<(), Fail> {
     let mut machine = booted::<2, 1>(rt.alloc(), &SPILLS, 1, LARGE)?;
     let mut entries = Vec::new(rt.alloc());
     go(&mut machine, zero(), 9, &mut entries)?;
-    assert_eq!(rt; machine.raw(place()), Some(9));
-    let tx = machine.tx(zero()).ok_or("a transaction")?;
-    assert_eq!(rt; (tx.records, tx.overflow, tx.aborting), (2, true, None));
+    check_place(&rt, &machine, 9, 0);
+    check_tx(&rt, &machine, zero(), running(2, true));
     // The block's address, and the word at its beginning before the first store and before the second.
-    let logged = [0xf_f000, 0xf_f004, 0xf_f024, 0xf_f028];
-    let want = [0x2000, 0, 0x2000, 7];
-    for k in 0..4 {
-        assert_eq!(rt; machine.log_word(Addr::new(logged[k])), Some(want[k]));
-    }
-    go(&mut machine, zero(), 1, &mut entries)?;
-    assert_eq!(rt;
-        (machine.raw(place()), machine.peek(place())),
-        (Some(0), Some(0))
-    );
+    check_log(&rt, &machine, 0xf_f000, Some(0x2000));
+    check_log(&rt, &machine, 0xf_f004, Some(0));
+    check_log(&rt, &machine, 0xf_f024, Some(0x2000));
+    check_log(&rt, &machine, 0xf_f028, Some(7));
+    Ok(())
+}
+
+#[test]
+fn a_spilled_block_is_rolled_back(rt: HostRuntime) -> Result<(), Fail> {
+    let mut machine = booted::<2, 1>(rt.alloc(), &SPILLS, 1, LARGE)?;
+    let mut entries = Vec::new(rt.alloc());
+    go(&mut machine, zero(), 10, &mut entries)?;
+    check_place(&rt, &machine, 0, 0);
     go(&mut machine, zero(), 100, &mut entries)?;
-    let abort = Some(Entry::Abort {
-        hart: zero(),
-        cause: AbortCause::Asked,
-    });
     let want = [
         None,
         None,
@@ -179,7 +163,7 @@ fn a_spilled_block_is_rolled_back(rt: HostRuntime) -> Result<(), Fail> {
         None,
         spill(258),
         None,
-        abort,
+        Some(aborted(AbortCause::Asked)),
         None,
         None,
         None,
@@ -209,7 +193,19 @@ fn a_log_has_113_records(rt: HostRuntime) -> Result<(), Fail> {
     // Three instructions, four for each store, the commit, and three more; a spill for each block that the cache has no room for.
     assert_eq!(rt; counts(&entries), (3 + 4 * 113 + 4, 113 - 64, 0));
     for k in 0..113 {
-        assert_eq!(rt; machine.peek(Addr::new(0x2000 + 32 * k)), Some(113 - k));
+        check_word(&rt, &machine, 0x2000 + 32 * k, Some(113 - k));
+    }
+    Ok(())
+}
+
+/// A machine goes on until hart 0 aborts, or a thousand entries are given.
+fn go_to_an_abort(machine: &mut Machine<16, 4>, entries: &mut Vec<Entry>) -> Result<(), Fail> {
+    for _ in 0..1000 {
+        let (_, _, others) = counts(entries);
+        if others == 1 {
+            break;
+        }
+        go(machine, zero(), 1, entries)?;
     }
     Ok(())
 }
@@ -218,20 +214,12 @@ fn a_log_has_113_records(rt: HostRuntime) -> Result<(), Fail> {
 fn a_store_on_a_full_log_aborts(rt: HostRuntime) -> Result<(), Fail> {
     let mut machine = booted::<16, 4>(rt.alloc(), &STORES_114, 1, SIZE)?;
     let mut entries = Vec::new(rt.alloc());
-    for _ in 0..1000 {
-        if counts(&entries).2 == 1 {
-            break;
-        }
-        go(&mut machine, zero(), 1, &mut entries)?;
-    }
-    assert_eq!(rt; counts(&entries).0, 3 + 4 * 113);
-    let full = Entry::Abort {
-        hart: zero(),
-        cause: AbortCause::LogFull,
-    };
-    assert_eq!(rt; entries.last().copied(), Some(full));
+    go_to_an_abort(&mut machine, &mut entries)?;
+    let (retired, _, _) = counts(&entries);
+    check_count(&rt, retired, 3 + 4 * 113);
+    check_last(&rt, &entries, aborted(AbortCause::LogFull));
     for k in 0..114 {
-        assert_eq!(rt; machine.peek(Addr::new(0x2000 + 32 * k)), Some(0));
+        check_word(&rt, &machine, 0x2000 + 32 * k, Some(0));
     }
     let mut after = Vec::new(rt.alloc());
     go(&mut machine, zero(), 100, &mut after)?;
@@ -240,20 +228,25 @@ fn a_store_on_a_full_log_aborts(rt: HostRuntime) -> Result<(), Fail> {
     Ok(())
 }
 
+/// That the log has the record of the block at 0x2000, whose words were 0.
+fn check_first_record(rt: &impl Abort, machine: &Machine<16, 4>) {
+    check_log(rt, machine, 0xf_f000, Some(0x2000));
+    for k in 1..9 {
+        check_log(rt, machine, 0xf_f000 + 4 * k, Some(0));
+    }
+}
+
 #[test]
 fn log_bytes_stay_after_a_commit(rt: HostRuntime) -> Result<(), Fail> {
     let mut machine = booted::<16, 4>(rt.alloc(), &COMMITS, 1, LARGE)?;
     let mut entries = Vec::new(rt.alloc());
-    assert_eq!(rt; machine.log_word(Addr::new(0xf_f000)), Some(0));
+    check_log(&rt, &machine, 0xf_f000, Some(0));
     go(&mut machine, zero(), 4, &mut entries)?;
-    for retired in 4..6 {
-        assert_eq!(rt; entries.len(), retired);
-        assert_eq!(rt; machine.log_word(Addr::new(0xf_f000)), Some(0x2000));
-        for k in 1..9 {
-            assert_eq!(rt; machine.log_word(Addr::new(0xf_f000 + 4 * k)), Some(0));
-        }
-        go(&mut machine, zero(), 1, &mut entries)?;
-    }
+    check_count(&rt, entries.len(), 4);
+    check_first_record(&rt, &machine);
+    go(&mut machine, zero(), 1, &mut entries)?;
+    check_tx(&rt, &machine, zero(), None);
+    check_first_record(&rt, &machine);
     Ok(())
 }
 
@@ -261,21 +254,19 @@ fn log_bytes_stay_after_a_commit(rt: HostRuntime) -> Result<(), Fail> {
 fn logs_lie_at_the_top_of_memory(rt: HostRuntime) -> Result<(), Fail> {
     let one = booted::<16, 4>(rt.alloc(), &COMMITS, 1, LARGE)?;
     for elsewhere in [0xf_effc, 0x10_0000, 0xf_f002, 0, 0xffff_fffc] {
-        assert_eq!(rt; one.log_word(Addr::new(elsewhere)), None, "{elsewhere:x}");
+        check_log(&rt, &one, elsewhere, None);
     }
-    assert_eq!(rt; one.log_word(Addr::new(0xf_fffc)), Some(0));
-    assert_eq!(rt;
-        (one.peek(Addr::new(0xf_effc)), one.peek(Addr::new(0xf_f000))),
-        (Some(0), None)
-    );
+    check_log(&rt, &one, 0xf_fffc, Some(0));
+    check_word(&rt, &one, 0xf_effc, Some(0));
+    check_word(&rt, &one, 0xf_f000, None);
+    Ok(())
+}
+
+#[test]
+fn the_log_of_hart_1_lies_below_that_of_hart_0(rt: HostRuntime) -> Result<(), Fail> {
     let two = booted::<16, 4>(rt.alloc(), &COMMITS, 2, LARGE)?;
-    assert_eq!(rt;
-        (
-            two.log_word(Addr::new(0xf_e000)),
-            two.log_word(Addr::new(0xf_dffc))
-        ),
-        (Some(0), None)
-    );
+    check_log(&rt, &two, 0xf_e000, Some(0));
+    check_log(&rt, &two, 0xf_dffc, None);
     Ok(())
 }
 
@@ -283,21 +274,25 @@ fn logs_lie_at_the_top_of_memory(rt: HostRuntime) -> Result<(), Fail> {
 fn a_store_is_a_request_and_three_messages(rt: HostRuntime) -> Result<(), Fail> {
     let mut machine = booted::<16, 4>(rt.alloc(), &STORES_ONCE, 1, SIZE)?;
     let mut entries = Vec::new(rt.alloc());
-    assert_eq!(rt; go(&mut machine, zero(), 100, &mut entries)?, 10);
+    check_count(&rt, go(&mut machine, zero(), 100, &mut entries)?, 10);
     check_events(&rt, &entries, &[None; 6]);
-    assert_eq!(rt;
-        (machine.used(), machine.entry(block())),
-        (1, owned_by_zero())
-    );
-    // The block is written back, and its entry is in use no more.
+    check_used(&rt, &machine, 1);
+    check_directory(&rt, &machine, owned_by_zero());
+    Ok(())
+}
+
+#[test]
+fn a_block_that_is_written_back_is_not_in_use(rt: HostRuntime) -> Result<(), Fail> {
+    let mut machine = booted::<16, 4>(rt.alloc(), &STORES_ONCE, 1, SIZE)?;
+    let mut entries = Vec::new(rt.alloc());
+    go(&mut machine, zero(), 100, &mut entries)?;
     make(&mut machine, Step::Evict(zero(), block()), &mut entries)?;
-    assert_eq!(rt; machine.raw(place()), Some(7));
+    check_place(&rt, &machine, 7, 7);
     settle(&mut machine, &mut entries)?;
-    assert_eq!(rt;
-        (machine.used(), machine.entry(block())),
-        (0, DirEntry::first())
-    );
-    assert_eq!(rt; (entries.len(), machine.raw(place())), (6, Some(7)));
+    check_used(&rt, &machine, 0);
+    check_directory(&rt, &machine, DirEntry::first());
+    check_place(&rt, &machine, 7, 7);
+    check_count(&rt, entries.len(), 6);
     Ok(())
 }
 
@@ -306,11 +301,13 @@ fn a_block_that_nobody_shares_is_stored_to_at_once(rt: HostRuntime) -> Result<()
     let mut machine = booted::<16, 4>(rt.alloc(), &LOADS_AND_STORES, 1, SIZE)?;
     let mut entries = Vec::new(rt.alloc());
     let load = go(&mut machine, zero(), 2, &mut entries)?;
-    check_line(&rt, &machine, LineState::Exclusive, Marks::none())?;
-    assert_eq!(rt; machine.entry(block()), owned_by_zero());
-    assert_eq!(rt; go(&mut machine, zero(), 1, &mut entries)?, 1);
-    check_line(&rt, &machine, LineState::Modified, Marks::none())?;
-    assert_eq!(rt; load + 1 + go(&mut machine, zero(), 100, &mut entries)?, 10);
+    let exclusive = Some((LineState::Exclusive, Marks::none()));
+    check_line(&rt, &machine, zero(), exclusive);
+    check_directory(&rt, &machine, owned_by_zero());
+    check_count(&rt, go(&mut machine, zero(), 1, &mut entries)?, 1);
+    check_line(&rt, &machine, zero(), modified(false));
+    let rest = go(&mut machine, zero(), 100, &mut entries)?;
+    check_count(&rt, load + 1 + rest, 10);
     check_events(&rt, &entries, &[None; 6]);
     Ok(())
 }
@@ -320,7 +317,8 @@ fn a_program_without_accesses_has_no_entries_in_use(rt: HostRuntime) -> Result<(
     let mut machine = booted::<16, 4>(rt.alloc(), &EXIT, 1, SIZE)?;
     let mut entries = Vec::new(rt.alloc());
     for k in 0..4 {
-        assert_eq!(rt; (entries.len(), machine.used()), (k.min(3), 0));
+        check_count(&rt, entries.len(), k.min(3));
+        check_used(&rt, &machine, 0);
         go(&mut machine, zero(), 1, &mut entries)?;
     }
     let first = Entry::Retire {
@@ -331,7 +329,7 @@ fn a_program_without_accesses_has_no_entries_in_use(rt: HostRuntime) -> Result<(
         load: None,
         store: None,
     };
-    assert_eq!(rt; entries.get(0).copied(), Some(first));
+    check_entry(&rt, &entries, 0, first);
     assert!(rt; !is_running(&machine));
     Ok(())
 }

@@ -1,7 +1,7 @@
 //! What can't be retired.
 
-use super::moves::{go, zero};
-use super::play::{SIZE, booted};
+use super::checks::{check_count, check_hart, check_last};
+use machine_play::{SIZE, booted, go, zero};
 use std::process::Abort;
 use std::test::Fail;
 use words::{AbortCause, Addr, Cause, Entry, Status};
@@ -17,14 +17,9 @@ fn check_trap(rt: &(impl Abort + AllocGlobal), text: &[u32], cause: Cause) -> Re
         cause,
         pc,
     };
-    assert_eq!(rt;
-        (entries.len(), entries.last().copied()),
-        (text.len(), Some(trap))
-    );
-    assert_eq!(rt;
-        machine.regs(zero()).map(|(_, _, status)| status),
-        Some(Status::Stopped(cause, pc))
-    );
+    check_count(rt, entries.len(), text.len());
+    check_last(rt, &entries, trap);
+    check_hart(rt, &machine, zero(), pc, Status::Stopped(cause, pc));
     Ok(())
 }
 
@@ -58,7 +53,7 @@ fn legal_words_retire(rt: HostRuntime) -> Result<(), Fail> {
             load: None,
             store: None,
         };
-        assert_eq!(rt; entries.last().copied(), Some(retired));
+        check_last(&rt, &entries, retired);
     }
     Ok(())
 }
@@ -93,13 +88,10 @@ fn transactions_nest_255_deep(rt: HostRuntime) -> Result<(), Fail> {
         hart: zero(),
         cause: AbortCause::Trapped(Cause::TooDeep, pc),
     };
-    assert_eq!(rt;
-        (entries.len(), entries.last().copied()),
-        (256, Some(abort))
-    );
-    assert_eq!(rt;
-        machine.regs(zero()).map(|(_, _, status)| status),
-        Some(Status::Stopped(Cause::TooDeep, pc))
-    );
+    check_count(&rt, entries.len(), 256);
+    check_last(&rt, &entries, abort);
+    // The pc is the outermost transaction's, whose handler is itself.
+    let status = Status::Stopped(Cause::TooDeep, pc);
+    check_hart(&rt, &machine, zero(), Addr::new(0x1000), status);
     Ok(())
 }

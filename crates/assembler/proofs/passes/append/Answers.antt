@@ -1,6 +1,6 @@
 use Rattle.std.proofs.Common.{refl}
 use Rattle.std.proofs.lemmas.Result.{on_ok_weaker}
-use Rattle.assembler.specs.Programs.{low_bytes}
+use Rattle.statements.specs.Bytes.{low_bytes}
 use Rattle.assembler.proofs.Images.{low_length}
 use Rattle.assembler.proofs.passes.append.Goals as goal
 

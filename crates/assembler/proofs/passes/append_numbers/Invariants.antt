@@ -1,5 +1,5 @@
 use Rattle.std.proofs.Common.{◌≡◌, ◌++◌, take}
-use Rattle.assembler.specs.Programs.{low_bytes}
+use Rattle.statements.specs.Bytes.{low_bytes}
 use Rattle.assembler.proofs.passes.append_numbers.Given as goal
 
 -- the bytes of so many numbers are appended

@@ -1,7 +1,7 @@
 use Rattle.std.proofs.Common.{sym, ◌∙◌}
 use Rattle.std.proofs.lemmas.Result.{err_from_is_err_and}
-use Rattle.assembler.specs.Statements.{made}
-use Rattle.assembler.specs.Places.{labels_of}
+use Rattle.statements.specs.Statements.{made}
+use Rattle.source_operands.specs.Places.{labels_of}
 use Rattle.assembler.proofs.Laying.{laid, not_made, not_laid}
 use Rattle.assembler.proofs.passes.write_line.Goals as goal
 
@@ -19,4 +19,4 @@ pub returns : goal.returns
 returns c = λ l same image.
     let w = c.in_ok-append_to.ensures in
     laid (labels_of c.args.names.now) c.args.line.now l c.args.progress.now c.here-here.result same c.here-here.ensures (made c.in_ok-words.words) c.in_ok-next.next
-    c.args.image.now.text.items c.args.image.now.«data».items c.append_to.new.image.text.items c.append_to.new.image.«data».items w.0 c.in_ok-words.ensures (sym c.behind.ensures ∙ c.in_ok-next.was) image w.1 w.2 w.3
+    c.args.image.now.text_bytes.items c.args.image.now.data_bytes.items c.append_to.new.image.text_bytes.items c.append_to.new.image.data_bytes.items w.0 c.in_ok-words.ensures (sym c.behind.ensures ∙ c.in_ok-next.was) image w.1 w.2 w.3

@@ -1,5 +1,3 @@
-use Rattle.std.proofs.Common.{◌≡◌, ◌/◌, ◌%◌, ◌∙◌, ap}
-use Rattle.words.specs.Bytes.{bytes_in}
 use Rattle.hart.proofs.Words.{words_put-word}
 use Rattle.hart.proofs.access.word_put.Goals as goal
 

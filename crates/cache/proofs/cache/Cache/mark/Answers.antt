@@ -1,6 +1,5 @@
-use Rattle.std.proofs.Common.{◌≡◌, ◌%◌, IsTrue, Option, Some, List, [], get_or, refl, sym, subst, ◌∙◌}
-use Rattle.std.specs.Prelude.{IsSomeAnd, slice_set}
-use Rattle.std.specs.Option.{option_map}
+use Rattle.std.proofs.Common.{◌≡◌, IsTrue, Some, refl, sym, subst, ◌∙◌}
+use Rattle.std.specs.Prelude.{IsSomeAnd}
 use Rattle.words.specs.declared.message.LineState.TheVariants.{Modified}
 use Rattle.cache.specs.declared.line.Line.{Line}
 use Rattle.cache.specs.Line.{with_marks}

@@ -1,10 +1,5 @@
-use Rattle.std.proofs.Common.{◌≡◌, ◌%◌, IsTrue, Option, Some, List, [], get_or, refl, sym, subst, ◌∙◌}
-use Rattle.std.specs.Prelude.{IsSomeAnd, slice_set}
-use Rattle.std.specs.Option.{option_map}
-use Rattle.words.specs.declared.message.LineState.TheVariants.{Modified}
-use Rattle.cache.specs.declared.line.Line.{Line}
+use Rattle.std.proofs.Common.{refl, sym, ◌∙◌}
 use Rattle.cache.specs.Line.{put_into}
-use Rattle.cache.specs.Sets.{Sets, line_at}
 use Rattle.cache.proofs.Changes.{ChangedThere, changes-there}
 use Rattle.cache.proofs.Rooms.{room-kept}
 use Rattle.cache.proofs.cache.Cache.put_word.Given.{Over}

@@ -1,9 +1,8 @@
-use Rattle.std.proofs.Common.{◌≡◌, ◌/◌, ◌%◌, ◌∙◌, ℕ, List, Some, sym, ap, subst}
+use Rattle.std.proofs.Common.{◌≡◌, ◌/◌, ◌%◌, ◌∙◌, ℕ, Some, sym, ap}
 use Rattle.flat.specs.Bytes.{put_at}
-use Rattle.protocol.specs.Hart.{Hart}
 use Rattle.protocol.specs.Lines.{line_used}
 use Rattle.cache.specs.Line.{put_into}
-use Rattle.cache.specs.Sets.{Sets, line_at}
+use Rattle.cache.specs.Sets.{line_at}
 use Rattle.hart.specs.Parts.{Parts}
 use Rattle.hart.specs.Shown.{shown_line, shown_hart, lines_of}
 use Rattle.hart.proofs.Views.{parts}

@@ -9,4 +9,4 @@ use Rattle.machine.proofs.machine.Machine.deliver.Goals as goal
 pub returns-in-None-clause-steps : goal.returns-in-None-clause-steps
 returns-in-None-clause-steps g c =
     arrives_none g.row.SETS g.row.WAYS c.args.key c.args.self.now
-    (ap (λ (m : State). in_flight m.flights c.args.key) (sym c.self.view_is) ∙ ap (option_map shown_message) (sym c.get.ensures ∙ c.in-None.is))
+    (ap (λ (m : State). in_flight m.flights c.args.key) (sym c.self.view_is) ∙ ap (option_map shown_message) (sym c.in-None.ensures))

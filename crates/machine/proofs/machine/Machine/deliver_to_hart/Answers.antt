@@ -2,22 +2,23 @@ use Rattle.std.proofs.Common.{◌≡◌, ◌≤◌, arith, length, Some, get_or,
 use Rattle.std.specs.Prelude.{slice_set, option_to_list}
 use Rattle.std.specs.Option.{option_map}
 use Rattle.words.specs.declared.entry.Step.TheVariants.{Deliver}
-use Rattle.protocol.specs.Messages.{shown as shown_message}
+use Rattle.protocol.specs.Messages.{shown as shown_message, receiver_of}
 use Rattle.protocol.specs.Network.{Sends}
 use Rattle.protocol.specs.Machine.{Steps}
 use Rattle.machine.specs.Mail.{in_flight}
 use Rattle.machine.specs.States.{State, Seat, shown, geometry, IsSound}
 use Rattle.machine.proofs.Acting.{Acts}
-use Rattle.machine.proofs.Deliveries.{arrives_nowhere, arrives_at_hart}
+use Rattle.machine.proofs.Deliveries.{arrives_nowhere, arrives_at_hart, goes_to}
 use Rattle.machine.proofs.machine.Machine.deliver_to_hart.Given.{Over}
 use Rattle.machine.proofs.machine.Machine.deliver_to_hart.Goals as goal
 
 pub returns-then-i-len-clause-steps : goal.returns-then-i-len-clause-steps
 returns-then-i-len-clause-steps g c =
     let v : State = c.args.self.now in
+    let here : in_flight v.flights c.args.key ≡ Some (shown_message c.in-Some.message.now) = ap (λ (m : State). in_flight m.flights c.args.key) (sym c.self.view_is) ∙ ap (option_map shown_message) (sym c.in-Some.ensures) in
     let count : length c.self.inside.seats.items ≡ length v.seats = ap (λ (m : State). length m.seats) c.self.view_is in
     let past : length v.seats ≤ c.args.id = omega (arith, c.len.ensures, c.index-i.ensures.value, c.if-i-len.true, count) in
-    arrives_nowhere g.row.SETS g.row.WAYS c.args.key c.args.id v c.args.message c.requires.message c.requires.receiver past
+    arrives_nowhere g.row.SETS g.row.WAYS c.args.key c.args.id v c.in-Some.message.now here (goes_to _ _ _ here c.requires) past
 
 -- the machine before and after, and the hart's seat
 abbrev before : (g : Over) (c : goal.After-send g) → State
@@ -44,9 +45,10 @@ arrives g c =
       directory = refl;
       stays = c.on_message-reply.ensures.stays;
     } in
-    let here : in_flight (before g c).flights c.args.key ≡ Some (shown_message c.args.message) = ap (λ (m : State). in_flight m.flights c.args.key) c.self.view_is ∙ c.requires.message in
-    arrives_at_hart g.row.SETS g.row.WAYS c.args.key c.index-i.result (before g c) (after g c) (old_seat g c) (new_seat g c) c.args.message c.on_message-reply.result c.self.invariant acts refl refl
-    here (c.requires.receiver ∙ ap (λ n. Some n) (sym c.index-i.ensures.value)) c.on_message-reply.ensures.row
+    let here : in_flight (before g c).flights c.args.key ≡ Some (shown_message c.in-Some.message.now) = ap (option_map shown_message) (sym c.in-Some.ensures) in
+    let goes : receiver_of (shown_message c.in-Some.message.now) ≡ Some c.args.id = goes_to _ _ _ here (ap (λ (m : State). option_map receiver_of (in_flight m.flights c.args.key)) c.self.view_is ∙ c.requires) in
+    arrives_at_hart g.row.SETS g.row.WAYS c.args.key c.index-i.result (before g c) (after g c) (old_seat g c) (new_seat g c) c.in-Some.message.now c.on_message-reply.result c.self.invariant acts refl refl
+    here (goes ∙ ap (λ n. Some n) (sym c.index-i.ensures.value)) c.on_message-reply.ensures.row
     (subst (λ n. Sends n (option_to_list (option_map shown_message c.on_message-reply.result.message)) (in_flight (after g c).flights)) c.take.ensures.flight c.send.ensures.sends)
 
 pub invariant_of-self : goal.invariant_of-self

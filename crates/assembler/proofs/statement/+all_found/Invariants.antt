@@ -1,5 +1,0 @@
-use Rattle.std.proofs.Common.{length}
-use Rattle.assembler.proofs.statement.+all_found.Given as goal
-
-abbrev pub decreases-all_found : goal.decreases-all_found
-decreases-all_found l = length l.text.now

@@ -1,0 +1,78 @@
+use flat::Engine;
+use machine::Machine;
+use machine_play::{peek, raw, regs, tx, view};
+use reference::Machine as Checker;
+use std::process::Abort;
+use words::{Addr, HartId};
+
+/// Whether a hart's transaction is being aborted.
+fn is_aborting<const SETS: usize, const WAYS: usize>(
+    machine: &Machine<SETS, WAYS>,
+    hart: HartId,
+) -> bool {
+    match tx(machine, hart) {
+        Some(tx) => tx.aborting.is_some(),
+        None => false,
+    }
+}
+
+/// That the words at an address are one, as every hart sees them and in place. A hart that is being aborted has nothing of its own in the
+/// plain machine any more, and what it wrote is still in place: so then the word in place is compared only where no hart aborts.
+fn check_word<const SETS: usize, const WAYS: usize>(
+    rt: &impl Abort,
+    machine: &Machine<SETS, WAYS>,
+    checker: &Checker,
+    addr: Addr,
+) {
+    let mut none_aborts = true;
+    assert_eq!(rt; peek(machine, addr), checker.peek(addr), "{addr:?}");
+    for number in 0..8 {
+        let hart = HartId::new(number);
+        if is_aborting(machine, hart) {
+            none_aborts = false;
+        } else {
+            assert_eq!(rt;
+                view(machine, hart, addr),
+                checker.view(hart, addr),
+                "{addr:?}"
+            );
+        }
+    }
+    if none_aborts {
+        assert_eq!(rt; raw(machine, addr), checker.raw(addr), "{addr:?}");
+    }
+}
+
+/// That the harts of both machines have the same registers, pc, status and output.
+fn check_harts<const SETS: usize, const WAYS: usize>(
+    rt: &impl Abort,
+    machine: &Machine<SETS, WAYS>,
+    checker: &Checker,
+) {
+    for number in 0..8 {
+        let hart = HartId::new(number);
+        assert!(rt; regs(machine, hart) == checker.regs(hart), "hart {number}");
+        if hart.index() < machine.harts() && hart.index() < checker.harts() {
+            assert_eq!(rt; machine.output(hart), checker.output(hart));
+        }
+    }
+}
+
+/// That the coherent machine shows what the plain one does: the size, the harts, and the words of memory, one of each block and all of
+/// those at 0x2000 and 0x2040.
+pub fn check_alike<const SETS: usize, const WAYS: usize>(
+    rt: &impl Abort,
+    machine: &Machine<SETS, WAYS>,
+    checker: &Checker,
+) {
+    assert_eq!(rt; machine.harts(), checker.harts());
+    assert_eq!(rt; machine.size(), checker.size());
+    check_harts(rt, machine, checker);
+    for block in 0..400 {
+        check_word(rt, machine, checker, Addr::new(32 * block));
+    }
+    for word in 0..32 {
+        check_word(rt, machine, checker, Addr::new(0x2000 + 4 * word));
+    }
+    check_word(rt, machine, checker, Addr::new(0x2002));
+}

@@ -1,0 +1,142 @@
+//! Lists of steps, cut and not, and with want of memory.
+
+use super::alike::check_alike;
+use elf_samples::{COMMITS, COUNTS, elf_file};
+use flat::BootFault;
+use loader::read_elf;
+use machine::Machine;
+use machine_play::{SIZE, booted, checked, make, next_turn, one, peek, place, zero};
+use std::alloc::AllocError;
+use std::process::Abort;
+use std::test::Fail;
+use words::{Entry, Step};
+
+/// The machine's turns for two harts, so many at most, which are made one by one, and their entries.
+fn take_turns(
+    machine: &mut Machine<16, 4>,
+    most: usize,
+    steps: &mut Vec<Step>,
+    entries: &mut Vec<Entry>,
+) -> Result<(), AllocError> {
+    let mut last = one();
+    for _ in 0..most {
+        let Some(turn) = next_turn(machine, last) else {
+            break;
+        };
+        if let Step::Core(hart) = turn {
+            last = hart;
+        }
+        steps.push(turn)?;
+        if let Some(pushed) = steps.last() {
+            make(machine, *pushed, entries)?;
+        }
+    }
+    Ok(())
+}
+
+/// The entries of a run that is cut after so many steps, and goes on from there.
+fn entries_of(
+    rt: &(impl Abort + AllocGlobal),
+    steps: &[Step],
+    cut: usize,
+) -> Result<Vec<Entry>, Fail> {
+    let mut machine = booted::<16, 4>(rt.alloc(), &COUNTS, 2, SIZE)?;
+    let mut entries = Vec::new(rt.alloc());
+    let (before, after) = steps.split_at(cut.min(steps.len()));
+    assert!(rt; machine.run(before, &mut entries).is_ok());
+    assert!(rt; machine.run(after, &mut entries).is_ok());
+    let checker = checked(rt.alloc(), &COUNTS, 2, SIZE, &entries)?;
+    check_alike(rt, &machine, &checker);
+    Ok(entries)
+}
+
+#[test]
+fn a_run_that_is_cut_goes_on(rt: HostRuntime) -> Result<(), Fail> {
+    let mut machine = booted::<16, 4>(rt.alloc(), &COUNTS, 2, SIZE)?;
+    let mut steps = Vec::new(rt.alloc());
+    let mut whole = Vec::new(rt.alloc());
+    take_turns(&mut machine, 20_000, &mut steps, &mut whole)?;
+    assert!(rt; whole.len() >= 1400);
+    for cut in [0, 1, 2, 3, 10, 1000, 2999, 20_000] {
+        let entries = entries_of(&rt, &steps, cut)?;
+        assert!(rt; entries.as_slice() == whole.as_slice(), "{cut}");
+    }
+    Ok(())
+}
+
+/// A step, tried again if memory ran out.
+fn step_or_again(machine: &mut Machine<2, 1>, step: &Step) -> Result<(), AllocError> {
+    match machine.step(*step) {
+        Ok(_) => Ok(()),
+        Err(_) => match machine.step(*step) {
+            Ok(_) => Ok(()),
+            Err(fault) => Err(fault),
+        },
+    }
+}
+
+/// A run, gone on with from the step that wanted memory if memory ran out.
+fn run_or_go_on(
+    machine: &mut Machine<2, 1>,
+    steps: &[Step],
+    entries: &mut Vec<Entry>,
+) -> Result<(), AllocError> {
+    match machine.run(steps, entries) {
+        Ok(()) => Ok(()),
+        Err((made, _)) => match machine.run(&steps[made.min(steps.len())..], entries) {
+            Ok(()) => Ok(()),
+            Err((_, fault)) => Err(fault),
+        },
+    }
+}
+
+/// The machine of a program. `None` where memory ran out.
+fn booted_or_none(rt: &(impl Abort + AllocGlobal)) -> Option<Machine<2, 1>> {
+    let Ok(file) = elf_file(rt.alloc(), &COMMITS) else {
+        return None;
+    };
+    let Ok(program) = read_elf(rt.alloc(), &file) else {
+        return None;
+    };
+    match Machine::<2, 1>::boot(rt.alloc(), program, 1, 65_536) {
+        Ok(machine) => Some(machine),
+        Err(fault) => {
+            assert_eq!(rt; fault, BootFault::NoMemory);
+            None
+        }
+    }
+}
+
+/// The machine's first twelve turns, which are made.
+fn twelve_turns(machine: &mut Machine<2, 1>) -> Result<[Step; 12], Fail> {
+    let mut steps = [Step::Core(zero()); 12];
+    for k in 0..12 {
+        steps[k] = next_turn(machine, zero()).ok_or("a turn")?;
+        step_or_again(machine, &steps[k])?;
+    }
+    Ok(steps)
+}
+
+/// That no turn is left, and 7 stands at 0x2000.
+fn check_end(rt: &impl Abort, machine: &Machine<2, 1>) {
+    assert_eq!(rt; next_turn(machine, zero()), None);
+    assert_eq!(rt; peek(machine, place()), Some(7));
+}
+
+// For `rt try --test --fail-alloc N`: memory that runs out once changes nothing, whichever allocation is refused.
+#[test]
+fn runs_or_wants_memory(rt: HostRuntime) -> Result<(), Fail> {
+    let Some(mut machine) = booted_or_none(&rt) else {
+        return Ok(());
+    };
+    let steps = twelve_turns(&mut machine)?;
+    check_end(&rt, &machine);
+    let Some(mut other) = booted_or_none(&rt) else {
+        return Ok(());
+    };
+    let mut entries = Vec::new(rt.alloc());
+    run_or_go_on(&mut other, &steps, &mut entries)?;
+    check_end(&rt, &other);
+    assert_eq!(rt; entries.len(), 8);
+    Ok(())
+}

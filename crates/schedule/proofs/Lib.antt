@@ -1,0 +1,4 @@
+mod Words
+mod Reading
+mod Finding
+mod Following

@@ -1,0 +1,17 @@
+//! Schedules: which step a machine makes next, chosen by hand. A line has one choice in words, such as `deliver get 1 0x2000`.
+#![tactic(auto)]
+
+mod choices;
+mod lines;
+mod playing;
+mod spelling;
+mod step;
+
+pub use choices::{Choice, Name, Sort};
+pub use lines::{ScheduleFault, read};
+pub use playing::follow;
+pub use spelling::choice;
+pub use step::name_of;
+
+#[cfg(test)]
+mod tests;

@@ -1,0 +1,78 @@
+ghost use Rattle.std.specs.Prelude.{◌≡◌, ◌≢◌, ℕ, Some, IfSome, IfNone};
+ghost use Rattle.std.specs.Bool.{MatchBool};
+ghost use Rattle.words.specs.declared.entry.Step.TheVariants.{Deliver};
+ghost use Rattle.protocol.specs.Messages.{shown as shown_message};
+ghost use Rattle.machine.specs.States.{shown};
+ghost use Rattle.schedule.specs.Steps.{name_of, LiesUnder, IsArrivalOf, IsStepOf};
+
+use crate::choices::{Choice, Name, Sort};
+use machine::Machine;
+use words::{HartId, Message, Step};
+
+/// The name of a message.
+pub fn name_of(message: &Message) -> Name
+    ensures { result ≡ name_of (shown_message message.now) }
+{
+    let (sort, hart, block) = match message {
+        Message::Get { from, block, .. } => (Sort::Get, from, block),
+        Message::Put { from, block, .. } => (Sort::Put, from, block),
+        Message::Done { from, block, .. } => (Sort::Done, from, block),
+        Message::Grant { to, block, .. } => (Sort::Grant, to, block),
+        Message::Forward { to, block, .. } => (Sort::Forward, to, block),
+        Message::PutAck { to, block } => (Sort::PutAck, to, block),
+        Message::Ack { from, block, .. } => (Sort::Ack, from, block),
+        Message::Nack { from, block, .. } => (Sort::Nack, from, block),
+    };
+    Name {
+        sort,
+        hart: *hart,
+        block: *block,
+    }
+}
+
+/// Whether a message has a name.
+fn has_name(message: &Message, name: &Name) -> bool
+    ensures { MatchBool result (name_of (shown_message message.now) ≡ name.now) (name_of (shown_message message.now) ≢ name.now) }
+{
+    name_of(message) == *name
+}
+
+/// The key of the message in flight that has a name.
+fn find<const SETS: usize, const WAYS: usize>(
+    machine: &Machine<SETS, WAYS>,
+    name: &Name,
+) -> Option<usize>
+    ensures some { IfSome result (λ key. IsArrivalOf (shown SETS machine.now) name.now (Some (Deliver key))) }
+    ensures none { IfNone result ((key : ℕ) → LiesUnder (shown SETS machine.now) name.now key → ⊥) }
+{
+    for key in 0..machine.keys() {
+        if let Some(message) = machine.message(key) {
+            if has_name(&message, name) {
+                return Some(key);
+            }
+        }
+    }
+    None
+}
+
+impl Choice {
+    /// The step that is chosen on a machine whose last core step was this hart's. `None` where no message of the name is in flight, and
+    /// where there is no further turn.
+    pub fn step<const SETS: usize, const WAYS: usize>(
+        &self,
+        machine: &Machine<SETS, WAYS>,
+        last: HartId,
+    ) -> Option<Step>
+        ensures { IsStepOf SETS machine.now last self.now result }
+    {
+        match self {
+            Choice::Core(hart) => Some(Step::Core(*hart)),
+            Choice::Evict(hart, block) => Some(Step::Evict(*hart, *block)),
+            Choice::Deliver(name) => match find(machine, name) {
+                Some(key) => Some(Step::Deliver(key)),
+                None => None,
+            },
+            Choice::Turn => machine.next_turn(last),
+        }
+    }
+}

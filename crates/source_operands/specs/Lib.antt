@@ -1,0 +1,6 @@
+pub mod Cutting
+pub mod Faults
+pub mod Numbers
+pub mod Operands
+pub mod Places
+pub mod Registers
