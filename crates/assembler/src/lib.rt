@@ -9,6 +9,3 @@ pub use fault::SourceFault;
 pub use passes::assemble;
 pub use source_operands::{AsmFault, Names, Place, Section, Size};
 pub use statements::{Words, line};
-
-#[cfg(test)]
-mod tests;

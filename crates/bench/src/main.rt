@@ -1,10 +1,11 @@
-//! How fast the parts of a machine are: `bench [PART [ROUNDS]]`, where PART is `table`, `cache`, `transaction` or `listing`, and 1,000,000 rounds are
+//! How fast the parts of a machine are: `bench [PART [ROUNDS]]`, where PART is `table`, `cache`, `transaction`, `listing` or `source`, and 1,000,000 rounds are
 //! made if no number is given. Without a PART each makes 1,000 rounds. What was counted goes to standard output, how long it took to standard error.
 #![tactic(auto)]
 
 mod caches;
 mod instructions;
 mod listings;
+mod sources;
 mod timing;
 mod transactions;
 
@@ -22,6 +23,7 @@ fn measure(
         "cache" => caches::measure(rt, rounds)?,
         "transaction" => transactions::measure(rt, rounds)?,
         "listing" => listings::measure(rt, rounds)?,
+        "source" => sources::measure(rt, rounds)?,
         _ => return Ok(false),
     }
     Ok(true)
@@ -35,13 +37,15 @@ fn main(rt: HostRuntime) -> io::Result<()> {
         None => 1_000_000,
     };
     let Some(part) = part else {
-        for part in ["table", "cache", "transaction", "listing"] {
+        for part in ["table", "cache", "transaction", "listing", "source"] {
             measure(&rt, part, 1000)?;
         }
         return Ok(());
     };
     if !measure(&rt, part.as_str(), rounds)? {
-        eprintln!(rt; "bench: there is no part {part}: table, cache, transaction or listing")?;
+        eprintln!(rt;
+            "bench: there is no part {part}: table, cache, transaction, listing or source"
+        )?;
     }
     Ok(())
 }

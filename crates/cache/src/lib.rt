@@ -5,8 +5,6 @@
 mod bytes;
 mod cache;
 mod line;
-#[cfg(test)]
-mod tests;
 mod ways;
 
 pub use bytes::with_bytes;

@@ -6,8 +6,6 @@ mod directory;
 mod entry;
 mod received;
 mod rules;
-#[cfg(test)]
-mod tests;
 
 pub use directory::{BLOCKS, Directory};
 pub use entry::{Busy, DirEntry, Owner};

@@ -7,8 +7,6 @@ mod names;
 mod numbers;
 mod printer;
 mod shapes;
-#[cfg(test)]
-mod tests;
 mod window;
 
 pub use laws::texts_differ;

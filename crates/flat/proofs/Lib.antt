@@ -19,3 +19,4 @@ pub mod Grows
 pub mod SameView
 pub mod Swapped
 pub mod Serial
+pub mod Sequential

@@ -10,3 +10,4 @@ pub mod Attempts
 pub mod Boots
 pub mod BootFaults
 pub mod Reads
+pub mod Order

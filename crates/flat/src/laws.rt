@@ -7,6 +7,8 @@ ghost use Rattle.flat.specs.State.{Setting, Flat, flat_view, has_written};
 ghost use Rattle.flat.specs.Start.{first_state};
 ghost use Rattle.flat.specs.Steps.{Carries, IsRun, hart_of};
 ghost use Rattle.flat.specs.Isolation.{has_touched};
+ghost use Rattle.words.specs.Bytes.{number_at};
+ghost use Rattle.flat.specs.Order.{IsPlainRun, after_stores};
 ghost use Rattle.flat.specs.Attempts.{IsAttempt, own_of, others_of, with_hart};
 
 /// An entry carries a flat state to no more than one.
@@ -86,4 +88,11 @@ pub fn aborted_attempts_leave_nothing()
     ensures others { (i : ℕ) (f g h : Flat) (es : List Entry) (c : AbortCause) → IsAttempt i f es g → Carries g (Abort i c) h → IsRun f (others_of i es) (with_hart h i (f.hart i)) }
     ensures back { (i : ℕ) (f g h : Flat) (es : List Entry) (c : AbortCause) → IsAttempt i f es g → Carries g (Abort i c) h → ((h.hart i).regs ≡ (f.hart i).regs) × ((h.hart i).output ≡ (f.hart i).output) × ((h.hart i).tx ≡ None) }
     ensures memory { (i a : ℕ) (f g h : Flat) (es : List Entry) (c : AbortCause) → IsAttempt i f es g → Carries g (Abort i c) h → others_of i es ≡ [] → h.mem a ≡ f.mem a }
+{}
+
+/// Sequential consistency: in a run in which no hart is ever in a transaction, memory is at each moment what the stores before have made of
+/// it, in their order, and a load gives what stands there then.
+pub fn plain_runs_are_sequential()
+    ensures memory { (f g : Flat) (es : List Entry) (a : ℕ) → IsPlainRun f es g → g.mem a ≡ after_stores es f.mem a }
+    ensures loads { (f g h : Flat) (es : List Entry) (i pc word : ℕ) (write : Option (ℕ × ℕ)) (load : Access) (store : Option Access) → IsPlainRun f es g → Carries g (Retire i pc word write (Some load) store) h → load.value ≡ number_at (after_stores es f.mem) load.addr load.width }
 {}

@@ -16,8 +16,6 @@ mod reply;
 mod request;
 mod retire;
 mod step;
-#[cfg(test)]
-mod tests;
 mod transactions;
 
 pub use hart::Hart;

@@ -1,17 +1,16 @@
-//! Programs played on the coherent machine for its tests: texts, schedules that a simulator wouldn't choose, and steps chosen by hand.
+//! Programs on the coherent machine for its tests: their words, the machine as it begins with them, its steps, and what is read of it.
 #![tactic(auto)]
 
-mod moves;
 mod programs;
 mod reads;
-mod schedules;
+mod steps;
 
-pub use moves::{Name, block, count, deliver, deliver_newest, find, go, one, place, settle, zero};
 pub use programs::{
     CROSS, LOADS_AND_STORES, SHARE, SPILLED_AND_READ, SPILLS, STORED_AND_READ, STORED_TWICE,
-    STORES_113, STORES_114, STORES_ONCE,
+    STORES_113, STORES_114, STORES_ONCE, block, one, place, zero,
 };
 pub use reads::{
-    entry, harts, line, log_word, message, next_message, next_turn, peek, raw, regs, tx, used, view,
+    all_stopped, entry, harts, line, log_word, message, next_message, next_turn, peek, raw, regs,
+    tx, used, view,
 };
-pub use schedules::{LARGE, SIZE, Schedule, booted, checked, is_running, make, play};
+pub use steps::{LARGE, SIZE, booted, make};

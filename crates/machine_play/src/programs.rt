@@ -1,3 +1,33 @@
+ghost use Rattle.std.specs.Prelude.{◌≡◌};
+
+use words::{Addr, BlockNo, HartId};
+
+pub fn zero() -> HartId
+    ensures { result ≡ 0 }
+{
+    HartId::new(0)
+}
+
+pub fn one() -> HartId
+    ensures { result ≡ 1 }
+{
+    HartId::new(1)
+}
+
+/// The word that most programs access.
+pub fn place() -> Addr
+    ensures { result ≡ 8192 }
+{
+    Addr::new(0x2000)
+}
+
+/// Its block.
+pub fn block() -> BlockNo
+    ensures { result ≡ 256 }
+{
+    BlockNo::new(256)
+}
+
 /// Stores 7 and then 9 to 0x2000 in a transaction, with a load from 0x2040 between them, aborts it, and exits with 0.
 pub const SPILLS: [u32; 11] = [
     0x0200_000b,

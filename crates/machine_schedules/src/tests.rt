@@ -1,3 +1,4 @@
 mod alike;
+mod play;
 mod runs;
 mod schedules;

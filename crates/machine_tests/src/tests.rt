@@ -1,4 +1,5 @@
 mod checks;
+mod moves;
 mod rows;
 mod sharing;
 mod traps;

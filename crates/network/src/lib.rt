@@ -4,6 +4,3 @@
 mod net;
 
 pub use net::{Flight, Net};
-
-#[cfg(test)]
-mod tests;

@@ -15,6 +15,3 @@ mod start;
 mod step;
 
 pub use machine::Machine;
-
-#[cfg(test)]
-mod tests;

@@ -3,3 +3,4 @@ pub mod Reported
 pub mod Starting
 pub mod Refusing
 pub mod Performing
+pub mod Quoting

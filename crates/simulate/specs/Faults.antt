@@ -1,6 +1,7 @@
 -- What the user is told of a fault, and the status that it ends the program with.
-use Rattle.std.specs.Prelude.{ℕ, List, [], ◌∷◌, codes, decimal, string_bytes}
+use Rattle.std.specs.Prelude.{ℕ, List, [], ◌∷◌, ◌++◌, codes, decimal, string_bytes}
 use Rattle.std.specs.List.{concat}
+use Rattle.std.specs.Option.{option_map}
 use Rattle.command_line.specs.declared.fault.OrderFault.{OrderFault}
 use Rattle.command_line.specs.declared.fault.OrderFault.TheVariants as order
 use Rattle.loader.specs.declared.fault.LoadFault.{LoadFault}
@@ -9,14 +10,13 @@ use Rattle.loader.specs.Faults.{fault_number, fault_name}
 use Rattle.flat.specs.declared.boot_fault.BootFault.{BootFault}
 use Rattle.flat.specs.declared.boot_fault.BootFault.TheVariants as boot
 use Rattle.flat.specs.BootFaults.{boot_fault_number, boot_fault_name}
-use Rattle.source_operands.specs.declared.fault.AsmFault.{AsmFault}
-use Rattle.source_operands.specs.declared.fault.AsmFault.TheVariants as asm
-use Rattle.assembler.specs.declared.fault.SourceFault.{SourceFault}
 use Rattle.source_operands.specs.Faults.{fault_number as asm_number, fault_name as asm_name}
 use Rattle.schedule.specs.declared.lines.ScheduleFault.{ScheduleFault}
 use Rattle.schedule.specs.declared.lines.ScheduleFault.TheVariants as schedule
+use Rattle.simulate.specs.Quotes.{quotation}
 use Rattle.simulate.specs.Reports.{line_end}
 use Rattle.simulate.specs.declared.fault.Fault.{Fault}
+use Rattle.simulate.specs.declared.fault.RefusedLine.{RefusedLine}
 use Rattle.simulate.specs.declared.fault.Fault.TheVariants.{NotText, Refused, Value, Unread, NotSource, Source, Load, Boot, Word, NotSchedule, Schedule, Unwritten, Unmade, NoMemory}
 
 -- 2 for the command line and a schedule, 3 for a file, 4 for what is in the file and for the machine that is asked for, 6 if memory ran out
@@ -48,6 +48,10 @@ refusal_line what number name = concat (codes "logtm: " ∷ what ∷ decimal num
 abbrev pub refused_text : ℕ → ℕ → List ℕ → List ℕ
 refused_text at number name = concat (codes "logtm: line " ∷ decimal at ∷ codes ": " ∷ decimal number ∷ codes " " ∷ name ∷ line_end ∷ [])
 
+-- the same, and then the line itself
+abbrev pub refused_line : RefusedLine → List ℕ
+refused_line refused = refused_text refused.why.line (asm_number refused.why.fault) (asm_name refused.why.fault) ++ quotation (option_map (λ line. line.now) refused.text)
+
 -- the line on a line of a schedule that spells no step
 abbrev pub unspelled_text : ℕ → List ℕ
 unspelled_text at = concat (codes "logtm: schedule line " ∷ decimal at ∷ codes ": no step" ∷ line_end ∷ [])
@@ -59,7 +63,7 @@ fault_text (Refused text) = concat (string_bytes text ∷ [])
 fault_text (Value text) = line (codes "value ") text.now
 fault_text (Unread file) = line (codes "cannot read ") file.now
 fault_text NotSource = line (codes "source is not text") []
-fault_text (Source refused) = refused_text refused.line (asm_number refused.fault) (asm_name refused.fault)
+fault_text (Source refused) = refused_line refused
 fault_text (Load fault) = refusal_line (codes "load ") (fault_number fault) (fault_name fault)
 fault_text (Boot fault) = refusal_line (codes "boot ") (boot_fault_number fault) (boot_fault_name fault)
 fault_text (Word text) = line (codes "word ") text.now
@@ -95,14 +99,6 @@ of_boot boot.BadSize = Boot boot.BadSize
 of_boot boot.BadHarts = Boot boot.BadHarts
 of_boot boot.DoesNotFit = Boot boot.DoesNotFit
 of_boot boot.NoMemory = NoMemory
-
--- the fault of a source, likewise
-abbrev pub of_asm : SourceFault → AsmFault → Fault
-of_asm refused asm.NoMemory = NoMemory
-of_asm refused other = Source refused
-
-abbrev pub of_source : SourceFault → Fault
-of_source refused = of_asm refused refused.fault
 
 -- the fault of a schedule, likewise
 abbrev pub of_schedule : ScheduleFault → Fault

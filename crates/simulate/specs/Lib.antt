@@ -1,5 +1,6 @@
 pub mod Sinks
 pub mod Reports
+pub mod Quotes
 pub mod Faults
 pub mod Sources
 pub mod Schedules

@@ -1,12 +1,16 @@
 -- The program in a file: a source's, where the file's name says so, else an ELF file's.
 use Rattle.std.specs.Prelude.{ℕ, ◌≡◌, ◌⊎◌, Bool, true, false, List, Err, Some, codes, nat_eq}
 use Rattle.std.specs.List.{ends_with}
+use Rattle.std.specs.Option.{option_map}
 use Rattle.std.specs.Str.{IsUtf8}
 use Rattle.loader.specs.Programs.{Program}
 use Rattle.loader.specs.Checks.{fault_of}
 use Rattle.loader.specs.Elf.{IsElfOf}
 use Rattle.assembler.specs.Passes.{assembled}
 use Rattle.assembler.specs.Layouts.{IsSourceOf as IsSpelledBy}
+use Rattle.source_operands.specs.declared.fault.AsmFault.{AsmFault}
+use Rattle.source_operands.specs.declared.fault.AsmFault.TheVariants as asm
+use Rattle.simulate.specs.Quotes.{line_numbered}
 use Rattle.simulate.specs.declared.fault.Fault.{Fault}
 use Rattle.simulate.specs.declared.fault.Fault.TheVariants.{NotSource, Source, Load, NoMemory}
 
@@ -22,10 +26,15 @@ IsSourceOf file p = IsUtf8 file × IsSpelledBy file p
 abbrev pub IsProgramIn : List ℕ → List ℕ → Program → Type 0
 IsProgramIn path file p = ((is_source path ≡ true) × IsSourceOf file p) ⊎ ((is_source path ≡ false) × IsElfOf file p)
 
+-- memory ran out, which is no fault of a source
+abbrev pub is_no_memory : AsmFault → Bool
+is_no_memory asm.NoMemory = true
+is_no_memory other = false
+
 -- why the bytes are the source of no program: they are no text, or a line is refused. Nothing is said of when memory runs out
 abbrev pub IsSourceFault : List ℕ → Fault → Type 0
 IsSourceFault file NotSource = IsUtf8 file → ⊥
-IsSourceFault file (Source refused) = IsUtf8 file × (assembled file ≡ Err refused)
+IsSourceFault file (Source refused) = IsUtf8 file × (assembled file ≡ Err refused.why) × (option_map (λ line. line.now) refused.text ≡ line_numbered refused.why.line file)
 IsSourceFault file NoMemory = Unit {0}
 IsSourceFault file other = ⊥
 

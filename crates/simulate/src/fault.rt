@@ -1,10 +1,11 @@
 ghost use Rattle.std.specs.Prelude.{◌≡◌};
-ghost use Rattle.simulate.specs.Faults.{fault_status, fault_text, line, refusal_line, refused_text, unspelled_text, of_order, of_source, of_load, of_boot, of_schedule};
+ghost use Rattle.simulate.specs.Faults.{fault_status, fault_text, line, refusal_line, refused_text, refused_line, unspelled_text, of_order, of_load, of_boot, of_schedule};
 ghost use Rattle.simulate.specs.Sinks.{IsPut};
 ghost use Rattle.texts.specs.Puts.{Puts};
 ghost use Rattle.simulate.specs.declared.fault.Fault.TheVariants.{NoMemory, Unwritten};
 
-use assembler::{AsmFault, SourceFault};
+use crate::quote::quoted;
+use assembler::SourceFault;
 use command_line::OrderFault;
 use flat::BootFault;
 use itoa::Buffer;
@@ -13,6 +14,14 @@ use schedule::ScheduleFault;
 use std::alloc::{AllocError, AllocFailed};
 use texts::put_all;
 use words::{Sink, SinkFault};
+
+/// A line of a source that is refused.
+#[derive(Clone, Copy, Debug)]
+pub struct RefusedLine<'a> {
+    pub why: SourceFault,
+    /// The line itself. A source without a word of text is refused at no line.
+    pub text: Option<&'a str>,
+}
 
 /// Why the program didn't do what it was asked for.
 #[derive(Debug, Drop)]
@@ -28,7 +37,7 @@ pub enum Fault<'a> {
     /// The source is not text.
     NotSource,
     /// A line of the source is refused.
-    Source(SourceFault),
+    Source(RefusedLine<'a>),
     /// The file is no program.
     Load(LoadFault),
     /// The program can't be booted.
@@ -71,12 +80,7 @@ impl<'a> Fault<'a> {
             Fault::Value(text) => put_line(sink, b"value ", text),
             Fault::Unread(file) => put_line(sink, b"cannot read ", file),
             Fault::NotSource => put_line(sink, b"source is not text", ""),
-            Fault::Source(refused) => put_refused(
-                sink,
-                refused.line,
-                refused.fault.number(),
-                refused.fault.name(),
-            ),
+            Fault::Source(refused) => put_refused(sink, refused),
             Fault::Load(fault) => put_refusal(sink, b"load ", fault.number(), fault.name()),
             Fault::Boot(fault) => put_refusal(sink, b"boot ", fault.number(), fault.name()),
             Fault::Word(text) => put_line(sink, b"word ", text),
@@ -121,8 +125,20 @@ fn put_refusal<S: Sink>(sink: &mut S, what: &[u8], number: u32, name: &str) -> R
     )
 }
 
-/// Puts that a line of source is refused.
-fn put_refused<S: Sink>(sink: &mut S, line: usize, number: u32, name: &str) -> Result<(), SinkFault>
+/// Puts that a line of source is refused, and the line.
+fn put_refused<S: Sink>(sink: &mut S, refused: &RefusedLine<'_>) -> Result<(), SinkFault>
+    ensures { Puts (S.taken sink.old) (S.taken sink.new) (S.failed sink.old) (S.failed sink.new) (refused_line refused.now) result }
+{
+    let why = refused.why;
+    put_place(sink, why.line, why.fault.number(), why.fault.name())?;
+    match refused.text {
+        Some(line) => put_all(sink, &[quoted(line).as_slice(), b"\n"]),
+        None => Ok(()),
+    }
+}
+
+/// Puts where a source is refused, and why.
+fn put_place<S: Sink>(sink: &mut S, line: usize, number: u32, name: &str) -> Result<(), SinkFault>
     ensures { Puts (S.taken sink.old) (S.taken sink.new) (S.failed sink.old) (S.failed sink.new) (refused_text line number name.now) result }
 {
     let mut place = Buffer::new();
@@ -176,17 +192,6 @@ impl<'a> From<LoadFault> for Fault<'a> {
         match fault {
             LoadFault::NoMemory => Fault::NoMemory,
             other => Fault::Load(other),
-        }
-    }
-}
-
-impl<'a> From<SourceFault> for Fault<'a> {
-    ghost from_gives = { λ x e. e ≡ of_source x };
-
-    fn from(refused: SourceFault) -> Fault<'a> {
-        match refused.fault {
-            AsmFault::NoMemory => Fault::NoMemory,
-            _ => Fault::Source(refused),
         }
     }
 }

@@ -1,3 +1,4 @@
+//! An order, carried out: all but reading and writing files.
 ghost use Rattle.std.specs.Prelude.{◌≡◌, ◌≢◌, ◌<◌, ◌*◌, ◌^◌, ◌↔◌, ◌⊎◌, ℕ, List, MatchOption, MatchResult, IfOk, IfErr, IsTrue};
 ghost use Rattle.loader.specs.Programs.{Program};
 ghost use Rattle.loader.specs.Writing.{elf_of};
@@ -86,7 +87,7 @@ pub fn perform<O: Sink, E: Sink>(
 fn try_perform<'a, S: Sink>(
     alloc: Global,
     order: &Order<'a>,
-    file: &[u8],
+    file: &'a [u8],
     schedule: &[u8],
     out: &mut S,
 ) -> Result<Outcome, Fault<'a>>
@@ -114,7 +115,7 @@ fn try_perform<'a, S: Sink>(
 }
 
 /// The bytes of the file of the program that a source makes.
-fn image<'a>(alloc: Global, source: &[u8]) -> Result<Vec<u8>, Fault<'a>>
+fn image(alloc: Global, source: &[u8]) -> Result<Vec<u8>, Fault<'_>>
     ensures { MatchResult result (λ bytes. (p : Program) × IsSourceOf source.now p × (bytes.items ≡ elf_of p)) (IsSourceFault source.now) }
 {
     let program = program_of_source(alloc, source)?;
@@ -138,7 +139,7 @@ fn list<'a, S: Sink>(alloc: Global, file: &[u8], out: &mut S) -> Result<u8, Faul
 fn run_and_report<'a, S: Sink>(
     alloc: Global,
     run: &Run<'a>,
-    file: &[u8],
+    file: &'a [u8],
     schedule: &[u8],
     out: &mut S,
 ) -> Result<u8, Fault<'a>>
@@ -158,7 +159,7 @@ fn run_and_report<'a, S: Sink>(
 fn run_on<'a, const SETS: usize, const WAYS: usize, S: Sink>(
     alloc: Global,
     run: &Run<'a>,
-    file: &[u8],
+    file: &'a [u8],
     schedule: &[u8],
     out: &mut S,
 ) -> Result<u8, Fault<'a>>
@@ -185,7 +186,7 @@ fn run_on<'a, const SETS: usize, const WAYS: usize, S: Sink>(
 fn boot<'a, const SETS: usize, const WAYS: usize>(
     alloc: Global,
     path: &str,
-    file: &[u8],
+    file: &'a [u8],
     harts: u32,
     memory: u32,
 ) -> Result<Machine<SETS, WAYS>, Fault<'a>>

@@ -1,10 +1,12 @@
 //! The program in a file: a source's, where the file's name says so, else an ELF file's. And the choices in a schedule's file.
-ghost use Rattle.std.specs.Prelude.{◌≡◌, MatchResult};
-ghost use Rattle.simulate.specs.Sources.{is_source, IsSourceOf, IsProgramIn, IsSourceFault, IsProgramFault};
+ghost use Rattle.std.specs.Prelude.{◌≡◌, ◌≢◌, Err, MatchResult};
+ghost use Rattle.assembler.specs.Passes.{assembled};
+ghost use Rattle.simulate.specs.Sources.{is_source, is_no_memory, IsSourceOf, IsProgramIn, IsSourceFault, IsProgramFault};
 ghost use Rattle.simulate.specs.Schedules.{AreChosenBy, IsScheduleFault};
 
-use crate::fault::Fault;
-use assembler::assemble;
+use crate::fault::{Fault, RefusedLine};
+use crate::quote::line_numbered;
+use assembler::{AsmFault, SourceFault, assemble};
 use loader::{Program, read_elf};
 use schedule::{Choice, read};
 use std::alloc::Global;
@@ -18,17 +20,45 @@ fn is_source(path: &str) -> bool
 }
 
 /// The program that a source makes. Want of memory is no fault of the source.
-pub(crate) fn program_of_source<'a>(alloc: Global, source: &[u8]) -> Result<Program, Fault<'a>>
+pub(crate) fn program_of_source(alloc: Global, source: &[u8]) -> Result<Program, Fault<'_>>
     ensures { MatchResult result (IsSourceOf source.now) (IsSourceFault source.now) }
 {
-    match str::from_utf8(source) {
-        Ok(text) => Ok(assemble(alloc, text)?),
-        Err(_) => Err(Fault::NotSource),
+    let Ok(text) = str::from_utf8(source) else {
+        return Err(Fault::NotSource);
+    };
+    match assemble(alloc, text) {
+        Ok(program) => Ok(program),
+        Err(why) => Err(refusal(text, why)),
     }
 }
 
+/// Whether memory ran out, which is no fault of the source.
+fn is_no_memory(fault: AsmFault) -> bool
+    ensures { result ≡ is_no_memory fault }
+{
+    matches!(fault, AsmFault::NoMemory)
+}
+
+/// What a source is refused for, with the line.
+fn refusal(source: &str, why: SourceFault) -> Fault<'_>
+    requires { why.fault ≢ AsmFault.NoMemory → assembled source.now ≡ Err why }
+    ensures { IsSourceFault source.now result }
+{
+    if is_no_memory(why.fault) {
+        return Fault::NoMemory;
+    }
+    Fault::Source(RefusedLine {
+        why,
+        text: line_numbered(source, why.line),
+    })
+}
+
 /// The program in a file with this name and these bytes.
-pub(crate) fn program_in<'a>(alloc: Global, path: &str, file: &[u8]) -> Result<Program, Fault<'a>>
+pub(crate) fn program_in<'a>(
+    alloc: Global,
+    path: &str,
+    file: &'a [u8],
+) -> Result<Program, Fault<'a>>
     ensures { MatchResult result (IsProgramIn path.now file.now) (IsProgramFault path.now file.now) }
 {
     if is_source(path) {

@@ -246,12 +246,24 @@ fn assembles(rt: HostRuntime) -> Result<(), Fail> {
 #[test]
 fn refuses_sources(rt: HostRuntime) -> Result<(), Fail> {
     let cases: [(&[u8], &str); 8] = [
-        (b"nop\naddi a0, a0, 2048", "logtm: line 2: 4 Range\n"),
-        (b"lw a0, 4(q1)\n", "logtm: line 1: 3 Register\n"),
-        (b"beq a0, a1, nowhere", "logtm: line 1: 6 Label\n"),
-        (b"  foo a0", "logtm: line 1: 1 Unknown\n"),
-        (b".data\n.byte 1\n.half 1", "logtm: line 3: 5 Alignment\n"),
-        (b"a:\na: nop", "logtm: line 2: 7 TwiceDefined\n"),
+        (
+            b"nop\naddi a0, a0, 2048",
+            "logtm: line 2: 4 Range\naddi a0, a0, 2048\n",
+        ),
+        (
+            b"lw a0, 4(q1)\n",
+            "logtm: line 1: 3 Register\nlw a0, 4(q1)\n",
+        ),
+        (
+            b"beq a0, a1, nowhere",
+            "logtm: line 1: 6 Label\nbeq a0, a1, nowhere\n",
+        ),
+        (b"  foo a0", "logtm: line 1: 1 Unknown\n  foo a0\n"),
+        (
+            b".data\n.byte 1\n.half 1",
+            "logtm: line 3: 5 Alignment\n.half 1\n",
+        ),
+        (b"a:\na: nop", "logtm: line 2: 7 TwiceDefined\na: nop\n"),
         (b"", "logtm: line 0: 9 TooLarge\n"),
         (b"nop # \xff", "logtm: source is not text\n"),
     ];
@@ -260,6 +272,43 @@ fn refuses_sources(rt: HostRuntime) -> Result<(), Fail> {
         check(&rt, &["logtm", "run", "f.s"], source, 4, "", error)?;
     }
     Ok(())
+}
+
+#[test]
+fn quotes_without_harm(rt: HostRuntime) -> Result<(), Fail> {
+    let cases: [(&[u8], &str); 3] = [
+        // The line's end is not part of it.
+        (
+            b"nop\r\n\tfoo\ta0\r\nnop\r\n",
+            "logtm: line 2: 1 Unknown\n\tfoo\ta0\n",
+        ),
+        // A text that would clear the screen, and two bytes of one letter.
+        (
+            b"foo \x1b[2J\x7f \xc3\xa4\rb",
+            "logtm: line 1: 1 Unknown\nfoo ?[2J? ???b\n",
+        ),
+        (b"foo ~ !\r\r\n", "logtm: line 1: 1 Unknown\nfoo ~ !?\n"),
+    ];
+    for (source, error) in cases {
+        check(&rt, &["logtm", "run", "f.s"], source, 4, "", error)?;
+    }
+    Ok(())
+}
+
+const LONG: &str = "logtm: line 1: 9 TooLarge\n\
+    ................................................................................................................................\
+    ...............................................................................................................................\n";
+
+#[test]
+fn quotes_255_bytes(rt: HostRuntime) -> Result<(), Fail> {
+    check(
+        &rt,
+        &["logtm", "asm", "f.s", "f"],
+        &[b'.'; 300],
+        4,
+        "",
+        LONG,
+    )
 }
 
 #[test]

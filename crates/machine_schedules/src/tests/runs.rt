@@ -1,11 +1,12 @@
 //! Lists of steps, cut and not, and with want of memory.
 
 use super::alike::check_alike;
+use super::play::checked;
 use elf_samples::{COMMITS, COUNTS, elf_file};
 use flat::BootFault;
 use loader::read_elf;
 use machine::Machine;
-use machine_play::{SIZE, booted, checked, make, next_turn, one, peek, place, zero};
+use machine_play::{SIZE, booted, make, next_turn, one, peek, place, zero};
 use std::alloc::AllocError;
 use std::process::Abort;
 use std::test::Fail;

@@ -1,9 +1,10 @@
 ghost use Rattle.std.specs.Prelude.{◌<◌, ◌*◌, ◌^◌};
 
 use super::alike::check_alike;
+use super::play::{Schedule, checked, play};
 use elf_samples::{ABORTS, ADDS, COMMITS, COUNTS};
 use flat::Engine;
-use machine_play::{SIZE, SPILLS, STORES_113, STORES_114, Schedule, booted, checked, play};
+use machine_play::{SIZE, SPILLS, STORES_113, STORES_114, booted};
 use reference::Machine as Checker;
 use std::process::Abort;
 use std::test::Fail;

@@ -1,10 +1,9 @@
 //! What the tests ask of a machine and of its entries.
 
+use super::moves::{Name, find};
 use directory::DirEntry;
 use machine::{Machine, TxInfo};
-use machine_play::{
-    Name, block, entry, find, line, log_word, peek, place, raw, regs, tx, used, view,
-};
+use machine_play::{block, entry, line, log_word, peek, place, raw, regs, tx, used, view};
 use std::process::Abort;
 use words::{Addr, Entry, HartId, LineState, Marks, Message, Status};
 

@@ -4,12 +4,13 @@ use super::checks::{
     check_count, check_directory, check_entry, check_events, check_hart, check_last, check_line,
     check_log, check_place, check_register, check_tx, check_used, check_view, check_word,
 };
+use super::moves::{go, settle};
 use directory::{DirEntry, Owner};
 use elf_samples::{ABORTS, COMMITS, EXIT};
 use machine::{Machine, TxInfo};
 use machine_play::{
-    LARGE, LOADS_AND_STORES, SIZE, SPILLS, STORES_113, STORES_114, STORES_ONCE, block, booted, go,
-    is_running, make, place, settle, zero,
+    LARGE, LOADS_AND_STORES, SIZE, SPILLS, STORES_113, STORES_114, STORES_ONCE, all_stopped, block,
+    booted, make, place, zero,
 };
 use std::process::Abort;
 use std::test::Fail;
@@ -224,7 +225,7 @@ fn a_store_on_a_full_log_aborts(rt: HostRuntime) -> Result<(), Fail> {
     let mut after = Vec::new(rt.alloc());
     go(&mut machine, zero(), 100, &mut after)?;
     check_events(&rt, &after, &[None; 3]);
-    assert!(rt; !is_running(&machine));
+    assert!(rt; all_stopped(&machine));
     Ok(())
 }
 
@@ -330,6 +331,6 @@ fn a_program_without_accesses_has_no_entries_in_use(rt: HostRuntime) -> Result<(
         store: None,
     };
     check_entry(&rt, &entries, 0, first);
-    assert!(rt; !is_running(&machine));
+    assert!(rt; all_stopped(&machine));
     Ok(())
 }

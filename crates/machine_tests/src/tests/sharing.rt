@@ -4,11 +4,12 @@ use super::checks::{
     check_carried, check_count, check_directory, check_last, check_place, check_register,
     check_state, check_tx, check_used, check_word,
 };
+use super::moves::{Name, count, deliver, deliver_newest, find, go, settle, take_turns};
 use directory::{Busy, DirEntry, Owner};
 use machine::{Machine, TxInfo};
 use machine_play::{
-    CROSS, Name, SHARE, SIZE, SPILLED_AND_READ, STORED_AND_READ, STORED_TWICE, Schedule, block,
-    booted, count, deliver, deliver_newest, find, go, make, one, play, settle, tx, zero,
+    CROSS, SHARE, SIZE, SPILLED_AND_READ, STORED_AND_READ, STORED_TWICE, block, booted, make, one,
+    tx, zero,
 };
 use std::alloc::Global;
 use std::process::Abort;
@@ -295,7 +296,7 @@ fn a_stamp_is_kept_after_an_abort(rt: HostRuntime) -> Result<(), Fail> {
     // After a commit it is a new one.
     go(&mut machine, zero(), 3, &mut entries)?;
     check_tx(&rt, &machine, zero(), begun(zero(), 0, 2));
-    play(&mut machine, Schedule::Turns, 1000, &mut entries)?;
+    take_turns(&mut machine, 1000, &mut entries)?;
     check_both(&rt, &machine, 2);
     Ok(())
 }

@@ -1,7 +1,8 @@
 //! What can't be retired.
 
 use super::checks::{check_count, check_hart, check_last};
-use machine_play::{SIZE, booted, go, zero};
+use super::moves::go;
+use machine_play::{SIZE, booted, zero};
 use std::process::Abort;
 use std::test::Fail;
 use words::{AbortCause, Addr, Cause, Entry, Status};

@@ -1,4 +1,4 @@
-//! The programs of `examples/schedules`, with their schedules.
+//! Schedules: those of `examples/schedules`, and those that are refused.
 ghost use Rattle.std.specs.Prelude.{◌<◌, ◌*◌, ◌^◌};
 
 use super::{check, check_by};
@@ -54,25 +54,6 @@ static PUT_AND_READ_STEPS: &str =
     deliver forward 0 0x2000\ndeliver grant 1 0x2000\ndeliver ack 0 0x2000\ndeliver done 1 0x2000\ndeliver put 0 0x2000\n\
     deliver putack 0 0x2000\nturn\n";
 
-#[test]
-fn a_read_overtakes_a_put(rt: HostRuntime) -> Result<(), Fail> {
-    let run = [
-        "logtm", "run", "f.s", "--harts", "2", "--cache", "normal", "0x2000",
-    ];
-    let out = "hart 0: exit 0\n\
-        hart 1: exit 5\n\
-        word 0x00002000 = 0x00000005\n";
-    check_by(
-        &rt,
-        &run,
-        PUT_AND_READ.as_bytes(),
-        PUT_AND_READ_STEPS.as_bytes(),
-        1,
-        out,
-        "",
-    )
-}
-
 static PUT_AND_WRITE: &str =
     "lui t0, 2\nbnez a0, writer\nli t1, 5\nsw t1, 0(t0)\nli a7, 93\nli a0, 0\necall\nwriter: li t1, 6\nsw t1, 0(t0)\n\
     li a7, 93\nli a0, 0\necall\n";
@@ -82,25 +63,6 @@ static PUT_AND_WRITE_STEPS: &str =
     core 0\ncore 0\ncore 1\ncore 1\ncore 1\ncore 1\nevict 0 0x2000\ndeliver get 1 0x2000\ndeliver put 0 0x2000\n\
     deliver forward 0 0x2000\ndeliver grant 1 0x2000\ndeliver ack 0 0x2000\ndeliver done 1 0x2000\ncore 1\n\
     evict 1 0x2000\ndeliver put 1 0x2000\ndeliver put 0 0x2000\n";
-
-#[test]
-fn a_write_overtakes_a_put(rt: HostRuntime) -> Result<(), Fail> {
-    let run = [
-        "logtm", "run", "f.s", "--harts", "2", "--cache", "normal", "0x2000",
-    ];
-    let out = "hart 0: exit 0\n\
-        hart 1: exit 0\n\
-        word 0x00002000 = 0x00000006\n";
-    check_by(
-        &rt,
-        &run,
-        PUT_AND_WRITE.as_bytes(),
-        PUT_AND_WRITE_STEPS.as_bytes(),
-        0,
-        out,
-        "",
-    )
-}
 
 static STICKY_OWNER: &str =
     "lui t0, 2\nbnez a0, reader\ntbegin done\nli t1, 7\nsw t1, 0(t0)\nlw t2, 0x40(t0)\ntcommit\ndone: li a7, 93\nli a0, 0\n\
@@ -112,25 +74,6 @@ static STICKY_OWNER_STEPS: &str =
     deliver done 0 0x2040\ncore 0\ncore 1\ncore 1\ncore 1\ndeliver get 1 0x2000\ndeliver forward 0 0x2000\n\
     deliver grant 1 0x2000\ndeliver nack 0 0x2000\ndeliver done 1 0x2000\ncore 0\ncore 1\ndeliver get 1 0x2000\n\
     deliver forward 0 0x2000\ndeliver ack 0 0x2000\ndeliver grant 1 0x2000\ndeliver done 1 0x2000\ncore 1\n";
-
-#[test]
-fn a_sticky_owner_refuses(rt: HostRuntime) -> Result<(), Fail> {
-    let run = [
-        "logtm", "run", "f.s", "--harts", "2", "--cache", "small", "0x2000",
-    ];
-    let out = "hart 0: exit 0\n\
-        hart 1: exit 7\n\
-        word 0x00002000 = 0x00000007\n";
-    check_by(
-        &rt,
-        &run,
-        STICKY_OWNER.as_bytes(),
-        STICKY_OWNER_STEPS.as_bytes(),
-        1,
-        out,
-        "",
-    )
-}
 
 static LATER_ABORTS: &str =
     "lui t0, 2\nbnez a0, later\nearly: tbegin early\nli t1, 1\nsw t1, 0(t0)\nsw t1, 0x40(t0)\ntcommit\nli a7, 93\n\
@@ -144,26 +87,6 @@ static LATER_ABORTS_STEPS: &str =
     deliver nack 0 0x2000\ndeliver done 1 0x2000\ncore 1\ncore 1\ncore 0\ndeliver get 0 0x2040\ndeliver forward 1 0x2040\n\
     deliver grant 0 0x2040\ndeliver ack 1 0x2040\ndeliver done 0 0x2040\ncore 0\ncore 0\n";
 
-#[test]
-fn the_later_of_two_aborts(rt: HostRuntime) -> Result<(), Fail> {
-    let run = [
-        "logtm", "run", "f.s", "--harts", "2", "--cache", "normal", "0x2000", "0x2040",
-    ];
-    let out = "hart 0: exit 0\n\
-        hart 1: exit 0\n\
-        word 0x00002000 = 0x00000002\n\
-        word 0x00002040 = 0x00000002\n";
-    check_by(
-        &rt,
-        &run,
-        LATER_ABORTS.as_bytes(),
-        LATER_ABORTS_STEPS.as_bytes(),
-        0,
-        out,
-        "",
-    )
-}
-
 static ANSWERS_BEFORE_THE_GRANT: &str =
     "lui t0, 2\nli t2, 3\nbeq a0, t2, last\nlw t1, 0(t0)\nbnez a0, done\nli t1, 9\nsw t1, 0(t0)\ndone: li a7, 93\n\
     li a0, 0\necall\nlast: tbegin last\nlw t1, 0(t0)\nlw t2, 0(t0)\ntcommit\nadd a0, t1, t2\nli a7, 93\necall\n";
@@ -176,27 +99,6 @@ static ANSWERS_BEFORE_THE_GRANT_STEPS: &str =
     deliver done 3 0x2000\ncore 3\ncore 0\ncore 0\ncore 0\ndeliver get 0 0x2000\ndeliver forward 1 0x2000\n\
     deliver forward 2 0x2000\ndeliver forward 3 0x2000\ndeliver ack 1 0x2000\ndeliver ack 2 0x2000\n\
     deliver nack 3 0x2000\ndeliver grant 0 0x2000\ndeliver done 0 0x2000\ncore 3\ncore 3\n";
-
-#[test]
-fn answers_arrive_before_the_grant(rt: HostRuntime) -> Result<(), Fail> {
-    let run = [
-        "logtm", "run", "f.s", "--harts", "4", "--cache", "normal", "0x2000",
-    ];
-    let out = "hart 0: exit 0\n\
-        hart 1: exit 0\n\
-        hart 2: exit 0\n\
-        hart 3: exit 0\n\
-        word 0x00002000 = 0x00000009\n";
-    check_by(
-        &rt,
-        &run,
-        ANSWERS_BEFORE_THE_GRANT.as_bytes(),
-        ANSWERS_BEFORE_THE_GRANT_STEPS.as_bytes(),
-        0,
-        out,
-        "",
-    )
-}
 
 #[test]
 fn refuses_schedules(rt: HostRuntime) -> Result<(), Fail> {

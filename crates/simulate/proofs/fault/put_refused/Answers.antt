@@ -1,9 +1,25 @@
-use Rattle.std.proofs.Common.{◌≡◌, ◌∙◌}
-use Rattle.std.specs.Fmt.{decimal}
+use Rattle.std.proofs.Common.{◌≡◌, ◌∙◌, ◌++◌, ◌∷◌, [], ap, sym, option_map}
+use Rattle.source_operands.specs.Faults.{fault_number as asm_number, fault_name as asm_name}
+use Rattle.texts.proofs.Putting.{puts-both, puts-cut, puts-nothing, puts-same}
+use Rattle.simulate.specs.Faults.{refused_text}
+use Rattle.simulate.specs.Quotes.{quotation}
 use Rattle.simulate.proofs.fault.put_refused.Goals as goal
 
-pub returns : goal.returns
-returns g c =
-    let place : c.as_bytes.result.now ≡ decimal c.args.line = c.as_bytes.ensures.value ∙ c.format.ensures.text in
-    let number : c.as_bytes-2.result.now ≡ decimal c.args.number = c.as_bytes-2.ensures.value ∙ c.format-2.ensures.text in
-    rw (← place, ← number, ← c.as_bytes-3.ensures.value) c.put_all.ensures
+pub returns-in_err-put_place : goal.returns-in_err-put_place
+returns-in_err-put_place g c =
+    let why = c.args.refused.now.why in
+    let text = ap (λ n. refused_text why.line n c.name.result.now) c.number.ensures ∙ ap (λ name. refused_text why.line (asm_number why.fault) name) c.name.ensures in
+    puts-cut (quotation (option_map (λ line. line.now) c.args.refused.now.text)) c.in_err-put_place.was (puts-same text c.put_place.ensures) c.from_residual.ensures.0
+
+pub returns-in-Some : goal.returns-in-Some
+returns-in-Some g c =
+    let why = c.args.refused.now.why in
+    let text = ap (λ n. refused_text why.line n c.name.result.now) c.number.ensures ∙ ap (λ name. refused_text why.line (asm_number why.fault) name) c.name.ensures in
+    let quote = ap (λ shown. shown ++ 10 ∷ []) (c.as_slice.ensures.value ∙ c.quoted.ensures) ∙ ap (λ line. quotation (option_map (λ l. l.now) line)) (sym c.in-Some.is) in
+    puts-both (puts-same text c.in_ok-put_place.ensures) (puts-same quote c.put_all.ensures)
+
+pub returns-in-None : goal.returns-in-None
+returns-in-None g c =
+    let why = c.args.refused.now.why in
+    let text = ap (λ n. refused_text why.line n c.name.result.now) c.number.ensures ∙ ap (λ name. refused_text why.line (asm_number why.fault) name) c.name.ensures in
+    puts-both (puts-same text c.in_ok-put_place.ensures) (puts-same (ap (λ line. quotation (option_map (λ l. l.now) line)) (sym c.in-None.is)) (puts-nothing _ _))

@@ -4,7 +4,7 @@ use Rattle.texts.proofs.Putting.{puts-same}
 use Rattle.simulate.proofs.fault.Fault.put.Goals as goal
 
 pub returns-in-Load : goal.returns-in-Load
-returns-in-Load g c = puts-same (sym (ap fault_text c.in-Load.is)) (rw (← c.number-in-Load.ensures, ← c.name-in-Load.ensures) c.put_refusal.ensures)
+returns-in-Load g c = puts-same (sym (ap fault_text c.in-Load.is)) (rw (← c.number.ensures, ← c.name.ensures) c.put_refusal.ensures)
 
 pub returns-in-Boot : goal.returns-in-Boot
 returns-in-Boot g c = puts-same (sym (ap fault_text c.in-Boot.is)) (rw (← c.number-in-Boot.ensures, ← c.name-in-Boot.ensures) c.put_refusal-in-Boot.ensures)
@@ -19,7 +19,7 @@ pub returns-in-NoMemory : goal.returns-in-NoMemory
 returns-in-NoMemory g c = puts-same (sym (ap fault_text c.in-NoMemory.is)) c.put_line-in-NoMemory.ensures
 
 pub returns-in-Source : goal.returns-in-Source
-returns-in-Source g c = puts-same (sym (ap fault_text c.in-Source.is)) (rw (← c.number.ensures, ← c.name.ensures) c.put_refused.ensures)
+returns-in-Source g c = puts-same (sym (ap fault_text c.in-Source.is)) c.put_refused.ensures
 
 pub returns-in-Unmade : goal.returns-in-Unmade
 returns-in-Unmade g c = puts-same (sym (ap fault_text c.in-Unmade.is)) c.put_line-in-Unmade.ensures

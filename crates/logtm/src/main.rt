@@ -1,0 +1,48 @@
+//! The program `logtm`: it answers its command line.
+#![tactic(auto)]
+
+use simulate::{Fault, answer};
+use std::env;
+use std::io::{ErrorKind, Write};
+use std::process::ExitCode;
+use std::rt::{Env, Files};
+use words::{Counted, Sink};
+
+fn main(rt: HostRuntime) -> ExitCode {
+    let mut error = Counted {
+        writer: rt.stderr(),
+        failed: 0,
+    };
+    let status = answer_all(&rt, rt.stdout(), &mut error);
+    let Counted {
+        writer: _,
+        failed: _,
+    } = error;
+    ExitCode::from(status)
+}
+
+/// Answers the command line, and gives the status that the program ends with.
+fn answer_all<R: Env + Files + AllocGlobal, W: Write + Drop, E: Sink>(
+    rt: &R,
+    out: W,
+    error: &mut E,
+) -> u8 {
+    let arguments = match arguments(rt) {
+        Ok(arguments) => arguments,
+        Err(fault) => return fault.tell(error),
+    };
+    let words = arguments.iter().map(|argument| argument.as_str());
+    match words.collect::<Vec<&str>>(rt.alloc()) {
+        Ok(words) => answer(rt, &words, out, error),
+        Err(_) => Fault::NoMemory.tell(error),
+    }
+}
+
+/// The words of the command line, the program's name first.
+fn arguments<'a, R: Env + AllocGlobal>(rt: &R) -> Result<Vec<String>, Fault<'a>> {
+    match env::args(rt) {
+        Ok(arguments) => Ok(arguments.collect(rt.alloc())?),
+        Err(error) if error.kind() == ErrorKind::OutOfMemory => Err(Fault::NoMemory),
+        Err(_) => Err(Fault::NotText),
+    }
+}

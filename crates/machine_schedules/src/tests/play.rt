@@ -1,0 +1,176 @@
+//! Schedules that a simulator wouldn't choose.
+
+use elf_samples::elf_file;
+use loader::read_elf;
+use machine::Machine;
+use machine_play::{all_stopped, entry, harts, line, make, message, next_message, next_turn};
+use reference::Machine as Checker;
+use std::alloc::{AllocError, Global};
+use std::test::Fail;
+use words::{BlockNo, Entry, HartId, Message, Step};
+
+/// The block at 0x2000, the first that the programs access.
+const FIRST_BLOCK: u32 = 256;
+
+/// Which step comes next.
+#[derive(Clone, Copy, Debug, PartialEq, Eq)]
+pub enum Schedule {
+    /// The machine's own turns.
+    Turns,
+    /// The same, and after each step of a core every hart gives up every line that it holds of so many blocks from 0x2000 on.
+    Evictions(u32),
+    /// The newest message that isn't held arrives first; a core goes on where there is none.
+    Newest,
+    /// In each round every key up to 15 is tried, held and absent ones too, and then each core.
+    Keys,
+}
+
+/// The plain machine after these entries, where it accepts them all.
+pub fn checked(
+    alloc: Global,
+    text: &[u32],
+    harts: u32,
+    size: u32,
+    entries: &[Entry],
+) -> Result<Checker, Fail> {
+    let file = elf_file(alloc, text)?;
+    let mut checker = Checker::boot(alloc, read_elf(alloc, &file)?, harts, size)?;
+    match checker.check_all(alloc, entries) {
+        Ok(accepted) if accepted == entries.len() => Ok(checker),
+        Ok(_) => Err("an entry is refused")?,
+        Err((_, fault)) => Err(fault)?,
+    }
+}
+
+/// Every hart gives up every line that it holds of so many blocks from 0x2000 on.
+fn evict_all<const SETS: usize, const WAYS: usize>(
+    machine: &mut Machine<SETS, WAYS>,
+    blocks: u32,
+    entries: &mut Vec<Entry>,
+) -> Result<(), AllocError> {
+    for number in 0..harts(machine) {
+        if let Some(hart) = HartId::try_new(number) {
+            for k in 0..blocks.min(1024) {
+                let block = BlockNo::new(FIRST_BLOCK + k);
+                if line(machine, hart, block).is_some() {
+                    make(machine, Step::Evict(hart, block), entries)?;
+                }
+            }
+        }
+    }
+    Ok(())
+}
+
+/// Goes on by the machine's turns, so many at most, with evictions of so many blocks between them.
+fn take_turns<const SETS: usize, const WAYS: usize>(
+    machine: &mut Machine<SETS, WAYS>,
+    blocks: u32,
+    most: u32,
+    entries: &mut Vec<Entry>,
+) -> Result<(), AllocError> {
+    let mut last = machine.last_hart();
+    for _ in 0..most {
+        let Some(turn) = next_turn(machine, last) else {
+            break;
+        };
+        let mut evicted = 0;
+        if let Step::Core(hart) = turn {
+            last = hart;
+            evicted = blocks;
+        }
+        make(machine, turn, entries)?;
+        evict_all(machine, evicted, entries)?;
+    }
+    Ok(())
+}
+
+/// Whether the directory holds a message now.
+fn is_held<const SETS: usize, const WAYS: usize>(
+    machine: &Machine<SETS, WAYS>,
+    message: &Message,
+) -> bool {
+    match message {
+        Message::Get { block, .. } | Message::Put { block, .. } => {
+            entry(machine, *block).busy.is_some()
+        }
+        _ => false,
+    }
+}
+
+/// The key of the newest message that isn't held, of the oldest thousand.
+fn newest<const SETS: usize, const WAYS: usize>(machine: &Machine<SETS, WAYS>) -> Option<usize> {
+    let mut last = None;
+    let mut newest = None;
+    for _ in 0..1000 {
+        last = next_message(machine, last);
+        let Some(key) = last else {
+            break;
+        };
+        if let Some(message) = message(machine, key) {
+            if !is_held(machine, &message) {
+                newest = Some(key);
+            }
+        }
+    }
+    newest
+}
+
+/// Goes on by the newest message or the machine's turn, so many at most.
+fn take_newest<const SETS: usize, const WAYS: usize>(
+    machine: &mut Machine<SETS, WAYS>,
+    most: u32,
+    entries: &mut Vec<Entry>,
+) -> Result<(), AllocError> {
+    let mut last = machine.last_hart();
+    for _ in 0..most {
+        let turn = match newest(machine) {
+            Some(key) => Step::Deliver(key),
+            None => match next_turn(machine, last) {
+                Some(turn) => turn,
+                None => break,
+            },
+        };
+        if let Step::Core(hart) = turn {
+            last = hart;
+        }
+        make(machine, turn, entries)?;
+    }
+    Ok(())
+}
+
+/// Goes on in rounds, so many at most, each of every key up to 15 and then each core, until no hart runs.
+fn try_keys<const SETS: usize, const WAYS: usize>(
+    machine: &mut Machine<SETS, WAYS>,
+    most: u32,
+    entries: &mut Vec<Entry>,
+) -> Result<(), AllocError> {
+    for _ in 0..most {
+        if all_stopped(machine) {
+            break;
+        }
+        for key in 0..16 {
+            make(machine, Step::Deliver(key), entries)?;
+        }
+        for number in 0..harts(machine) {
+            if let Some(hart) = HartId::try_new(number) {
+                make(machine, Step::Core(hart), entries)?;
+            }
+        }
+    }
+    Ok(())
+}
+
+/// Goes on by a schedule until it ends, the entries pushed; by so many turns or rounds at most.
+pub fn play<const SETS: usize, const WAYS: usize>(
+    machine: &mut Machine<SETS, WAYS>,
+    schedule: Schedule,
+    most: u32,
+    entries: &mut Vec<Entry>,
+) -> Result<(), AllocError> {
+    match schedule {
+        Schedule::Turns => take_turns(machine, 0, most, entries),
+        Schedule::Evictions(blocks) => take_turns(machine, blocks, most, entries),
+        Schedule::Newest => take_newest(machine, most, entries),
+        Schedule::Keys => try_keys(machine, most, entries),
+    }
+}

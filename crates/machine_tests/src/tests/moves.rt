@@ -1,0 +1,159 @@
+//! Steps chosen by hand.
+
+ghost use Rattle.std.specs.Prelude.{◌≤◌, IfOk};
+
+use machine::Machine;
+use machine_play::{make, message, next_message, next_turn};
+use std::alloc::AllocError;
+use std::test::Fail;
+use words::{Entry, HartId, Message, Step};
+
+/// What a message is.
+#[derive(Clone, Copy, Debug, PartialEq, Eq)]
+pub enum Name {
+    Get,
+    Put,
+    Done,
+    Grant,
+    Forward,
+    PutAck,
+    Ack,
+    Nack,
+}
+
+fn name_of(message: &Message) -> Name {
+    match message {
+        Message::Get { .. } => Name::Get,
+        Message::Put { .. } => Name::Put,
+        Message::Done { .. } => Name::Done,
+        Message::Grant { .. } => Name::Grant,
+        Message::Forward { .. } => Name::Forward,
+        Message::PutAck { .. } => Name::PutAck,
+        Message::Ack { .. } => Name::Ack,
+        Message::Nack { .. } => Name::Nack,
+    }
+}
+
+/// The message of this name that was sent first, of the oldest thousand in flight, and its key.
+pub fn find<const SETS: usize, const WAYS: usize>(
+    machine: &Machine<SETS, WAYS>,
+    name: Name,
+) -> Option<(usize, Message)> {
+    let mut last = None;
+    for _ in 0..1000 {
+        last = next_message(machine, last);
+        let key = last?;
+        let message = message(machine, key)?;
+        if name_of(&message) == name {
+            return Some((key, message));
+        }
+    }
+    None
+}
+
+/// The oldest message of this name arrives.
+pub fn deliver<const SETS: usize, const WAYS: usize>(
+    machine: &mut Machine<SETS, WAYS>,
+    name: Name,
+    entries: &mut Vec<Entry>,
+) -> Result<(), Fail> {
+    let (key, _) = find(machine, name).ok_or("no such message")?;
+    make(machine, Step::Deliver(key), entries)?;
+    Ok(())
+}
+
+/// The newest message of this name arrives.
+pub fn deliver_newest<const SETS: usize, const WAYS: usize>(
+    machine: &mut Machine<SETS, WAYS>,
+    name: Name,
+    entries: &mut Vec<Entry>,
+) -> Result<(), Fail> {
+    let mut newest = None;
+    let mut last = None;
+    for _ in 0..count(machine) {
+        last = next_message(machine, last);
+        if let Some(key) = last {
+            if let Some(message) = message(machine, key) {
+                if name_of(&message) == name {
+                    newest = Some(key);
+                }
+            }
+        }
+    }
+    make(
+        machine,
+        Step::Deliver(newest.ok_or("no such message")?),
+        entries,
+    )?;
+    Ok(())
+}
+
+/// How many messages are in flight, a thousand at most.
+pub fn count<const SETS: usize, const WAYS: usize>(machine: &Machine<SETS, WAYS>) -> usize {
+    let mut last = None;
+    for made in 0..1000 {
+        last = next_message(machine, last);
+        if last.is_none() {
+            return made;
+        }
+    }
+    1000
+}
+
+/// Goes on by the machine's turns, with this hart for each turn of a hart, until so many entries are given or no turn is left, by ten
+/// thousand steps at most: how many steps were made.
+pub fn go<const SETS: usize, const WAYS: usize>(
+    machine: &mut Machine<SETS, WAYS>,
+    hart: HartId,
+    wanted: usize,
+    entries: &mut Vec<Entry>,
+) -> Result<usize, AllocError>
+    ensures { IfOk result (λ made. made ≤ 10000) }
+{
+    let all = entries.len().saturating_add(wanted);
+    for made in 0..10_000 {
+        if entries.len() >= all {
+            return Ok(made);
+        }
+        let turn = match next_turn(machine, hart) {
+            Some(Step::Core(_)) => Step::Core(hart),
+            Some(turn) => turn,
+            None => return Ok(made),
+        };
+        make(machine, turn, entries)?;
+    }
+    Ok(10_000)
+}
+
+/// All messages arrive that come to be in flight, the oldest first; no core goes on.
+pub fn settle<const SETS: usize, const WAYS: usize>(
+    machine: &mut Machine<SETS, WAYS>,
+    entries: &mut Vec<Entry>,
+) -> Result<(), AllocError> {
+    for _ in 0..1000 {
+        match next_turn(machine, HartId::new(0)) {
+            Some(Step::Deliver(key)) => make(machine, Step::Deliver(key), entries)?,
+            _ => return Ok(()),
+        }
+    }
+    Ok(())
+}
+
+/// Goes on by the machine's turns, the first after the highest hart's, so many at most.
+pub fn take_turns<const SETS: usize, const WAYS: usize>(
+    machine: &mut Machine<SETS, WAYS>,
+    most: u32,
+    entries: &mut Vec<Entry>,
+) -> Result<(), AllocError> {
+    let mut last = machine.last_hart();
+    for _ in 0..most {
+        let Some(turn) = next_turn(machine, last) else {
+            break;
+        };
+        if let Step::Core(hart) = turn {
+            last = hart;
+        }
+        make(machine, turn, entries)?;
+    }
+    Ok(())
+}

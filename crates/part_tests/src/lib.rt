@@ -1,0 +1,5 @@
+//! The parts of the machine, each by itself: caches, the network, the directory, and a hart with its program.
+#![tactic(auto)]
+
+#[cfg(test)]
+mod tests;

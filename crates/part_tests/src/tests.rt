@@ -1,0 +1,4 @@
+mod caches;
+mod directories;
+mod harts;
+mod networks;

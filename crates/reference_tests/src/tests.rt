@@ -1,0 +1,4 @@
+mod checks;
+mod moves;
+mod runs;
+mod traps;

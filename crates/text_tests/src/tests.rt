@@ -1,0 +1,4 @@
+mod assembling;
+mod hostile;
+mod listings;
+mod vectors;
