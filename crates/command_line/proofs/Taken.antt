@@ -15,11 +15,11 @@ use Rattle.clap.specs.Faults.{entered_fault, is_simple_and_free, level_fault}
 use Rattle.clap.specs.Kinds.{Kinds}
 use Rattle.clap.specs.Simple.{argument_words, entered, label_of, names_of, rows_at}
 use Rattle.clap.specs.Walk.{answers_to, finished, nothing_held, rows_after, stop_after, walk}
-use Rattle.command_line.specs.Command.{asm, dis, logtm, run}
-use Rattle.command_line.specs.Reading.{AsksFor, IsComplete, IsFaultOf, IsOrderOf, IsReadingOf, IsRefusal, NamesFirstOf, malformed_of}
+use Rattle.command_line.specs.Command.{asm, debug, dis, logtm, run}
+use Rattle.command_line.specs.Reading.{AsksFor, IsComplete, IsFaultOf, IsRequestOf, IsReadingOf, IsRefusal, NamesFirstIn}
 use Rattle.command_line.specs.declared.fault.OrderFault.{OrderFault}
 use Rattle.command_line.specs.declared.fault.OrderFault.TheVariants.{NoMemory, Refused, Value}
-use Rattle.command_line.specs.declared.request.Order.{Order}
+use Rattle.command_line.specs.declared.request.Request.{Request}
 use Rattle.command_line.proofs.Levels.{given_first, is_none, lacks_nothing, level_passes, subcommand_checked, value_there}
 
 -- ---- the subcommands
@@ -32,27 +32,35 @@ Completes s = (words : List Text) → level_fault s [] nothing_held words false 
 abbrev built_run : Shape
 built_run = slice_index_or (built logtm).subs 0 run
 
+abbrev built_debug : Shape
+built_debug = slice_index_or (built logtm).subs 1 debug
+
 abbrev built_dis : Shape
-built_dis = slice_index_or (built logtm).subs 1 dis
+built_dis = slice_index_or (built logtm).subs 2 dis
 
 abbrev built_asm : Shape
-built_asm = slice_index_or (built logtm).subs 2 asm
+built_asm = slice_index_or (built logtm).subs 3 asm
 
 run_completes : Completes built_run
 run_completes words none =
     let file = given_first _ _ (lacks_nothing built_run words refl none) in
     inl (refl, value_there (codes "file") built_run words refl file.0)
 
+debug_completes : Completes built_debug
+debug_completes words none =
+    let file = given_first _ _ (lacks_nothing built_debug words refl none) in
+    inr (inl (refl, value_there (codes "file") built_debug words refl file.0))
+
 dis_completes : Completes built_dis
 dis_completes words none =
     let file = given_first _ _ (lacks_nothing built_dis words refl none) in
-    inr (inl (refl, value_there (codes "file") built_dis words refl file.0))
+    inr (inr (inl (refl, value_there (codes "file") built_dis words refl file.0)))
 
 asm_completes : Completes built_asm
 asm_completes words none =
     let source = given_first _ _ (lacks_nothing built_asm words refl none) in
     let target = given_first _ _ source.1 in
-    inr (inr (refl, value_there (codes "source") built_asm words refl source.0, value_there (codes "target") built_asm words refl target.0))
+    inr (inr (inr (refl, value_there (codes "source") built_asm words refl source.0, value_there (codes "target") built_asm words refl target.0)))
 
 abbrev EachCompletes : List Shape → Type 0
 EachCompletes [] = Unit {0}
@@ -105,7 +113,7 @@ taken words none =
     let stop = stop_after top.rules names after in
     let passes = level_passes top names after (is_some (entered (built logtm) stop)) (entered_fault (built logtm) stop) none in
     let there = subcommand_is_there (is_some (entered (built logtm) stop)) (subcommand_checked top (finished top.rules (walk top.rules names nothing_held after).held) _ passes.1) in
-    let inner = entered_here top (built logtm).subs stop (run_completes, (dis_completes, (asm_completes, tt))) there in (
+    let inner = entered_here top (built logtm).subs stop (run_completes, (debug_completes, (dis_completes, (asm_completes, tt)))) there in (
       inner.shape.name,
       rows_after inner.shape.rules [] inner.words,
       record {
@@ -177,9 +185,9 @@ refused_words words a error NoMemory is fails memory refusal = tt
 
 -- ---- the reading of the values is what the words ask for
 
-pub read_words : (words : List Text) (name : Text) (rows : List Row) (r : Result Order OrderFault) → AsksFor name words rows
-    → MatchResult r (IsReadingOf name rows) (λ fault. (name ≡ codes "run") × NamesFirstOf (malformed_of rows) fault) → MatchResult r (IsOrderOf words) (IsFaultOf words)
-read_words words name rows (Ok order) asks read = (name, rows, asks, read)
-read_words words name rows (Err (Refused text)) asks bad = absurd bad.1
-read_words words name rows (Err (Value value)) asks bad = (rows, (asks.0, asks.1 ∙ ap (λ n. Some (n, rows)) bad.0), bad.1)
+pub read_words : (words : List Text) (name : Text) (rows : List Row) (r : Result Request OrderFault) → AsksFor name words rows
+    → MatchResult r (IsReadingOf name rows) (NamesFirstIn name rows) → MatchResult r (IsRequestOf words) (IsFaultOf words)
+read_words words name rows (Ok request) asks read = (name, rows, asks, read)
+read_words words name rows (Err (Refused text)) asks bad = ⊎_elim (λ run. absurd run.1) (λ debug. absurd debug.1) bad
+read_words words name rows (Err (Value value)) asks bad = (name, rows, asks, bad)
 read_words words name rows (Err NoMemory) asks bad = tt

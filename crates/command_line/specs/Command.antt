@@ -23,6 +23,12 @@ run = record (new_shape (codes "run")) {
       ∷ option_named (codes "steps") ∷ option_named (codes "cache") ∷ option_named (codes "schedule") ∷ words ∷ [];
 }
 
+-- the subcommand `debug`
+abbrev pub debug : Shape
+debug = record (new_shape (codes "debug")) {
+  rules = required_named (codes "file") ∷ option_named (codes "harts") ∷ option_named (codes "memory") ∷ option_named (codes "cache") ∷ [];
+}
+
 -- the subcommand `dis`
 abbrev pub dis : Shape
 dis = record (new_shape (codes "dis")) { rules = required_named (codes "file") ∷ [] }
@@ -41,5 +47,5 @@ logtm = record {
     disable_help_subcommand = true;
     subcommand_required = true;
   };
-  subs = run ∷ dis ∷ asm ∷ [];
+  subs = run ∷ debug ∷ dis ∷ asm ∷ [];
 }

@@ -9,8 +9,11 @@ use Rattle.command_line.specs.declared.fault.OrderFault.{OrderFault}
 use Rattle.command_line.specs.declared.fault.OrderFault.TheVariants.{Refused, Value, NoMemory}
 use Rattle.command_line.specs.declared.request.Cache.{Cache}
 use Rattle.command_line.specs.declared.request.Cache.TheVariants.{Small, Normal}
+use Rattle.command_line.specs.declared.request.Debug.{Debug}
 use Rattle.command_line.specs.declared.request.Order.{Order}
 use Rattle.command_line.specs.declared.request.Order.TheVariants as order
+use Rattle.command_line.specs.declared.request.Request.{Request}
+use Rattle.command_line.specs.declared.request.Request.TheVariants as request
 use Rattle.command_line.specs.declared.request.Run.{Run}
 use Rattle.command_line.specs.declared.request.Word.{Word}
 
@@ -44,6 +47,12 @@ malformed_of rows = malformed number_of (given (codes "harts") rows)
     ++ malformed cache_of (given (codes "cache") rows)
     ++ malformed number_of (words_of rows)
 
+-- the same of a program that is to be played by hand
+abbrev pub malformed_of_machine : List Row → List Text
+malformed_of_machine rows = malformed number_of (given (codes "harts") rows)
+    ++ malformed number_of (given (codes "memory") rows)
+    ++ malformed cache_of (given (codes "cache") rows)
+
 -- the words are these texts with their numbers
 abbrev pub IsReadingOfWords : List Text → List Word → Type 0
 IsReadingOfWords texts words = (map (λ w. w.text.now) words ≡ texts)
@@ -60,20 +69,38 @@ IsRunOf rows run =
     × (option_map (λ path. path.now) run.schedule ≡ first_of (codes "schedule") rows)
     × IsReadingOfWords (words_of rows) run.words.items
 
+-- what is to be played by hand is what the values of its subcommand stand for
+abbrev pub IsDebugOf : List Row → Debug → Type 0
+IsDebugOf rows debug =
+    (first_of (codes "file") rows ≡ Some debug.file.now)
+    × (read_or number_of 1 (codes "harts") rows ≡ Some debug.harts)
+    × (read_or number_of 1048576 (codes "memory") rows ≡ Some debug.memory)
+    × (read_or cache_of Normal (codes "cache") rows ≡ Some debug.cache)
+
 -- the order is what the values of the subcommand of this name stand for
-abbrev pub IsReadingOf : Text → List Row → Order → Type 0
-IsReadingOf name rows (order.Run run) = (name ≡ codes "run") × IsRunOf rows run
-IsReadingOf name rows (order.Dis file) =
+abbrev pub IsOrderIn : Text → List Row → Order → Type 0
+IsOrderIn name rows (order.Run run) = (name ≡ codes "run") × IsRunOf rows run
+IsOrderIn name rows (order.Dis file) =
     (name ≡ codes "dis") × (first_of (codes "file") rows ≡ Some file.now)
-IsReadingOf name rows (order.Asm source target) = (name ≡ codes "asm")
+IsOrderIn name rows (order.Asm source target) = (name ≡ codes "asm")
     × (first_of (codes "source") rows ≡ Some source.now)
     × (first_of (codes "target") rows ≡ Some target.now)
+
+-- and so is the request
+abbrev pub IsReadingOf : Text → List Row → Request → Type 0
+IsReadingOf name rows (request.Order order) = IsOrderIn name rows order
+IsReadingOf name rows (request.Debug debug) = (name ≡ codes "debug") × IsDebugOf rows debug
 
 -- the fault names the first of these texts, or memory ran out
 abbrev pub NamesFirstOf : List Text → OrderFault → Type 0
 NamesFirstOf texts (Refused text) = ⊥
 NamesFirstOf texts (Value value) = slice_get texts 0 ≡ Some value.now
 NamesFirstOf texts NoMemory = ⊤
+
+-- the fault names the first malformed value of the subcommand of this name, or memory ran out
+abbrev pub NamesFirstIn : Text → List Row → OrderFault → Type 0
+NamesFirstIn name rows fault = ((name ≡ codes "run") × NamesFirstOf (malformed_of rows) fault)
+    ⊎ ((name ≡ codes "debug") × NamesFirstOf (malformed_of_machine rows) fault)
 
 -- a value was given for the argument
 abbrev pub HasValue : Text → List Row → Type 0
@@ -82,8 +109,9 @@ HasValue id rows = IsSome (first_of id rows)
 -- this is the name of a subcommand, and each argument that it has to have was given a value
 abbrev pub IsComplete : Text → List Row → Type 0
 IsComplete name rows = ((name ≡ codes "run") × HasValue (codes "file") rows)
+    ⊎ (((name ≡ codes "debug") × HasValue (codes "file") rows)
     ⊎ (((name ≡ codes "dis") × HasValue (codes "file") rows)
-    ⊎ ((name ≡ codes "asm") × HasValue (codes "source") rows × HasValue (codes "target") rows))
+    ⊎ ((name ≡ codes "asm") × HasValue (codes "source") rows × HasValue (codes "target") rows)))
 
 -- clap takes the words, and finds this subcommand with these values
 abbrev pub AsksFor : Text → List Text → List Row → Type 0
@@ -91,16 +119,14 @@ AsksFor name words rows =
     (fault_of logtm words ≡ []) × (subcommand_of logtm words ≡ Some (name, rows))
 
 -- the words ask for this
-abbrev pub IsOrderOf : List Text → Order → Type 0
-IsOrderOf words order =
-    (name : Text) × (rows : List Row) × AsksFor name words rows × IsReadingOf name rows order
+abbrev pub IsRequestOf : List Text → Request → Type 0
+IsRequestOf words request =
+    (name : Text) × (rows : List Row) × AsksFor name words rows × IsReadingOf name rows request
 
--- why the words ask for nothing: clap refuses them, a value of a run is malformed, or memory ran
--- out
+-- why the words ask for nothing: clap refuses them, a value is malformed, or memory ran out
 abbrev pub IsFaultOf : List Text → OrderFault → Type 0
 IsFaultOf words (Refused text) = fault_of logtm words ≢ []
-IsFaultOf words (Value value) = (rows : List Row) × AsksFor (codes "run") words rows
-    × (slice_get (malformed_of rows) 0 ≡ Some value.now)
+IsFaultOf words (Value value) = (name : Text) × (rows : List Row) × AsksFor name words rows × NamesFirstIn name rows (Value value)
 IsFaultOf words NoMemory = ⊤
 
 -- clap's refusal, or that memory ran out for its text

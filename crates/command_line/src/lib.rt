@@ -3,6 +3,7 @@
 //! The subcommands are:
 //!
 //! - `logtm run FILE [--harts N] [--memory S] [--steps N] [--cache small|normal] [--schedule LIST] [WORD..]`
+//! - `logtm debug FILE [--harts N] [--memory S] [--cache small|normal]`
 //! - `logtm dis FILE`
 //! - `logtm asm IN OUT`
 //!
@@ -17,8 +18,8 @@ mod request;
 
 pub use fault::OrderFault;
 pub use numbers::number;
-pub use parser::order;
-pub use request::{Cache, Order, Run, Word};
+pub use parser::parse;
+pub use request::{Cache, Debug, Order, Request, Run, Word};
 
 #[cfg(test)]
 mod tests;

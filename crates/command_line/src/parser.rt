@@ -3,24 +3,30 @@ ghost use Rattle.clap.specs.Words.{app_of, kind_of, new_app, rule_of, shape_of};
 ghost use Rattle.clap.specs.declared.builder.command.Command.TheViews.{out-Command};
 ghost use Rattle.clap.specs.declared.error.ErrorKind.TheVariants.{OutOfMemory};
 ghost use Rattle.command_line.specs.Command as spec;
-ghost use Rattle.command_line.specs.Reading.{IsFaultOf, IsOrderOf, IsRefusal};
+ghost use Rattle.command_line.specs.Reading.{IsFaultOf, IsRequestOf, IsRefusal};
 ghost use Rattle.command_line.specs.declared.fault.OrderFault.TheVariants.{NoMemory};
 
 use crate::fault::OrderFault;
 use crate::reading::read;
-use crate::request::Order;
+use crate::request::Request;
 use clap::error::ErrorKind;
 use clap::{Arg, ArgAction, Command, Error};
 use std::alloc::{AllocError, Global};
+
+const HARTS_HELP: &str = "How many harts run it, 1 if not given";
+
+const MEMORY_HELP: &str = "How many bytes of memory there are, 1048576 if not given";
+
+const CACHE_HELP: &str = "The cache of each hart, small or normal, normal if not given";
 
 /// What the words of a command line ask for. The first word is the program's name, as in what the
 /// environment gives, and is not read.
 ///
 /// clap says what it refuses, and answers `--help` in the same way. Where it takes the words of a
 /// run, the values of `--harts`, `--memory`, `--steps` and `--cache` and then the WORDs are read, in
-/// this order, up to the first malformed one. Memory may run out at any time: no clause says when.
-pub fn order<'a>(alloc: Global, words: &'a [&'a str]) -> Result<Order<'a>, OrderFault<'a>>
-    ensures { MatchResult result (IsOrderOf (map (λ w. w.now) words.entry.now))
+/// this order, up to the first malformed one; those of `debug` likewise. Memory may run out at any time: no clause says when.
+pub fn parse<'a>(alloc: Global, words: &'a [&'a str]) -> Result<Request<'a>, OrderFault<'a>>
+    ensures { MatchResult result (IsRequestOf (map (λ w. w.now) words.entry.now))
         (IsFaultOf (map (λ w. w.now) words.entry.now)) }
 {
     match command(alloc)?.try_get_matches_from(words) {
@@ -40,6 +46,7 @@ fn command<'a>(alloc: Global) -> Result<Command<'a>, AllocError>
         .disable_help_subcommand(true)
         .subcommand_required(true)
         .subcommand(run_command(alloc)?)?
+        .subcommand(debug_command(alloc)?)?
         .subcommand(dis_command(alloc)?)?
         .subcommand(asm_command(alloc)?)
 }
@@ -49,19 +56,31 @@ fn run_command<'a>(alloc: Global) -> Result<Command<'a>, AllocError>
     ensures local { IfOk result (λ c. (out-Command c).has_globals ≡ false) }
 {
     let about = "Runs a program, and reports what became of it";
-    let harts = "How many harts run it, 1 if not given";
-    let memory = "How many bytes of memory there are, 1048576 if not given";
     let steps = "How many steps are taken at most, 10000000 if not given";
-    let cache = "The cache of each hart, small or normal, normal if not given";
     let schedule = "A file whose lines choose the first steps";
     bare(alloc, "run", about)
         .arg(program(alloc))?
-        .arg(option(alloc, "harts", "N", harts))?
-        .arg(option(alloc, "memory", "S", memory))?
+        .arg(option(alloc, "harts", "N", HARTS_HELP))?
+        .arg(option(alloc, "memory", "S", MEMORY_HELP))?
         .arg(option(alloc, "steps", "N", steps))?
-        .arg(option(alloc, "cache", "NAME", cache))?
+        .arg(option(alloc, "cache", "NAME", CACHE_HELP))?
         .arg(option(alloc, "schedule", "LIST", schedule))?
         .arg(words(alloc))
+}
+
+fn debug_command<'a>(alloc: Global) -> Result<Command<'a>, AllocError>
+    ensures shape { IfOk result (λ c. shape_of c ≡ spec.debug) }
+    ensures local { IfOk result (λ c. (out-Command c).has_globals ≡ false) }
+{
+    bare(
+        alloc,
+        "debug",
+        "Plays a program by hand, command by command",
+    )
+    .arg(program(alloc))?
+    .arg(option(alloc, "harts", "N", HARTS_HELP))?
+    .arg(option(alloc, "memory", "S", MEMORY_HELP))?
+    .arg(option(alloc, "cache", "NAME", CACHE_HELP))
 }
 
 fn dis_command<'a>(alloc: Global) -> Result<Command<'a>, AllocError>

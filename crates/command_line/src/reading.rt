@@ -1,13 +1,13 @@
 ghost use Rattle.std.specs.Prelude.{◌≡◌, MatchResult, Some, codes, map, option_map};
 ghost use Rattle.clap.specs.Words.{first_of, found_of, rows_of};
 ghost use Rattle.command_line.specs.Numbers.{number_of};
-ghost use Rattle.command_line.specs.Reading.{HasValue, IsComplete, IsReadingOf, IsReadingOfWords, IsRunOf};
-ghost use Rattle.command_line.specs.Reading.{NamesFirstOf, cache_of, given, malformed};
-ghost use Rattle.command_line.specs.Reading.{malformed_of, read_or, words_of};
+ghost use Rattle.command_line.specs.Reading.{HasValue, IsComplete, IsReadingOf, IsReadingOfWords, IsRunOf, IsDebugOf};
+ghost use Rattle.command_line.specs.Reading.{NamesFirstIn, NamesFirstOf, cache_of, given, malformed};
+ghost use Rattle.command_line.specs.Reading.{malformed_of, malformed_of_machine, read_or, words_of};
 
 use crate::fault::OrderFault;
 use crate::numbers::number;
-use crate::request::{Cache, Order, Run, Word};
+use crate::request::{Cache, Debug, Order, Request, Run, Word};
 use clap::ArgMatches;
 use std::alloc::Global;
 
@@ -21,25 +21,26 @@ const DEFAULT_STEPS: u32 = 10_000_000;
 
 const DEFAULT_CACHE: Cache = Cache::Normal;
 
-/// The order that the values of the subcommand of this name stand for.
+/// The request that the values of the subcommand of this name stand for.
 pub(crate) fn read<'a>(
     alloc: Global,
     name: &str,
     matches: &ArgMatches<'a>,
-) -> Result<Order<'a>, OrderFault<'a>>
+) -> Result<Request<'a>, OrderFault<'a>>
     requires { IsComplete name.now (rows_of (found_of matches.now)) }
     ensures { MatchResult result (IsReadingOf name.now (rows_of (found_of matches.now)))
-        (λ fault. (name.now ≡ codes "run") × NamesFirstOf (malformed_of (rows_of (found_of matches.now))) fault) }
+        (NamesFirstIn name.now (rows_of (found_of matches.now))) }
 {
     match name {
-        "run" => read_run(alloc, matches).map(Order::Run),
-        "dis" => Ok(Order::Dis {
+        "run" => read_run(alloc, matches).map(Order::Run).map(Request::Order),
+        "debug" => read_debug(matches).map(Request::Debug),
+        "dis" => Ok(Request::Order(Order::Dis {
             file: argument(matches, "file"),
-        }),
-        "asm" => Ok(Order::Asm {
+        })),
+        "asm" => Ok(Request::Order(Order::Asm {
             source: argument(matches, "source"),
             target: argument(matches, "target"),
-        }),
+        })),
         _ => unreachable!(),
     }
 }
@@ -72,6 +73,23 @@ fn read_run<'a>(alloc: Global, matches: &ArgMatches<'a>) -> Result<Run<'a>, Orde
         cache,
         schedule,
         words,
+    })
+}
+
+fn read_debug<'a>(matches: &ArgMatches<'a>) -> Result<Debug<'a>, OrderFault<'a>>
+    requires { HasValue (codes "file") (rows_of (found_of matches.now)) }
+    ensures { MatchResult result (IsDebugOf (rows_of (found_of matches.now)))
+        (NamesFirstOf (malformed_of_machine (rows_of (found_of matches.now)))) }
+{
+    let file = argument(matches, "file");
+    let harts = number_given(matches, "harts", DEFAULT_HARTS)?;
+    let memory = number_given(matches, "memory", DEFAULT_MEMORY)?;
+    let cache = cache_given(matches, "cache", DEFAULT_CACHE)?;
+    Ok(Debug {
+        file,
+        harts,
+        memory,
+        cache,
     })
 }
 

@@ -1,5 +1,14 @@
 /// What the user asks of the program.
 #[derive(Debug, Drop)]
+pub enum Request<'a> {
+    /// What is carried out at once.
+    Order(Order<'a>),
+    /// To play a program by hand.
+    Debug(Debug<'a>),
+}
+
+/// What is carried out at once.
+#[derive(Debug, Drop)]
 pub enum Order<'a> {
     /// To run a program and report what became of it.
     Run(Run<'a>),
@@ -61,6 +70,19 @@ pub struct Run<'a> {
     pub schedule: Option<&'a str>,
     /// The words of memory to show at the end.
     pub words: Vec<Word<'a>>,
+}
+
+/// A program that is to be played by hand, and the machine that it begins in.
+#[derive(Clone, Copy, Debug)]
+pub struct Debug<'a> {
+    /// The path of the program's file.
+    pub file: &'a str,
+    /// How many harts run it. No count is refused here.
+    pub harts: u32,
+    /// How many bytes of memory they share. No size is refused here.
+    pub memory: u32,
+    /// The cache that each hart has.
+    pub cache: Cache,
 }
 
 /// How large a hart's cache is.

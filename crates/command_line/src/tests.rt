@@ -1,5 +1,5 @@
 //! Command lines with the orders that they stand for.
-use super::{Cache, Order, OrderFault, Run, number, order};
+use super::{Cache, Debug, Order, OrderFault, Request, Run, number, parse};
 use std::alloc::Global;
 use std::test::Fail;
 
@@ -36,8 +36,8 @@ fn run_of(
     alloc: Global,
     words: &'static [&'static str],
 ) -> Result<Option<Run<'static>>, OrderFault<'static>> {
-    match order(alloc, words)? {
-        Order::Run(run) => Ok(Some(run)),
+    match parse(alloc, words)? {
+        Request::Order(Order::Run(run)) => Ok(Some(run)),
         _ => Ok(None),
     }
 }
@@ -102,9 +102,9 @@ fn reads_the_name_of_a_cache(rt: HostRuntime) -> Result<(), Fail> {
 
 // The paths that an order to list or to assemble names.
 fn paths(alloc: Global, words: &'static [&'static str]) -> Option<(&'static str, &'static str)> {
-    match order(alloc, words) {
-        Ok(Order::Dis { file }) => Some((file, "")),
-        Ok(Order::Asm { source, target }) => Some((source, target)),
+    match parse(alloc, words) {
+        Ok(Request::Order(Order::Dis { file })) => Some((file, "")),
+        Ok(Request::Order(Order::Asm { source, target })) => Some((source, target)),
         _ => None,
     }
 }
@@ -125,7 +125,7 @@ fn reads_the_other_subcommands(rt: HostRuntime) {
 
 // The text of a refusal.
 fn refusal(alloc: Global, words: &'static [&'static str]) -> Option<String> {
-    match order(alloc, words) {
+    match parse(alloc, words) {
         Err(OrderFault::Refused(text)) => Some(text),
         _ => None,
     }
@@ -201,7 +201,7 @@ fn refuses_as_clap_does(rt: HostRuntime) -> Result<(), Fail> {
 
 // The malformed value.
 fn bad_value(alloc: Global, words: &'static [&'static str]) -> Option<&'static str> {
-    match order(alloc, words) {
+    match parse(alloc, words) {
         Err(OrderFault::Value(value)) => Some(value),
         _ => None,
     }
@@ -239,9 +239,9 @@ fn names_the_first_bad_value(rt: HostRuntime) {
 
 // Whether the words give an order with so many words, or memory ran out.
 fn gives(alloc: Global, words: &'static [&'static str], count: usize) -> bool {
-    match order(alloc, words) {
-        Ok(Order::Run(run)) => run.words.len() == count,
-        Ok(_order) => false,
+    match parse(alloc, words) {
+        Ok(Request::Order(Order::Run(run))) => run.words.len() == count,
+        Ok(_request) => false,
         Err(fault) => match fault {
             OrderFault::NoMemory => true,
             OrderFault::Value(_value) => false,
@@ -252,9 +252,9 @@ fn gives(alloc: Global, words: &'static [&'static str], count: usize) -> bool {
 
 // Whether the words ask to assemble this source into this target, or memory ran out.
 fn assembles(alloc: Global, words: &'static [&'static str], from: &str, to: &str) -> bool {
-    match order(alloc, words) {
-        Ok(Order::Asm { source, target }) => source == from && target == to,
-        Ok(_order) => false,
+    match parse(alloc, words) {
+        Ok(Request::Order(Order::Asm { source, target })) => source == from && target == to,
+        Ok(_request) => false,
         Err(fault) => match fault {
             OrderFault::NoMemory => true,
             OrderFault::Value(_value) => false,
@@ -266,8 +266,8 @@ fn assembles(alloc: Global, words: &'static [&'static str], from: &str, to: &str
 // Whether the words have this bad value, or clap refuses them with this in its text, or memory ran
 // out.
 fn fails(alloc: Global, words: &'static [&'static str], part: &str) -> bool {
-    match order(alloc, words) {
-        Ok(_order) => false,
+    match parse(alloc, words) {
+        Ok(_request) => false,
         Err(fault) => match fault {
             OrderFault::NoMemory => true,
             OrderFault::Value(value) => value == part,

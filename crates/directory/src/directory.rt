@@ -83,6 +83,14 @@ impl Directory {
         self.entries.len()
     }
 
+    /// The entries that are kept, by the numbers of their blocks.
+    pub fn kept(&self) -> &BTreeMap<u32, DirEntry>
+        ensures entries { result.now.entries ≡ self.now.kept }
+        ensures exact { (b : ℕ) → IsSome (kept_at self.now b) ↔ (entry_at self.now b ≢ first_entry) }
+    {
+        &self.entries
+    }
+
     /// How many harts the machine has.
     pub fn harts(&self) -> usize
         ensures value { result ≡ self.now.harts }

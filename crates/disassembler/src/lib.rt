@@ -10,6 +10,6 @@ mod shapes;
 mod window;
 
 pub use laws::texts_differ;
-pub use lister::listing;
+pub use lister::{listing, put_line};
 pub use names::register as register_name;
 pub use printer::text;

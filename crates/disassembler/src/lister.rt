@@ -74,7 +74,8 @@ fn put_word<S: Sink>(addr: Addr, word: Option<u32>, out: &mut S) -> Result<(), S
     }
 }
 
-fn put_line<S: Sink>(addr: Addr, word: u32, out: &mut S) -> Result<(), SinkFault>
+/// Puts the line of a word at an address.
+pub fn put_line<S: Sink>(addr: Addr, word: u32, out: &mut S) -> Result<(), SinkFault>
     ensures { Puts (S.taken out.old) (S.taken out.new) (S.failed out.old) (S.failed out.new) (line addr word) result }
 {
     let text = text(word);

@@ -2,7 +2,9 @@
 //! gate compares that with what is expected.
 #![tactic(auto)]
 
+use console::Typed;
 use simulate::answer;
+use std::io::Read;
 use std::rt::Files;
 use std::{fs, io};
 use words::Counted;
@@ -17,14 +19,22 @@ fn main(rt: HostRuntime) -> io::Result<()> {
     Ok(())
 }
 
-/// The status of a command whose words are parted by one space. What it prints goes to standard output, its error texts too.
+/// The status of a command whose words are parted by one space. Behind ` < ` stands the file that it reads from. What it prints goes to standard output, its error texts too.
 fn status_of<R: Files + AllocGlobal + Print>(rt: &R, command: &str) -> io::Result<u8> {
+    let (command, typed) = match command.split_once(" < ") {
+        Some((command, path)) => (command, fs::read(rt, path)?),
+        None => (command, Vec::new(rt.alloc())),
+    };
     let words = command.split(' ').collect::<Vec<&str>>(rt.alloc())?;
+    let mut input = Typed {
+        bytes: typed.bytes(),
+        failed: 0,
+    };
     let mut error = Counted {
         writer: io::writer(rt),
         failed: 0,
     };
-    let status = answer(rt, &words, io::writer(rt), &mut error);
+    let status = answer(rt, &words, &mut input, "", io::writer(rt), &mut error);
     let Counted {
         writer: _,
         failed: _,

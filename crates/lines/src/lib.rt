@@ -23,11 +23,9 @@ mod entries;
 mod messages;
 mod parts;
 mod registers;
-#[cfg(test)]
-mod tests;
 
 pub use blocks::{cached_text, directory_text, put_cached, put_directory, put_word};
 pub use entries::put_entry;
 pub use messages::{message_text, put_message};
-pub use parts::stamp_text;
+pub use parts::{first_byte, hart_text, stamp_text};
 pub use registers::{put_registers, status_text};

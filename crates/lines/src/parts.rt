@@ -11,7 +11,7 @@ use texts::hexadecimal;
 use words::{BLOCK_BYTES, BlockNo, HARTS, HartId, HartSet, LineState, Stamp};
 
 /// A hart's number.
-pub(crate) fn hart_text(hart: HartId) -> ArrayString<3>
+pub fn hart_text(hart: HartId) -> ArrayString<3>
     ensures { result.bytes ≡ decimal hart }
 {
     let mut digits = Buffer::new();
@@ -21,7 +21,7 @@ pub(crate) fn hart_text(hart: HartId) -> ArrayString<3>
 }
 
 /// The digits of the address of a block's first byte.
-pub(crate) fn first_byte(block: BlockNo) -> [u8; 8]
+pub fn first_byte(block: BlockNo) -> [u8; 8]
     ensures digits { result ≡ hexadecimal (block_bytes * block) }
     ensures ascii { IsAscii result }
 {

@@ -11,6 +11,3 @@ pub use elf::read_elf;
 pub use fault::LoadFault;
 pub use program::Program;
 pub use writer::write_elf;
-
-#[cfg(test)]
-mod tests;

@@ -1,9 +1,10 @@
 //! The program `logtm`: it answers its command line.
 #![tactic(auto)]
 
+use console::{LineInput, Typed};
 use simulate::{Fault, answer};
 use std::env;
-use std::io::{ErrorKind, Write};
+use std::io::{ErrorKind, IsTerminal, Lock, Read, Write};
 use std::process::ExitCode;
 use std::rt::{Env, Files};
 use words::{Counted, Sink};
@@ -13,7 +14,16 @@ fn main(rt: HostRuntime) -> ExitCode {
         writer: rt.stderr(),
         failed: 0,
     };
-    let status = answer_all(&rt, rt.stdout(), &mut error);
+    let prompt = if rt.stdin().is_terminal() {
+        "(logtm) "
+    } else {
+        ""
+    };
+    let mut input = Typed {
+        bytes: rt.stdin().lock().bytes(),
+        failed: 0,
+    };
+    let status = answer_all(&rt, &mut input, prompt, rt.stdout(), &mut error);
     let Counted {
         writer: _,
         failed: _,
@@ -22,8 +32,10 @@ fn main(rt: HostRuntime) -> ExitCode {
 }
 
 /// Answers the command line, and gives the status that the program ends with.
-fn answer_all<R: Env + Files + AllocGlobal, W: Write + Drop, E: Sink>(
+fn answer_all<R: Env + Files + AllocGlobal, I: LineInput, W: Write + Drop, E: Sink>(
     rt: &R,
+    input: &mut I,
+    prompt: &str,
     out: W,
     error: &mut E,
 ) -> u8 {
@@ -33,7 +45,7 @@ fn answer_all<R: Env + Files + AllocGlobal, W: Write + Drop, E: Sink>(
     };
     let words = arguments.iter().map(|argument| argument.as_str());
     match words.collect::<Vec<&str>>(rt.alloc()) {
-        Ok(words) => answer(rt, &words, out, error),
+        Ok(words) => answer(rt, &words, input, prompt, out, error),
         Err(_) => Fault::NoMemory.tell(error),
     }
 }

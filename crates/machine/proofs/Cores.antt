@@ -28,7 +28,7 @@ use Rattle.machine.proofs.Steps.{of_none, row_does, row_rests}
 use Rattle.machine.proofs.Sound.{still_sound}
 
 -- victims that may be named for every block may be named for the one that is lacked
-may_lack : (g : Geometry) (h : Hart) (victim : ℕ → Option ℕ) (move : Move) → ((b : ℕ) → MayName g h.lines b (victim b)) → MayLack g h victim move
+pub may_lack : (g : Geometry) (h : Hart) (victim : ℕ → Option ℕ) (move : Move) → ((b : ℕ) → MayName g h.lines b (victim b)) → MayLack g h victim move
 may_lack g h victim Rests named = tt {0}
 may_lack g h victim (Makes t) named = tt {0}
 may_lack g h victim (Lacks kind b) named = λ e. named b

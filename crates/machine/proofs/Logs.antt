@@ -1,13 +1,11 @@
 -- The word of an undo log that an address below the end of memory has.
-use Rattle.std.proofs.Common.{◌≡◌, ℕ, ◌<◌, ◌≤◌, ◌+◌, ◌-◌, ◌*◌, ◌/◌, ◌%◌, ◌&&◌, ◌==◌, Bool, true, false, Option, Some, None, length, arith, refl, ap, sym, ◌∙◌, nat_le, nat_lt, cond, inl, inr, slice_get}
+use Rattle.std.proofs.Common.{◌≡◌, ℕ, ◌<◌, ◌≤◌, ◌+◌, ◌-◌, ◌*◌, ◌/◌, ◌%◌, true, false, Option, Some, None, length, arith, refl, ap, inl, inr, slice_get}
 use Rattle.std.specs.Prelude.{◌↔◌, IsSome, IfSome}
 use Rattle.std.proofs.lemmas.Bool.{cases_eq}
 use Rattle.std.proofs.lemmas.Bool.Decides.{nat_tests}
-use Rattle.words.specs.Limits.{log_bytes, block_bytes}
-use Rattle.undo_log.specs.Bytes.{word_at}
-use Rattle.flat.specs.Causes.{logs_from}
+use Rattle.words.specs.Limits.{log_bytes}
 use Rattle.machine.specs.States.{Seat, State, setting_of, IsSound}
-use Rattle.machine.specs.Reads.{is_in_logs, hart_of_log, logged_word, log_word}
+use Rattle.machine.specs.Reads.{is_in_logs, logged_word, log_word}
 
 -- an address lies in the log of the hart that it is said to be of
 within : (size blocks count i a base : ℕ) → size ≡ 32 * blocks → a + 1 ≤ size → i ≡ (size - (a + 1)) / 4096 → i < count → base ≡ size - 4096 * (i + 1) → a % 4 ≡ 0

@@ -4,3 +4,5 @@ pub mod Rows
 pub mod Runs
 pub mod Reads
 pub mod Turns
+pub mod Watch
+pub mod Lent

@@ -1,5 +1,5 @@
 -- What is read of the machine: what the protocol's machine has there.
-use Rattle.std.specs.Prelude.{ℕ, ◌≡◌, ◌+◌, ◌-◌, ◌*◌, ◌/◌, ◌%◌, Bool, ◌&&◌, ◌==◌, cond, nat_lt, nat_le, List, length, Option, Some, None, slice_get}
+use Rattle.std.specs.Prelude.{ℕ, ◌≡◌, ◌+◌, ◌-◌, ◌/◌, ◌%◌, Bool, ◌&&◌, ◌==◌, cond, nat_lt, nat_le, List, length, Option, Some, None, slice_get}
 use Rattle.std.specs.Option.{option_map, option_and_then}
 use Rattle.words.specs.declared.cause.Status.{Status}
 use Rattle.words.specs.Limits.{log_bytes}

@@ -4,6 +4,8 @@
 mod engine;
 mod flights;
 mod info;
+mod kept;
+mod lent;
 mod loaded;
 mod machine;
 mod mail;
@@ -16,6 +18,9 @@ mod start;
 mod step;
 mod turns;
 mod values;
+mod watch;
 
 pub use info::TxInfo;
 pub use machine::Machine;
+pub use play::hart_after;
+pub use watch::Turn;

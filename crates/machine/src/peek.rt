@@ -16,7 +16,7 @@ impl<const SETS: usize, const WAYS: usize> Machine<SETS, WAYS> {
     ghost use Rattle.machine.specs.States.{shown, geometry};
 
     /// Whether a word lies at an address: at a multiple of 4, below the undo logs.
-    fn is_readable(&self, addr: Addr) -> bool
+    pub fn is_readable(&self, addr: Addr) -> bool
         ensures { result ≡ is_readable (shown SETS self.now).setting addr }
     {
         let address = addr.index();

@@ -6,7 +6,7 @@ ghost use Rattle.protocol.specs.Directory.{directory_row};
 ghost use Rattle.protocol.specs.Machine.{Machine as MachineState};
 ghost use Rattle.directory.specs.Blocks.{entry_at};
 ghost use Rattle.machine.specs.States.{hart_at};
-ghost use Rattle.machine.specs.Turns.{AllHeld, IsOldestFree, NoneRuns, NoneFresh, IsFirstFresh, IsHartsTurn, IsNextTurn};
+ghost use Rattle.machine.specs.Turns.{AllHeld, IsOldestFree, NoneRuns, NoneFresh, IsFirstFresh, IsHartsTurn, IsNextTurn, IsOwed};
 
 use crate::machine::Machine;
 use crate::seat::Seat;
@@ -15,7 +15,7 @@ use network::Net;
 use words::{HartId, Message, Status, Step};
 
 /// Whether the directory holds a message now.
-fn is_held(directory: &Directory, message: &Message) -> bool
+pub(crate) fn is_held(directory: &Directory, message: &Message) -> bool
     ensures { (n : ℕ) (words : BlockWords) →
         result ≡ is_none (directory_row n (shown_message message.now) (entry_at directory.now (block_of (shown_message message.now))) words) }
 {
@@ -55,7 +55,7 @@ pub(crate) fn none_is_fresh<const SETS: usize, const WAYS: usize>(
 }
 
 /// The lowest running hart from one number up to another.
-fn lowest_running<const SETS: usize, const WAYS: usize>(
+pub(crate) fn lowest_running<const SETS: usize, const WAYS: usize>(
     seats: &[Seat<SETS, WAYS>],
     from: usize,
     to: usize,
@@ -119,5 +119,19 @@ impl<const SETS: usize, const WAYS: usize> Machine<SETS, WAYS> {
             return Some(Step::Deliver(key));
         }
         harts_turn(&self.seats, self.directory.harts(), after)
+    }
+
+    /// What is owed on a visit to a hart: the arrival of the oldest message that isn't held, or else the hart's step, if it is fresh. `None`
+    /// where nothing is.
+    pub fn owed(&self, id: HartId) -> Option<Step>
+        ensures { IsOwed (shown SETS self.now) self.now.flights id result }
+    {
+        if let Some(key) = oldest_free(&self.directory, &self.net) {
+            return Some(Step::Deliver(key));
+        }
+        if self.fresh(id) {
+            return Some(Step::Core(id));
+        }
+        None
     }
 }

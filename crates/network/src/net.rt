@@ -47,6 +47,13 @@ impl Net {
         }
     }
 
+    /// The number that the next message gets.
+    pub fn sent(&self) -> u64
+        ensures { result ≡ self.now.next }
+    {
+        self.next
+    }
+
     /// How many messages can be sent with no further memory.
     pub fn room(&self) -> usize
         ensures { result ≡ self.now.room }
@@ -110,6 +117,16 @@ impl Net {
     {
         match self.slab.get(key) {
             Some(flight) => Some(&flight.message),
+            None => None,
+        }
+    }
+
+    /// The message under a key, with its number.
+    pub fn flight(&self, key: usize) -> Option<Flight>
+        ensures { result ≡ flight_at self.now key }
+    {
+        match self.slab.get(key) {
+            Some(flight) => Some(*flight),
             None => None,
         }
     }

@@ -24,7 +24,7 @@ run_append : (f h k : Flat) (es fs : List Entry) → IsRun f es h → IsRun h fs
 run_append f h k [] fs run later = subst (λ m. IsRun m fs k) run later
 run_append f h k (e ∷ es) fs (m, first, rest) later = (m, first, run_append m h k es fs rest later)
 
-carry_both : (g : Geometry) (v u w : State) (es fs : List Entry) → CarryAll g v es u → CarryAll g u fs w → CarryAll g v (es ++ fs) w
+pub carry_both : (g : Geometry) (v u w : State) (es fs : List Entry) → CarryAll g v es u → CarryAll g u fs w → CarryAll g v (es ++ fs) w
 carry_both g v u w es fs first later = λ f b.
     let there = first f b in
     let on = later there.0 there.2 in
@@ -35,7 +35,7 @@ run_one : (f h : Flat) (e : Option Entry) → CarriesSome f e h → IsRun f (opt
 run_one f h None carries = carries
 run_one f h (Some e) carries = (h, carries, refl)
 
-carry_made : (g : Geometry) (v w : State) (step : Option Step) (e : Option Entry) → Makes g v step e w → CarryAll g v (option_to_list e) w
+pub carry_made : (g : Geometry) (v w : State) (step : Option Step) (e : Option Entry) → Makes g v step e w → CarryAll g v (option_to_list e) w
 carry_made g v w None e (none, same) = λ f b. (f, subst (λ (o : Option Entry). IsRun f (option_to_list o) f) (sym none) refl, subst (λ m. Belongs g f (shown g.sets m)) (sym same) b)
 carry_made g v w (Some s) e (made, numbers) = λ f b. let on = belongs_next g f (shown g.sets v) (shown g.sets w) s e b made in (on.0, run_one f on.0 e on.1, on.2)
 
@@ -63,7 +63,7 @@ followed_more g all k first v u w after c step e inside is before chosen made = 
 }
 
 -- no further step
-rest_idle : (g : Geometry) (cs : List Choice) (w : State) (after : ℕ) → Follows g cs 0 w after [] w
+pub rest_idle : (g : Geometry) (cs : List Choice) (w : State) (after : ℕ) → Follows g cs 0 w after [] w
 rest_idle g [] w after = (refl, refl)
 rest_idle g (c ∷ cs) w after = (refl, refl)
 

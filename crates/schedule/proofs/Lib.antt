@@ -1,4 +1,4 @@
 mod Words
 mod Reading
 mod Finding
-mod Following
+pub mod Following

@@ -10,7 +10,7 @@ mod step;
 pub use choices::{Choice, Name, Sort};
 pub use lines::{ScheduleFault, read};
 pub use playing::follow;
-pub use spelling::choice;
+pub use spelling::{choice, one_word, sort_of, split, three_words, two_words};
 pub use step::name_of;
 
 #[cfg(test)]

@@ -2,24 +2,13 @@ ghost use Rattle.std.specs.Prelude.{ℕ, ◌≡◌, ◌<◌, Option, IfOk, OnOk,
 ghost use Rattle.words.specs.declared.entry.Entry.{Entry};
 ghost use Rattle.words.specs.declared.entry.Step.{Step as StepValue};
 ghost use Rattle.machine.specs.States.{geometry};
-ghost use Rattle.machine.specs.Turns.{hart_after};
 ghost use Rattle.schedule.specs.Steps.{IsStepOf};
 ghost use Rattle.schedule.specs.Follows.{Makes, Plays, last_after};
 
 use crate::choices::Choice;
-use machine::Machine;
+use machine::{Machine, hart_after};
 use std::alloc::AllocError;
-use words::{HartId, Step};
-
-/// The hart of the last core step after a step.
-fn hart_after(step: &Step, last: HartId) -> HartId
-    ensures { result ≡ hart_after step.now last }
-{
-    match step {
-        Step::Core(hart) => *hart,
-        Step::Evict(..) | Step::Deliver(_) => last,
-    }
-}
+use words::HartId;
 
 /// Makes the step that is chosen on a machine whose last core step was a hart's, enabled or not. It answers whose the last core step was then.
 fn make<const SETS: usize, const WAYS: usize>(

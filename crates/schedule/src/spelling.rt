@@ -6,14 +6,14 @@ use command_line::number;
 use words::{Addr, BlockNo, HartId};
 
 /// The first word of a text, and the text of the others. `None` where it is the only one.
-fn split(text: &str) -> Option<(&str, &str)>
+pub fn split(text: &str) -> Option<(&str, &str)>
     ensures { MatchOption result (spec.words_of text.now ≡ text.now ∷ []) (λ x. spec.words_of text.now ≡ x.0.now ∷ spec.words_of x.1.now) }
 {
     text.split_once(' ')
 }
 
 /// The one word of a text.
-fn one_word(text: &str) -> Option<&str>
+pub fn one_word(text: &str) -> Option<&str>
     ensures { MatchOption result (length (spec.words_of text.now) ≢ 1) (λ x. spec.words_of text.now ≡ x.now ∷ []) }
 {
     match split(text) {
@@ -23,7 +23,7 @@ fn one_word(text: &str) -> Option<&str>
 }
 
 /// The two words of a text.
-fn two_words(text: &str) -> Option<(&str, &str)>
+pub fn two_words(text: &str) -> Option<(&str, &str)>
     ensures { MatchOption result (length (spec.words_of text.now) ≢ 2) (λ x. spec.words_of text.now ≡ x.0.now ∷ x.1.now ∷ []) }
 {
     let (first, rest) = split(text)?;
@@ -31,7 +31,7 @@ fn two_words(text: &str) -> Option<(&str, &str)>
 }
 
 /// The three words of a text.
-fn three_words(text: &str) -> Option<(&str, &str, &str)>
+pub fn three_words(text: &str) -> Option<(&str, &str, &str)>
     ensures { MatchOption result (length (spec.words_of text.now) ≢ 3) (λ x. spec.words_of text.now ≡ x.0.now ∷ x.1.now ∷ x.2.now ∷ []) }
 {
     let (first, rest) = split(text)?;
@@ -39,7 +39,8 @@ fn three_words(text: &str) -> Option<(&str, &str, &str)>
     Some((first, second, third))
 }
 
-fn sort(word: &str) -> Option<Sort>
+/// The sort that a word names.
+pub fn sort_of(word: &str) -> Option<Sort>
     ensures { result ≡ spec.sort_of word.now }
 {
     match word {
@@ -91,7 +92,7 @@ fn deliver(words: &str) -> Option<Choice>
 {
     let (sort_word, hart_word, place) = three_words(words)?;
     Some(Choice::Deliver(Name {
-        sort: sort(sort_word)?,
+        sort: sort_of(sort_word)?,
         hart: hart(hart_word)?,
         block: block(place)?,
     }))

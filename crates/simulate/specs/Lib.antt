@@ -3,6 +3,7 @@ pub mod Reports
 pub mod Quotes
 pub mod Faults
 pub mod Sources
+pub mod Debugging
 pub mod Schedules
 pub mod Statuses
 pub mod Runs

@@ -102,7 +102,7 @@ impl<'a> Fault<'a> {
     }
 }
 
-fn put_line<S: Sink>(sink: &mut S, what: &[u8], name: &str) -> Result<(), SinkFault>
+pub(crate) fn put_line<S: Sink>(sink: &mut S, what: &[u8], name: &str) -> Result<(), SinkFault>
     ensures { Puts (S.taken sink.old) (S.taken sink.new) (S.failed sink.old) (S.failed sink.new) (line what.now name.now) result }
 {
     put_all(sink, &[b"logtm: ", what, name.as_bytes(), b"\n"])

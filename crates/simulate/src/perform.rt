@@ -183,7 +183,7 @@ fn run_on<'a, const SETS: usize, const WAYS: usize, S: Sink>(
 }
 
 /// The machine that the program in a file begins in.
-fn boot<'a, const SETS: usize, const WAYS: usize>(
+pub(crate) fn boot<'a, const SETS: usize, const WAYS: usize>(
     alloc: Global,
     path: &str,
     file: &'a [u8],

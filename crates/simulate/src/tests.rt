@@ -2,12 +2,20 @@
 mod schedules;
 
 use crate::perform::perform;
-use command_line::order;
+use command_line::{Order, Request, parse};
 use elf_samples::{Breaking, COUNTS, EXIT, elf_file};
 use std::alloc::Global;
 use std::process::Abort;
 use std::test::Fail;
 use words::Taken;
+
+/// What the words ask to be carried out at once.
+fn order_of<'a>(alloc: Global, words: &'a [&'a str]) -> Option<Order<'a>> {
+    match parse(alloc, words) {
+        Ok(Request::Order(order)) => Some(order),
+        _ => None,
+    }
+}
 
 fn taken(alloc: Global) -> Taken {
     Taken {
@@ -40,7 +48,7 @@ fn check_by(
 ) -> Result<(), Fail> {
     let mut given = taken(rt.alloc());
     let mut told = taken(rt.alloc());
-    let order = order(rt.alloc(), words).ok().ok_or("an order")?;
+    let order = order_of(rt.alloc(), words).ok_or("an order")?;
     let outcome = perform(rt.alloc(), &order, file, schedule, &mut given, &mut told);
     assert_eq!(rt; outcome.status, status, "{out}{error}");
     assert_eq!(rt; given.bytes.as_slice(), out.as_bytes());
@@ -228,8 +236,8 @@ fn lists_words(rt: HostRuntime) -> Result<(), Fail> {
 
 #[test]
 fn assembles(rt: HostRuntime) -> Result<(), Fail> {
-    let order = order(rt.alloc(), &["logtm", "asm", "f.s", "f"]);
-    let order = order.ok().ok_or("an order")?;
+    let words = ["logtm", "asm", "f.s", "f"];
+    let order = order_of(rt.alloc(), &words).ok_or("an order")?;
     let source = b"li a7, 93\r\n\tli a0, 0 # status\n\nend: ecall";
     let mut out = taken(rt.alloc());
     let mut error = taken(rt.alloc());
@@ -434,7 +442,7 @@ const REPORT: &str =
 fn a_failed_put_cuts_the_report(rt: HostRuntime) -> Result<(), Fail> {
     let file = elf_file(rt.alloc(), &PRINTS)?;
     let words = ["logtm", "run", "f", "--harts=2", "0x1000"];
-    let order = order(rt.alloc(), &words).ok().ok_or("an order")?;
+    let order = order_of(rt.alloc(), &words).ok_or("an order")?;
     let mut whole = false;
     let mut longest = 0;
     for left in 0..100 {
@@ -464,7 +472,7 @@ fn a_failed_put_cuts_the_report(rt: HostRuntime) -> Result<(), Fail> {
 #[test]
 fn a_fault_that_is_not_told_stays(rt: HostRuntime) -> Result<(), Fail> {
     let words = ["logtm", "run", "f"];
-    let order = order(rt.alloc(), &words).ok().ok_or("an order")?;
+    let order = order_of(rt.alloc(), &words).ok_or("an order")?;
     for left in 0..5 {
         let mut error = Breaking::new(rt.alloc(), left);
         let mut out = taken(rt.alloc());
@@ -484,7 +492,7 @@ fn runs_or_wants_memory(rt: HostRuntime) -> Result<(), Fail> {
         return Ok(());
     };
     let words = ["logtm", "run", "f", "--harts=2", "0x1000"];
-    let Ok(order) = order(rt.alloc(), &words) else {
+    let Some(order) = order_of(rt.alloc(), &words) else {
         return Ok(());
     };
     // Sinks with all the room that they need, which take no memory later.

@@ -10,8 +10,6 @@ mod executor;
 mod instr;
 mod laws;
 mod slot;
-#[cfg(test)]
-mod tests;
 mod text;
 
 pub use alu_unit::finish_amo;

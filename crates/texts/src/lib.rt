@@ -4,8 +4,6 @@
 mod characters;
 mod numerals;
 mod put;
-#[cfg(test)]
-mod tests;
 
 pub use characters::ascii;
 pub use numerals::hexadecimal;

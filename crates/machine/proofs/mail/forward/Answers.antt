@@ -3,7 +3,6 @@ use Rattle.words.specs.Harts.{names}
 use Rattle.protocol.specs.Messages.{Forward}
 use Rattle.protocol.specs.Directory.{forwards}
 use Rattle.protocol.specs.Network.{Sends}
-use Rattle.network.specs.declared.net.Flight.{Flight}
 use Rattle.directory.proofs.Forwards.{forwards-more, forwards-same}
 use Rattle.machine.specs.Mail.{in_flight}
 use Rattle.machine.proofs.Sending.{IsSent, sends_on, sends_one}

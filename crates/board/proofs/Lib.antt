@@ -1,0 +1,3 @@
+mod Replays
+mod Locals
+mod Payments

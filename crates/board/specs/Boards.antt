@@ -1,0 +1,85 @@
+-- What contracts see of a board: a machine, and the steps that have led to it.
+use Rattle.std.specs.Prelude.{ℕ, ◌≡◌, List, [], ◌∷◌, ◌++◌, length, replicate, option_to_list, Option, Some, None}
+use Rattle.words.specs.declared.cause.Status.TheVariants.{Running}
+use Rattle.words.specs.declared.entry.Entry.{Entry}
+use Rattle.words.specs.declared.entry.Step.{Step}
+use Rattle.words.specs.declared.entry.Step.TheVariants.{Core}
+use Rattle.loader.specs.Programs.{Program}
+use Rattle.flat.specs.State.{Flat}
+use Rattle.flat.specs.Boots.{boot_fault, booted}
+use Rattle.protocol.specs.Caches.{Geometry}
+use Rattle.protocol.specs.Start.{start}
+use Rattle.protocol.specs.Machine.{Steps, Runs}
+use Rattle.hart.specs.Parts.{Parts}
+use Rattle.machine.specs.States.{State, shown}
+use Rattle.machine.specs.Lent.{hart_if, with_hart}
+use Rattle.board.specs.Leases.{Lent}
+use Rattle.board.specs.declared.refusal.Refusal.{Refusal}
+use Rattle.board.specs.declared.refusal.Refusal.TheVariants.{Stale, NoMemory}
+
+-- a program with a number of harts and of bytes of memory, the machine, the steps that were made since the boot, and their entries
+pub record Recorded : Type 0 where
+  pub program : Program
+  pub harts : ℕ
+  pub size : ℕ
+  pub machine : State
+  pub history : List Step
+  pub entries : List Entry
+
+-- the flat state that a program with so many harts and bytes of memory begins in
+abbrev pub first_flat : Program → ℕ → ℕ → Flat
+first_flat p n size = booted p.segments p.entry n size
+
+-- a program that can be booted with so many harts and bytes of memory: from its start the steps in order, each one of the protocol's, can
+-- lead to this machine, with these entries
+pub record IsReplay (g : Geometry) (p : Program) (n size : ℕ) (steps : List Step) (m : State) (es : List Entry) : Type 0 where
+  pub boots : boot_fault p.segments n size ≡ None
+  pub runs : Runs g (start (first_flat p n size).setting p.entry) steps es (shown g.sets m)
+
+-- the board that a program begins with
+pub record IsFirst (g : Geometry) (p : Program) (n size : ℕ) (b : Recorded) : Type 0 where
+  pub boots : boot_fault p.segments n size ≡ None
+  pub machine : shown g.sets b.machine ≡ start (first_flat p n size).setting p.entry
+  pub rest : b ≡ record { program = p; harts = n; size = size; machine = b.machine; history = []; entries = [] }
+
+-- Leases
+
+-- hart i is one that runs
+abbrev pub IsRunning : State → ℕ → Type 0
+IsRunning m i = (h : Parts) × (hart_if m i ≡ Some h) × (h.status ≡ Running)
+
+-- hart i as it is, lent with no step made
+pub record IsLent (b : Recorded) (i : ℕ) (l : Lent) : Type 0 where
+  pub hart : hart_if b.machine i ≡ Some l.before
+  pub runs : l.before.status ≡ Running
+  pub rest : l ≡ record { program = b.program; harts = b.harts; size = b.size; id = i; before = l.before; after = l.before; entries = [] }
+
+-- a lease of this program, number of harts and size of memory, whose hart is still as it was lent, in all that it keeps
+pub record FitsIn (p : Program) (n bytes : ℕ) (m : State) (l : Lent) : Type 0 where
+  pub program : l.program ≡ p
+  pub harts : l.harts ≡ n
+  pub size : l.size ≡ bytes
+  pub hart : hart_if m l.id ≡ Some l.before
+
+abbrev pub Fits : Recorded → Lent → Type 0
+Fits b l = FitsIn b.program b.harts b.size b.machine l
+
+-- the board when a lease is settled: the hart is what it has become, and its steps and entries stand behind those before
+abbrev pub settled : Recorded → Lent → Recorded
+settled b l = record b {
+  machine = with_hart b.machine l.id l.after;
+  history = b.history ++ replicate (length l.entries) (Core l.id);
+  entries = b.entries ++ l.entries;
+}
+
+-- a lease is stale if it doesn't fit; only one that fits is refused for want of memory
+abbrev pub IsRefusedFor : Recorded → Lent → Refusal → Type 0
+IsRefusedFor b l Stale = Fits b l → ⊥
+IsRefusedFor b l NoMemory = Fits b l
+
+-- Steps
+
+-- a step is made, enabled or not: it stands behind those before, and its entry, if it gives one, behind theirs
+pub record IsTurn (g : Geometry) (b : Recorded) (step : Step) (e : Option Entry) (c : Recorded) : Type 0 where
+  pub made : Steps g (shown g.sets b.machine) step e (shown g.sets c.machine)
+  pub rest : c ≡ record b { machine = c.machine; history = b.history ++ step ∷ []; entries = b.entries ++ option_to_list e }

@@ -1,0 +1,3 @@
+pub mod Leases
+pub mod Boards
+pub mod Visits

@@ -1,0 +1,31 @@
+-- What `help` shows: the words of each command, and what it does.
+use Rattle.std.specs.Prelude.{ℕ, List, [], ◌∷◌, codes}
+use Rattle.std.specs.List.{concat}
+
+abbrev pub help_text : List ℕ
+help_text = concat (
+    codes "Words are parted by one space. Numbers are decimal, or hexadecimal behind 0x.\n" ∷
+    codes "H is a hart's number from 0, A the address of a word, B that of a word of text, N a number of steps.\n" ∷
+    codes "SORT is get, put, done, grant, forward, putack, ack or nack.\n" ∷
+    codes "step              takes turns until a hart does something, and shows it\n" ∷
+    codes "run N             takes turns until no hart runs, or one is at a breakpoint; N at most\n" ∷
+    codes "run               the same, 1000000 turns at most\n" ∷
+    codes "break B           sets a breakpoint, or clears it\n" ∷
+    codes "core H            makes one step of hart H's core\n" ∷
+    codes "evict H A         hart H gives up its line of A's block\n" ∷
+    codes "deliver SORT H A  the message of this sort from hart H, or to it, about A's block arrives\n" ∷
+    codes "regs H            hart H's registers, pc and status\n" ∷
+    codes "word A            the word as it is if all transactions abort\n" ∷
+    codes "raw A             the word as it stands in place\n" ∷
+    codes "view H A          the word as hart H sees it\n" ∷
+    codes "line H A          hart H's line of A's block: its state and marks\n" ∷
+    codes "dir A             the directory's entry of A's block\n" ∷
+    codes "dirs              all entries of the directory\n" ∷
+    codes "tx H              hart H's transaction\n" ∷
+    codes "log A             the word of an undo log\n" ∷
+    codes "dis B             the word of text as an instruction\n" ∷
+    codes "messages          the messages in flight, the oldest first\n" ∷
+    codes "harts             each hart's pc and status\n" ∷
+    codes "help              these lines\n" ∷
+    codes "quit              ends\n" ∷
+    codes "#                 begins a comment\n" ∷ [])

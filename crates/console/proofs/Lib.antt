@@ -1,0 +1,3 @@
+mod Keeping
+mod Ending
+mod Exchanging

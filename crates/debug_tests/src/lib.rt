@@ -1,0 +1,5 @@
+//! The debugger's commands on small programs.
+#![tactic(auto)]
+
+#[cfg(test)]
+mod tests;

@@ -1,0 +1,9 @@
+use Rattle.std.proofs.Common.{◌≡◌, ◌∙◌, ap, decimal}
+use Rattle.texts.specs.Numerals.{hexadecimal}
+use Rattle.debugger.proofs.tell.put_broke.Goals as goal
+
+pub returns : goal.returns
+returns g c =
+    let hart : c.as_bytes.result.now ≡ decimal c.args.hart = c.as_bytes.ensures.value ∙ c.as_str.ensures.value ∙ c.hart_text.ensures in
+    let place : c.hexadecimal.result ≡ hexadecimal c.args.pc = c.hexadecimal.ensures.digits ∙ ap hexadecimal c.value.ensures in
+    rw (← hart, ← place) c.put_all.ensures

@@ -1,0 +1,195 @@
+-- What commands do to a debugging session.
+use Rattle.std.specs.Prelude.{ℕ, ◌≡◌, ◌<◌, ◌≤◌, ◌⊎◌, ◌==◌, ◌&&◌, ◌/◌, ◌%◌, ◌++◌, zero, suc, Bool, true, false, List, [], ◌∷◌, Option, Some, None, cond, is_some, length, position}
+use Rattle.std.specs.Prelude.{remove}
+use Rattle.std.specs.Option.{option_map, option_and_then}
+use Rattle.words.specs.Limits.{block_bytes}
+use Rattle.words.specs.declared.entry.Entry.{Entry}
+use Rattle.words.specs.declared.entry.Entry.TheVariants.{Retire, Abort, Trap, Refuse, Spill}
+use Rattle.words.specs.declared.entry.Step.{Step as MachineStep}
+use Rattle.table.specs.Program.{word_at}
+use Rattle.flat.specs.Reads.{is_readable}
+use Rattle.protocol.specs.Caches.{Geometry}
+use Rattle.protocol.specs.Machine.{Machine, Steps}
+use Rattle.machine.specs.Mail.{NumbersOn}
+use Rattle.machine.specs.Reads.{regs_if}
+use Rattle.machine.specs.States.{State, shown, setting_of}
+use Rattle.machine.specs.Turns.{TakesTurn, hart_after}
+use Rattle.machine.specs.Watch.{IsOver, IsEnabled}
+use Rattle.schedule.specs.Spelling.{name}
+use Rattle.schedule.specs.declared.choices.Choice.{Choice}
+use Rattle.schedule.specs.declared.choices.Choice.TheVariants as choice
+use Rattle.schedule.specs.Steps.{IsStepOf}
+use Rattle.commands.specs.declared.command.Command.{Command}
+use Rattle.commands.specs.declared.command.Command.TheVariants.{Step, Run, Break, Core, Evict, Deliver, Look, Comment, Quit}
+use Rattle.commands.specs.declared.fault.DebugFault.{DebugFault}
+use Rattle.commands.specs.declared.fault.DebugFault.TheVariants.{NoHart, Address, Stopped, Limit, NoMemory}
+use Rattle.debugger.specs.declared.report.Report.{Report}
+use Rattle.debugger.specs.declared.report.Report.TheVariants as told
+
+-- the machine; the hart whose core made the last step of a core; and the addresses with a breakpoint
+pub record Session : Type 0 where
+  pub machine : State
+  pub last : ℕ
+  pub breakpoints : List ℕ
+
+-- no hart runs in a session's machine
+abbrev pub IsIdle : ℕ → Session → Type 0
+IsIdle sets s = IsOver sets s.machine
+
+-- Turns
+
+-- one turn of the session
+abbrev pub Turns : Geometry → Session → Option Entry → Session → Type 0
+Turns g s e t = (step : MachineStep) × TakesTurn g s.machine s.last step e t.machine × (t.last ≡ hart_after step s.last) × (t.breakpoints ≡ s.breakpoints)
+
+-- so many turns, none with an entry
+abbrev pub Waits : Geometry → ℕ → Session → Session → Type 0
+Waits g zero s t = t ≡ s
+Waits g (suc n) s t = (u : Session) × Waits g n s u × Turns g u None t
+
+-- turns up to the first entry, fewer than so many before it
+abbrev pub StepsTo : Geometry → ℕ → Session → Entry → Session → Type 0
+StepsTo g most s e t = (n : ℕ) × (u : Session) × (n < most) × Waits g n s u × Turns g u (Some e) t
+
+-- Runs
+
+-- the hart that retired or aborted
+abbrev pub mover : Entry → Option ℕ
+mover (Retire i pc word write load store) = Some i
+mover (Abort i cause) = Some i
+mover (Trap i cause pc) = None
+mover (Refuse i requester block) = None
+mover (Spill i block) = None
+
+abbrev pub has_breakpoint : List ℕ → ℕ → Bool
+has_breakpoint breakpoints pc = is_some (position (λ b. b == pc) breakpoints)
+
+-- the pc of a hart, where it is one
+abbrev pub pc_if : Machine → ℕ → Option ℕ
+pc_if w i = option_map (λ r. r.1) (regs_if w i)
+
+-- the hart whose retirement or abort left its pc at a breakpoint, and that pc
+abbrev pub break_at : ℕ → Session → Option Entry → Option (ℕ × ℕ)
+break_at sets t e =
+    option_and_then (λ i. option_and_then (λ pc. cond (has_breakpoint t.breakpoints pc) (Some (i, pc)) None) (pc_if (shown sets t.machine) i)) (option_and_then mover e)
+
+-- a turn doesn't break a run off: it left no hart at a breakpoint, or none runs any more
+abbrev pub LetsOn : ℕ → Session → Option Entry → Type 0
+LetsOn sets t e = (break_at sets t e ≡ None) ⊎ IsIdle sets t
+
+-- so many turns of a run: before each a hart runs, and none breaks the run off
+abbrev pub RunsOn : Geometry → ℕ → Session → Session → Type 0
+RunsOn g zero s t = t ≡ s
+RunsOn g (suc n) s t = (u : Session) × (e : Option Entry) × RunsOn g n s u × (IsIdle g.sets u → ⊥) × Turns g u e t × LetsOn g.sets t e
+
+-- a run ends where no hart runs
+abbrev pub RunsOut : Geometry → ℕ → Session → Session → Type 0
+RunsOut g most s t = (n : ℕ) × (n ≤ most) × RunsOn g n s t × IsIdle g.sets t
+
+-- or after a turn that left a hart at a breakpoint
+abbrev pub RunsInto : Geometry → ℕ → Session → ℕ → ℕ → Session → Type 0
+RunsInto g most s i pc t =
+    (n : ℕ) × (u : Session) × (e : Option Entry) × (n < most) × RunsOn g n s u × (IsIdle g.sets u → ⊥) × Turns g u e t × (break_at g.sets t e ≡ Some (i, pc)) × (IsIdle g.sets t → ⊥)
+
+-- Breakpoints
+
+-- a word of text stands at an address, a multiple of 4
+abbrev pub is_text : State → ℕ → Bool
+is_text m b = (b % 4 == 0) && is_some (word_at m.program.segments b)
+
+-- the breakpoint at an address is cleared, where there is one
+abbrev pub Clears : Session → ℕ → Session → Type 0
+Clears s b t = (n : ℕ) × (position (λ a. a == b) s.breakpoints ≡ Some n) × (t ≡ record s { breakpoints = remove s.breakpoints n })
+
+-- or it is set, behind the others
+abbrev pub Sets : Session → ℕ → Session → Type 0
+Sets s b t = (has_breakpoint s.breakpoints b ≡ false) × (t ≡ record s { breakpoints = s.breakpoints ++ b ∷ [] })
+
+-- Steps by hand
+
+-- a step isn't enabled
+abbrev pub IsDisabled : Geometry → Session → Option MachineStep → Type 0
+IsDisabled g s None = Unit {0}
+IsDisabled g s (Some step) = IsEnabled g (shown g.sets s.machine) step false
+
+-- a step is enabled, and is made. A core's step makes its hart the last
+abbrev pub Makes : Geometry → Session → Option MachineStep → Option Entry → Session → Type 0
+Makes g s None e t = ⊥
+Makes g s (Some step) e t =
+    IsEnabled g (shown g.sets s.machine) step true × Steps g (shown g.sets s.machine) step e (shown g.sets t.machine)
+    × NumbersOn s.machine.flights s.machine.sent t.machine.flights t.machine.sent × (t.last ≡ hart_after step s.last) × (t.breakpoints ≡ s.breakpoints)
+
+-- what is told of a choice: the entry of its step; or the messages that it sent, from the number that the first of them got; or that there was nothing to do
+abbrev pub Chooses : Geometry → Session → Choice → Report → Session → Type 0
+Chooses g s c (told.Nothing) t = (step : Option MachineStep) × IsStepOf g.sets s.machine s.last c step × IsDisabled g s step × (t ≡ s)
+Chooses g s c (told.Entry e) t = (step : Option MachineStep) × IsStepOf g.sets s.machine s.last c step × Makes g s step (Some e) t
+Chooses g s c (told.Made number) t = (step : Option MachineStep) × IsStepOf g.sets s.machine s.last c step × Makes g s step None t × (number ≡ s.machine.sent)
+Chooses g s c other t = ⊥
+
+-- Commands
+
+-- a hart is there, and so is a word that can be shown
+abbrev pub IsWordFor : Session → ℕ → ℕ → Type 0
+IsWordFor s h a = (h < (setting_of s.machine).count) × (is_readable (setting_of s.machine) a ≡ true)
+
+-- why a command that isn't a look is refused: it names a hart that isn't there; else an address where no word can be shown or no text stands; or no hart runs
+abbrev pub IsNoHart : Session → ℕ → Type 0
+IsNoHart s h = (setting_of s.machine).count ≤ h
+
+abbrev pub IsNoWord : Session → ℕ → ℕ → Type 0
+IsNoWord s h a = (h < (setting_of s.machine).count) × (is_readable (setting_of s.machine) a ≡ false)
+
+abbrev pub IsDeedRefused : ℕ → Session → Command → DebugFault → Type 0
+IsDeedRefused sets s (Core h) NoHart = IsNoHart s h
+IsDeedRefused sets s (Evict h a) NoHart = IsNoHart s h
+IsDeedRefused sets s (Evict h a) Address = IsNoWord s h a
+IsDeedRefused sets s (Deliver sort h a) NoHart = IsNoHart s h
+IsDeedRefused sets s (Deliver sort h a) Address = IsNoWord s h a
+IsDeedRefused sets s (Break b) Address = is_text s.machine b ≡ false
+IsDeedRefused sets s Step Stopped = IsIdle sets s
+IsDeedRefused sets s other fault = ⊥
+
+-- how many turns `step` waits for an entry
+abbrev pub patience : ℕ
+patience = 1000000
+
+-- how many breakpoints there are at most
+abbrev pub most_breakpoints : ℕ
+most_breakpoints = 16
+
+-- a command ends at a limit: so many turns were made; or there is no room for a further breakpoint
+abbrev pub IsLimited : Geometry → Session → Command → Session → Type 0
+IsLimited g s Step t = (n : ℕ) × (n ≡ patience) × Waits g n s t
+IsLimited g s (Run n) t = RunsOn g n s t × (IsIdle g.sets t → ⊥)
+IsLimited g s (Break b) t = (is_text s.machine b ≡ true) × (has_breakpoint s.breakpoints b ≡ false) × (length s.breakpoints ≡ most_breakpoints) × (t ≡ s)
+IsLimited g s other t = ⊥
+
+-- a command ends for want of memory: some of its turns were made
+abbrev pub LacksMemory : Geometry → Session → Command → Session → Type 0
+LacksMemory g s Step t = (n : ℕ) × (n < patience) × Waits g n s t
+LacksMemory g s (Run n) t = (k : ℕ) × (k < n) × RunsOn g k s t
+LacksMemory g s (Core h) t = t ≡ s
+LacksMemory g s (Evict h a) t = t ≡ s
+LacksMemory g s (Deliver sort h a) t = t ≡ s
+LacksMemory g s other t = ⊥
+
+-- a command ends with a fault, before anything is told
+abbrev pub Fails : Geometry → Session → Command → DebugFault → Session → Type 0
+Fails g s command Limit t = IsLimited g s command t
+Fails g s command NoMemory t = LacksMemory g s command t
+Fails g s command fault t = IsDeedRefused g.sets s command fault × (t ≡ s)
+
+-- what a command does, and what it then has to tell. A look does nothing
+abbrev pub Does : Geometry → Session → Command → Report → Session → Type 0
+Does g s Step (told.Entry e) t = (IsIdle g.sets s → ⊥) × StepsTo g patience s e t
+Does g s (Run n) (told.Stopped) t = RunsOut g n s t
+Does g s (Run n) (told.Broke i pc) t = RunsInto g n s i pc t
+Does g s (Break b) (told.Set place) t = (place ≡ b) × (is_text s.machine b ≡ true) × Sets s b t
+Does g s (Break b) (told.Cleared place) t = (place ≡ b) × (is_text s.machine b ≡ true) × Clears s b t
+Does g s (Core h) report t = (h < (setting_of s.machine).count) × Chooses g s (choice.Core h) report t
+Does g s (Evict h a) report t = IsWordFor s h a × Chooses g s (choice.Evict h (a / block_bytes)) report t
+Does g s (Deliver sort h a) report t = IsWordFor s h a × Chooses g s (choice.Deliver (name sort h (a / block_bytes))) report t
+Does g s (Look l) (told.Silence) t = t ≡ s
+Does g s Comment (told.Silence) t = t ≡ s
+Does g s Quit (told.Silence) t = t ≡ s
+Does g s other report t = ⊥

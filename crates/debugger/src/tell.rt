@@ -1,0 +1,138 @@
+ghost use Rattle.std.specs.Prelude.{◌≡◌, ◌≤◌, ◌-◌, ◌+◌, ℕ, List, None, decimal};
+ghost use Rattle.std.specs.List.{slice_index_or, flat_map, range_with_len};
+ghost use Rattle.texts.specs.Puts.{Puts};
+ghost use Rattle.debugger.specs.Texts as spec;
+ghost use Rattle.debugger.specs.Texts.{IsTextOf};
+
+use crate::report::Report;
+use arrayvec::ArrayString;
+use itoa::Buffer;
+use lines::{message_text, put_entry};
+use machine::Machine;
+use network::Flight;
+use texts::{hexadecimal, put_all};
+use words::{Addr, HartId, Sink, SinkFault};
+
+/// Puts the line of a message, if there is one and it got this number when it was sent.
+fn put_if<S: Sink>(flight: Option<Flight>, number: u64, sink: &mut S) -> Result<(), SinkFault>
+    ensures { Puts (S.taken sink.old) (S.taken sink.new) (S.failed sink.old) (S.failed sink.new) (spec.line_if number flight) result }
+{
+    match flight {
+        Some(flight) if flight.number == number => put_sent(&flight, sink),
+        _ => Ok(()),
+    }
+}
+
+/// Puts the line of a message that was sent.
+fn put_sent<S: Sink>(flight: &Flight, sink: &mut S) -> Result<(), SinkFault>
+    ensures { Puts (S.taken sink.old) (S.taken sink.new) (S.failed sink.old) (S.failed sink.new) (spec.sent_line flight.now) result }
+{
+    put_all(
+        sink,
+        &[
+            b"sent ",
+            message_text(&flight.message).as_str().as_bytes(),
+            b"\n",
+        ],
+    )
+}
+
+/// Puts the lines of the messages that got a number, of those under the first so many keys.
+fn put_numbered<const SETS: usize, const WAYS: usize, S: Sink>(
+    machine: &Machine<SETS, WAYS>,
+    keys: usize,
+    number: u64,
+    sink: &mut S,
+) -> Result<(), SinkFault>
+    ensures { Puts (S.taken sink.old) (S.taken sink.new) (S.failed sink.old) (S.failed sink.new) (spec.numbered machine.now.flights keys number) result }
+{
+    for key in 0..keys {
+        put_if(machine.flight(key), number, sink)?;
+    }
+    Ok(())
+}
+
+/// Puts the lines of the messages that got the numbers from one on, so many, the oldest first.
+fn put_sent_from<const SETS: usize, const WAYS: usize, S: Sink>(
+    machine: &Machine<SETS, WAYS>,
+    keys: usize,
+    from: u64,
+    sink: &mut S,
+) -> Result<(), SinkFault>
+    ensures { Puts (S.taken sink.old) (S.taken sink.new) (S.failed sink.old) (S.failed sink.new) (spec.sent_lines machine.now.flights keys from machine.now.sent) result }
+{
+    let count = machine.sent().saturating_sub(from);
+    for sent in 0..count {
+        put_numbered(machine, keys, from + sent, sink)?;
+    }
+    Ok(())
+}
+
+/// Puts what is told of a step without an entry, whose messages got the numbers from one on.
+fn put_made<const SETS: usize, const WAYS: usize, S: Sink>(
+    machine: &Machine<SETS, WAYS>,
+    keys: usize,
+    from: u64,
+    sink: &mut S,
+) -> Result<(), SinkFault>
+    ensures { Puts (S.taken sink.old) (S.taken sink.new) (S.failed sink.old) (S.failed sink.new) (spec.made_text machine.now keys from) result }
+{
+    if machine.sent() == from {
+        sink.put(b"done\n")
+    } else {
+        put_sent_from(machine, keys, from, sink)
+    }
+}
+
+/// A hart's number.
+fn hart_text(hart: HartId) -> ArrayString<3>
+    ensures { result.bytes ≡ decimal hart }
+{
+    let mut digits = Buffer::new();
+    let mut text = ArrayString::new();
+    text.push_str(digits.format(hart.index() as u8));
+    text
+}
+
+/// Puts that a hart has come to a breakpoint.
+fn put_broke<S: Sink>(hart: HartId, pc: Addr, sink: &mut S) -> Result<(), SinkFault>
+    ensures { Puts (S.taken sink.old) (S.taken sink.new) (S.failed sink.old) (S.failed sink.new) (spec.broke_line hart pc) result }
+{
+    put_all(
+        sink,
+        &[
+            b"break hart ",
+            hart_text(hart).as_str().as_bytes(),
+            b" at 0x",
+            &hexadecimal(pc.value()),
+            b"\n",
+        ],
+    )
+}
+
+/// Puts a breakpoint, after the words for what became of it.
+fn put_place<S: Sink>(words: &[u8], place: Addr, sink: &mut S) -> Result<(), SinkFault>
+    ensures { Puts (S.taken sink.old) (S.taken sink.new) (S.failed sink.old) (S.failed sink.new) (spec.place_line words.now place) result }
+{
+    put_all(sink, &[words, &hexadecimal(place.value()), b"\n"])
+}
+
+/// Puts a report on a machine.
+pub(crate) fn put_report<const SETS: usize, const WAYS: usize, S: Sink>(
+    machine: &Machine<SETS, WAYS>,
+    report: &Report,
+    sink: &mut S,
+) -> Result<(), SinkFault>
+    ensures { (text : List ℕ) × IsTextOf machine.now report.now text × Puts (S.taken sink.old) (S.taken sink.new) (S.failed sink.old) (S.failed sink.new) text result }
+{
+    match *report {
+        Report::Entry(entry) => put_entry(&entry, sink),
+        Report::Stopped => sink.put(b"stopped\n"),
+        Report::Broke(hart, pc) => put_broke(hart, pc, sink),
+        Report::Set(place) => put_place(b"break set 0x", place, sink),
+        Report::Cleared(place) => put_place(b"break cleared 0x", place, sink),
+        Report::Nothing => sink.put(b"nothing\n"),
+        Report::Made(number) => put_made(machine, machine.keys(), number, sink),
+        Report::Silence => Ok(()),
+    }
+}

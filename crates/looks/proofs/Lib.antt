@@ -1,0 +1,4 @@
+mod Lists
+mod Reading
+mod Sent
+mod Showing

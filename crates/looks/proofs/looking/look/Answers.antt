@@ -1,0 +1,68 @@
+use Rattle.std.proofs.Common.{refl, ap, ◌∙◌}
+use Rattle.commands.specs.declared.command.Look.TheVariants.{Regs, Word, Raw, View, Line, Dir, Tx, Log, Dis}
+use Rattle.commands.specs.Manual.{help_text}
+use Rattle.machine.specs.States.{setting_of}
+use Rattle.looks.specs.Refusals.{hart_fault, word_fault, log_fault, text_fault}
+use Rattle.looks.specs.Looks.{told}
+use Rattle.looks.proofs.Showing.{shows-same, look-one, look-two}
+use Rattle.looks.proofs.looking.look.Goals as goal
+use Rattle.looks.proofs.looking.look.Goals.{in-Regs+in_ok-hart_of-in-Regs, in-Word+in_ok-word_at-in-Word, in-Raw+in_ok-word_at-in-Raw, in-View+in_ok-hart-in-View+in_ok-word_at-in-View, in-Line+in_ok-hart-in-Line+in_ok-word_at-in-Line, in-Dir+in_ok-word_at-in-Dir, in-Dirs, in-Tx+in_ok-hart_of-in-Tx, in-Log+in_ok-logged_at-in-Log, in-Dis+in_ok-text_at-in-Dis, in-Messages, in-Harts, in-Help}
+
+pub returns-clause-shown : goal.returns-clause-shown
+returns-clause-shown g c = λ fine. elim c.match-look.branch [
+  | in-Regs+in_ok-hart_of-in-Regs w ↦ rw w.sink-is (
+    w.put_regs-put.result,
+    shows-same (look-one Regs (hart_fault (setting_of c.args.machine.now) w.in-Regs.hart) w.in-Regs.hart _ _ _ w.in-Regs.is w.in_ok-hart_of-in-Regs.was w.hart_of.ensures) w.put_regs-put.ensures,
+    c.told.ensures ∙ ap told w.put-is,
+  )
+  | in-Word+in_ok-word_at-in-Word w ↦ rw w.sink-is (
+    w.put_peeked-put.result,
+    shows-same (look-one Word (word_fault (setting_of c.args.machine.now) w.in-Word.addr) w.in-Word.addr _ _ _ w.in-Word.is w.in_ok-word_at-in-Word.was w.word_at.ensures) w.put_peeked-put.ensures,
+    c.told.ensures ∙ ap told w.put-is,
+  )
+  | in-Raw+in_ok-word_at-in-Raw w ↦ rw w.sink-is (
+    w.put_raw-put.result,
+    shows-same (look-one Raw (word_fault (setting_of c.args.machine.now) w.in-Raw.addr) w.in-Raw.addr _ _ _ w.in-Raw.is w.in_ok-word_at-in-Raw.was w.word_at-in-Raw.ensures) w.put_raw-put.ensures,
+    c.told.ensures ∙ ap told w.put-is,
+  )
+  | in-View+in_ok-hart-in-View+in_ok-word_at-in-View w ↦ rw w.sink-is (
+    w.put_seen-put.result,
+    shows-same (look-two View (hart_fault (setting_of c.args.machine.now) w.in-View.hart) (word_fault (setting_of c.args.machine.now) w.in-View.addr) w.in-View.hart _ w.in-View.addr _ _ _ _
+        w.in-View.is w.in_ok-hart-in-View.was w.hart_of-in-View.ensures w.in_ok-word_at-in-View.was w.word_at-in-View.ensures) w.put_seen-put.ensures,
+    c.told.ensures ∙ ap told w.put-is,
+  )
+  | in-Line+in_ok-hart-in-Line+in_ok-word_at-in-Line w ↦ rw w.sink-is (
+    w.put_line-put.result,
+    shows-same (look-two Line (hart_fault (setting_of c.args.machine.now) w.in-Line.hart) (word_fault (setting_of c.args.machine.now) w.in-Line.addr) w.in-Line.hart _ w.in-Line.addr _ _ _ _
+        w.in-Line.is w.in_ok-hart-in-Line.was w.hart_of-in-Line.ensures w.in_ok-word_at-in-Line.was w.word_at-in-Line.ensures) w.put_line-put.ensures,
+    c.told.ensures ∙ ap told w.put-is,
+  )
+  | in-Dir+in_ok-word_at-in-Dir w ↦ rw w.sink-is (
+    w.put_entry-put.result,
+    shows-same (look-one Dir (word_fault (setting_of c.args.machine.now) w.in-Dir.addr) w.in-Dir.addr _ _ _ w.in-Dir.is w.in_ok-word_at-in-Dir.was w.word_at-in-Dir.ensures) w.put_entry-put.ensures,
+    c.told.ensures ∙ ap told w.put-is,
+  )
+  | in-Dirs w ↦ rw w.sink-is (w.put_entries-put.result, shows-same w.in-Dirs.is w.put_entries-put.ensures, c.told.ensures ∙ ap told w.put-is)
+  | in-Tx+in_ok-hart_of-in-Tx w ↦ rw w.sink-is (
+    w.put_tx-put.result,
+    shows-same (look-one Tx (hart_fault (setting_of c.args.machine.now) w.in-Tx.hart) w.in-Tx.hart _ _ _ w.in-Tx.is w.in_ok-hart_of-in-Tx.was w.hart_of-in-Tx.ensures) w.put_tx-put.ensures,
+    c.told.ensures ∙ ap told w.put-is,
+  )
+  | in-Log+in_ok-logged_at-in-Log w ↦ rw w.sink-is (
+    w.put_logged-put.result,
+    shows-same (look-one Log (log_fault c.args.machine.now w.in-Log.addr) w.in-Log.addr _ _ _ w.in-Log.is w.in_ok-logged_at-in-Log.was w.logged_at.ensures) w.put_logged-put.ensures,
+    c.told.ensures ∙ ap told w.put-is,
+  )
+  | in-Dis+in_ok-text_at-in-Dis w ↦ rw w.sink-is (
+    w.put_instruction-put.result,
+    shows-same (look-one Dis (text_fault (setting_of c.args.machine.now) w.in-Dis.addr) w.in-Dis.addr _ _ _ w.in-Dis.is w.in_ok-text_at-in-Dis.was w.text_at.ensures) w.put_instruction-put.ensures,
+    c.told.ensures ∙ ap told w.put-is,
+  )
+  | in-Messages w ↦ rw w.sink-is (w.put_messages-put.result, shows-same w.in-Messages.is w.put_messages-put.ensures, c.told.ensures ∙ ap told w.put-is)
+  | in-Harts w ↦ rw w.sink-is (w.put_harts-put.result, shows-same w.in-Harts.is w.put_harts-put.ensures, c.told.ensures ∙ ap told w.put-is)
+  | in-Help w ↦ rw w.sink-is (
+    w.put_help-put.result,
+    shows-same w.in-Help.is (record { text = help_text; is = refl; puts = w.put_help-put.ensures }),
+    c.told.ensures ∙ ap told w.put-is,
+  )
+]

@@ -1,0 +1,47 @@
+ghost use Rattle.std.specs.Prelude.{◌≡◌, MatchResult, Ok, Err};
+ghost use Rattle.words.specs.declared.sink.SinkFault.{SinkFault};
+ghost use Rattle.texts.specs.Puts.{Puts};
+ghost use Rattle.machine.specs.States.{geometry};
+ghost use Rattle.lines.specs.Entries.{entry_line};
+ghost use Rattle.recorder.specs.Traces.{IsTraced, IsCut};
+
+use lines::put_entry;
+use machine::Machine;
+use schedule::Choice;
+use watch::{Halt, WatchFault, Watcher, follow_watched};
+use words::{Entry, Sink};
+
+/// Notes entries in a sink, as lines.
+#[derive(Clone, Copy, Debug)]
+pub struct Recorder;
+
+impl<S: Sink> Watcher<S> for Recorder {
+    ghost notes = { λ _ before e after. Puts (S.taken before) (S.taken after) (S.failed before) (S.failed after) (entry_line e) (Ok tt) };
+
+    ghost misses = { λ _ before e after. (fault : SinkFault) × Puts (S.taken before) (S.taken after) (S.failed before) (S.failed after) (entry_line e) (Err fault) };
+
+    fn note(&self, entry: &Entry, log: &mut S) -> Result<(), WatchFault> {
+        match put_entry(entry, log) {
+            Ok(()) => Ok(()),
+            Err(_) => Err(WatchFault),
+        }
+    }
+}
+
+/// The choices in order, so many at most, and turns behind the last of them, as [`schedule::follow`] makes them. The line of each step's entry,
+/// if it gives one, is put before the next step.
+///
+/// If memory runs out, the machine is left where the steps before led, and their lines were put. If a put fails, the step of its line was made,
+/// and a beginning of the lines up to it was taken.
+pub fn put_trace<const SETS: usize, const WAYS: usize, S: Sink>(
+    machine: &mut Machine<SETS, WAYS>,
+    choices: &[Choice],
+    steps: u32,
+    sink: &mut S,
+) -> Result<(), Halt>
+    ensures { MatchResult result
+        (λ _. IsTraced (geometry SETS WAYS) choices.now steps machine.old machine.new (S.taken sink.old) (S.taken sink.new) (S.failed sink.old) (S.failed sink.new))
+        (IsCut (geometry SETS WAYS) choices.now steps machine.old machine.new (S.taken sink.old) (S.taken sink.new) (S.failed sink.old) (S.failed sink.new)) }
+{
+    follow_watched(machine, choices, steps, &Recorder, sink)
+}

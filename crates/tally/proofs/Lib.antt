@@ -1,0 +1,3 @@
+mod Adding
+mod Tallying
+mod Zeros

@@ -1,0 +1,12 @@
+//! How often each hart retired, aborted, refused and spilled in a run: the numbers of the entries of each kind.
+#![tactic(auto)]
+
+mod cells;
+mod counting;
+mod kinds;
+#[cfg(test)]
+mod tests;
+
+pub use cells::Counts;
+pub use counting::{Counter, count_run};
+pub use kinds::Kind;

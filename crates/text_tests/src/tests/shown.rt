@@ -1,0 +1,404 @@
+ghost use Rattle.std.specs.Prelude.{◌<◌};
+
+use directory::{Busy, DirEntry, Owner};
+use elf_samples::Breaking;
+use lines::{
+    cached_text, directory_text, message_text, put_cached, put_directory, put_entry, put_message,
+    put_registers, put_word, status_text,
+};
+use std::alloc::Global;
+use std::process::Abort;
+use std::test::Fail;
+use words::{
+    AbortCause, Access, Addr, BlockNo, Cause, Entry, HartId, HartSet, Kind, LineState, Marks,
+    Message, Reg, Regs, Stamp, Status, Taken, Width,
+};
+
+fn hart(number: u8) -> HartId
+    requires { number < 8 }
+{
+    HartId::new(number)
+}
+
+/// The block at 0x2000.
+fn block() -> BlockNo {
+    BlockNo::new(256)
+}
+
+fn taken(alloc: Global) -> Taken {
+    Taken {
+        bytes: Vec::new(alloc),
+        failed: 0,
+    }
+}
+
+fn check_entry(rt: &(impl Abort + AllocGlobal), entry: Entry, want: &str) {
+    let mut sink = taken(rt.alloc());
+    assert!(rt; put_entry(&entry, &mut sink).is_ok());
+    assert_eq!(rt; sink.bytes.as_slice(), want.as_bytes());
+}
+
+fn retired(pc: u32, word: u32, write: Option<(Reg, u32)>) -> Entry {
+    Entry::Retire {
+        hart: hart(0),
+        pc: Addr::new(pc),
+        word,
+        write,
+        load: None,
+        store: None,
+    }
+}
+
+fn at_2000(width: Width, value: u32) -> Option<Access> {
+    Some(Access {
+        addr: Addr::new(0x2000),
+        width,
+        value,
+    })
+}
+
+#[test]
+fn a_retired_word_has_its_parts(rt: HostRuntime) -> Result<(), Fail> {
+    check_entry(
+        &rt,
+        retired(0x1000, 0x05d0_0893, Some((Reg::new(17), 93))),
+        "0 0x00001000 05d00893 addi a7, zero, 93 | a7=0x0000005d\n",
+    );
+    check_entry(
+        &rt,
+        retired(0x1000, 0x0000_0a0b, None),
+        "0 0x00001000 00000a0b tbegin 20\n",
+    );
+    check_entry(
+        &rt,
+        Entry::Retire {
+            hart: hart(0),
+            pc: Addr::new(0x100c),
+            word: 0x0062_a023,
+            write: None,
+            load: None,
+            store: at_2000(Width::Word, 7),
+        },
+        "0 0x0000100c 0062a023 sw t1, 0(t0) | store 4 0x00002000=0x00000007\n",
+    );
+    check_entry(
+        &rt,
+        Entry::Retire {
+            hart: hart(1),
+            pc: Addr::new(0x1000),
+            word: 0x00b2_a52f,
+            write: Some((Reg::new(10), 2)),
+            load: at_2000(Width::Word, 2),
+            store: at_2000(Width::Word, 3),
+        },
+        "1 0x00001000 00b2a52f amoadd.w a0, a1, (t0) | a0=0x00000002 | load 4 0x00002000=0x00000002 | store 4 0x00002000=0x00000003\n",
+    );
+    Ok(())
+}
+
+#[test]
+fn other_entries_have_their_lines(rt: HostRuntime) -> Result<(), Fail> {
+    let pc = Addr::new(0x1004);
+    let causes = [
+        (AbortCause::Asked, "1 abort asked\n"),
+        (AbortCause::Conflict, "1 abort conflict\n"),
+        (AbortCause::LogFull, "1 abort logfull\n"),
+        (
+            AbortCause::Trapped(Cause::CallInTransaction, pc),
+            "1 abort trap 12 CallInTransaction\n",
+        ),
+    ];
+    for (cause, want) in causes {
+        check_entry(
+            &rt,
+            Entry::Abort {
+                hart: hart(1),
+                cause,
+            },
+            want,
+        );
+    }
+    check_entry(
+        &rt,
+        Entry::Trap {
+            hart: hart(0),
+            cause: Cause::Illegal,
+            pc,
+        },
+        "0 trap 1 Illegal at 0x00001004\n",
+    );
+    check_entry(
+        &rt,
+        Entry::Refuse {
+            hart: hart(0),
+            requester: hart(1),
+            block: block(),
+        },
+        "0 refuses 1 block 0x00002000\n",
+    );
+    check_entry(
+        &rt,
+        Entry::Spill {
+            hart: hart(0),
+            block: block(),
+        },
+        "0 spills block 0x00002000\n",
+    );
+    Ok(())
+}
+
+fn both() -> HartSet {
+    let mut harts = HartSet::empty();
+    harts.insert(hart(1));
+    harts.insert(hart(0));
+    harts
+}
+
+#[test]
+fn the_directory_tells_owner_sharers_and_request(rt: HostRuntime) -> Result<(), Fail> {
+    let first = DirEntry::first();
+    let entries = [
+        (first, "owner none sharers - busy -"),
+        (
+            DirEntry {
+                sharers: both(),
+                ..first
+            },
+            "owner none sharers 0,1 busy -",
+        ),
+        (
+            DirEntry {
+                owner: Owner::Owned(hart(0)),
+                ..first
+            },
+            "owned 0 sharers - busy -",
+        ),
+        (
+            DirEntry {
+                owner: Owner::Sticky(hart(1)),
+                busy: Some(Busy {
+                    requester: hart(0),
+                    give: LineState::Modified,
+                }),
+                ..first
+            },
+            "sticky 1 sharers - busy 0 M",
+        ),
+    ];
+    for (entry, want) in entries {
+        assert_eq!(rt; directory_text(&entry).as_str(), want);
+    }
+    let mut sink = taken(rt.alloc());
+    assert!(rt; put_directory(&first, &mut sink).is_ok());
+    assert_eq!(rt;
+        sink.bytes.as_slice(),
+        b"owner none sharers - busy -\n".as_slice()
+    );
+    Ok(())
+}
+
+#[test]
+fn a_line_tells_state_and_marks(rt: HostRuntime) -> Result<(), Fail> {
+    let written = Marks {
+        written: true,
+        ..Marks::none()
+    };
+    assert_eq!(rt; cached_text(LineState::Modified, written).as_str(), "M -w-");
+    let read = Marks {
+        read: true,
+        ..Marks::none()
+    };
+    assert_eq!(rt; cached_text(LineState::Exclusive, read).as_str(), "E r--");
+    let overflowed = Marks {
+        overflowed: true,
+        ..Marks::none()
+    };
+    let mut sink = taken(rt.alloc());
+    assert!(rt; put_cached(LineState::Shared, overflowed, &mut sink).is_ok());
+    assert_eq!(rt; sink.bytes.as_slice(), b"S --x\n".as_slice());
+    Ok(())
+}
+
+#[test]
+fn a_word_has_its_address(rt: HostRuntime) -> Result<(), Fail> {
+    let mut sink = taken(rt.alloc());
+    assert!(rt; put_word(Addr::new(0x2000), 7, &mut sink).is_ok());
+    assert_eq!(rt;
+        sink.bytes.as_slice(),
+        b"0x00002000 = 0x00000007\n".as_slice()
+    );
+    Ok(())
+}
+
+fn stamp() -> Option<Stamp> {
+    Some(Stamp {
+        count: 0,
+        hart: hart(1),
+    })
+}
+
+#[test]
+fn messages_between_harts_and_directory(rt: HostRuntime) -> Result<(), Fail> {
+    let content = [7, 0, 0, 0, 0, 0, 0, 9];
+    let messages = [
+        (
+            Message::Get {
+                from: hart(1),
+                block: block(),
+                kind: Kind::Read,
+                stamp: stamp(),
+            },
+            "get 1 0x00002000 read stamp 0.1",
+        ),
+        (
+            Message::Get {
+                from: hart(0),
+                block: block(),
+                kind: Kind::Write,
+                stamp: None,
+            },
+            "get 0 0x00002000 write stamp -",
+        ),
+        (
+            Message::Put {
+                from: hart(0),
+                block: block(),
+                content,
+                marked: true,
+            },
+            "put 0 0x00002000 marked content 0x00000007",
+        ),
+        (
+            Message::Done {
+                from: hart(1),
+                block: block(),
+                ok: false,
+                content: None,
+            },
+            "done 1 0x00002000 refused content -",
+        ),
+        (
+            Message::Done {
+                from: hart(1),
+                block: block(),
+                ok: true,
+                content: Some(content),
+            },
+            "done 1 0x00002000 ok content 0x00000007",
+        ),
+        (
+            Message::Grant {
+                to: hart(1),
+                block: block(),
+                give: LineState::Modified,
+                content,
+                expect: both(),
+            },
+            "grant 1 0x00002000 M expect 0,1 content 0x00000007",
+        ),
+        (
+            Message::PutAck {
+                to: hart(0),
+                block: block(),
+            },
+            "putack 0 0x00002000",
+        ),
+    ];
+    for (message, want) in messages {
+        assert_eq!(rt; message_text(&message).as_str(), want);
+    }
+    Ok(())
+}
+
+#[test]
+fn messages_from_hart_to_hart(rt: HostRuntime) -> Result<(), Fail> {
+    let messages = [
+        (
+            Message::Forward {
+                to: hart(0),
+                block: block(),
+                kind: Kind::Write,
+                requester: hart(1),
+                stamp: stamp(),
+            },
+            "forward 0 0x00002000 write for 1 stamp 0.1",
+        ),
+        (
+            Message::Ack {
+                from: hart(0),
+                to: hart(1),
+                block: block(),
+                content: None,
+            },
+            "ack 0 0x00002000 to 1 content -",
+        ),
+        (
+            Message::Nack {
+                from: hart(0),
+                to: hart(1),
+                block: block(),
+                stamp: stamp(),
+            },
+            "nack 0 0x00002000 to 1 stamp 0.1",
+        ),
+    ];
+    for (message, want) in messages {
+        assert_eq!(rt; message_text(&message).as_str(), want);
+    }
+    let mut sink = taken(rt.alloc());
+    let arrived = Message::PutAck {
+        to: hart(1),
+        block: block(),
+    };
+    assert!(rt; put_message(&arrived, &mut sink).is_ok());
+    assert_eq!(rt; sink.bytes.as_slice(), b"putack 1 0x00002000\n".as_slice());
+    Ok(())
+}
+
+const REGISTERS: &str = "\
+zero=0x00000000 ra=0x00000001 sp=0x00000002 gp=0x00000003
+tp=0x00000004 t0=0x00000005 t1=0x00000006 t2=0x00000007
+s0=0x00000008 s1=0x00000009 a0=0x0000000a a1=0x0000000b
+a2=0x0000000c a3=0x0000000d a4=0x0000000e a5=0x0000000f
+a6=0x00000010 a7=0x00000011 s2=0x00000012 s3=0x00000013
+s4=0x00000014 s5=0x00000015 s6=0x00000016 s7=0x00000017
+s8=0x00000018 s9=0x00000019 s10=0x0000001a s11=0x0000001b
+t3=0x0000001c t4=0x0000001d t5=0x0000001e t6=0x0000001f
+pc=0x00001004 running
+";
+
+/// Each register has its number, but x0, which reads 0 whatever stands in its place.
+fn numbered() -> Regs {
+    let mut regs = [0; 32];
+    for number in 0..32 {
+        regs[number] = number as u32;
+    }
+    regs[0] = 5;
+    regs
+}
+
+#[test]
+fn registers_stand_four_on_a_line(rt: HostRuntime) -> Result<(), Fail> {
+    let mut sink = taken(rt.alloc());
+    let regs = numbered();
+    assert!(rt; put_registers(&regs, Addr::new(0x1004), Status::Running, &mut sink).is_ok());
+    assert_eq!(rt; sink.bytes.as_slice(), REGISTERS.as_bytes());
+    assert_eq!(rt; status_text(Status::Exited(3)).as_str(), "exit 3");
+    let stopped = Status::Stopped(Cause::OutsideTransaction, Addr::new(0x1004));
+    assert_eq!(rt; status_text(stopped).as_str(), "trap 14 OutsideTransaction");
+    Ok(())
+}
+
+#[test]
+fn each_put_fails_in_turn(rt: HostRuntime) -> Result<(), Fail> {
+    let regs = numbered();
+    for left in 0..133 {
+        let mut sink = Breaking::new(rt.alloc(), left);
+        let answer = put_registers(&regs, Addr::new(0x1004), Status::Running, &mut sink);
+        assert!(rt; answer.is_err(), "{left}");
+        assert_eq!(rt; sink.failed, 1, "{left}");
+        assert!(rt; REGISTERS.as_bytes().starts_with(&sink.bytes), "{left}");
+        assert!(rt; sink.bytes.len() < REGISTERS.len(), "{left}");
+    }
+    Ok(())
+}

@@ -1,0 +1,82 @@
+ghost use Rattle.std.specs.Prelude.{◌≡◌, Option, Some, MatchResult};
+ghost use Rattle.words.specs.declared.entry.Step.{Step as StepValue};
+ghost use Rattle.machine.specs.States.{geometry};
+ghost use Rattle.schedule.specs.Follows.{last_after};
+ghost use Rattle.schedule.specs.Steps.{IsStepOf};
+ghost use Rattle.watch.specs.Watched.{MakesWatched, StopsAt, IsWatched, IsHalted};
+
+use crate::halt::Halt;
+use crate::watcher::Watcher;
+use machine::{Machine, hart_after};
+use schedule::Choice;
+use words::{HartId, Step};
+
+/// Makes a step, and has a watcher note its entry, if it gives one.
+fn show<const SETS: usize, const WAYS: usize, L, W: Watcher<L>>(
+    machine: &mut Machine<SETS, WAYS>,
+    step: Step,
+    watcher: &W,
+    log: &mut L,
+) -> Result<(), Halt>
+    ensures { MatchResult result (λ _. MakesWatched (W.notes watcher.now) (geometry SETS WAYS) machine.old (Some step) machine.new log.old log.new)
+        (StopsAt (W.misses watcher.now) (geometry SETS WAYS) machine.old (Some step) machine.new log.old log.new) }
+{
+    if let Some(entry) = machine.step(step)? {
+        watcher.note(&entry, log)?;
+    }
+    Ok(())
+}
+
+/// The same of the step that is chosen, where the last core step was a hart's. It answers whose the last core step was then.
+fn choose<const SETS: usize, const WAYS: usize, L, W: Watcher<L>>(
+    machine: &mut Machine<SETS, WAYS>,
+    choice: &Choice,
+    last: HartId,
+    watcher: &W,
+    log: &mut L,
+) -> Result<HartId, Halt>
+    ensures { MatchResult result
+        (λ hart. (step : Option StepValue) × IsStepOf SETS machine.old last choice.now step
+        × MakesWatched (W.notes watcher.now) (geometry SETS WAYS) machine.old step machine.new log.old log.new × (hart ≡ last_after step last))
+        (λ halt. (step : Option StepValue) × IsStepOf SETS machine.old last choice.now step
+        × StopsAt (W.misses watcher.now) (geometry SETS WAYS) machine.old step machine.new log.old log.new halt) }
+{
+    let Some(step) = choice.step(machine, last) else {
+        return Ok(last);
+    };
+    show(machine, step, watcher, log)?;
+    Ok(hart_after(&step, last))
+}
+
+/// The choices in order, so many at most, and turns behind the last of them, as [`schedule::follow`] makes them; and each step's entry, if it
+/// gives one, is noted by a watcher before the next step.
+///
+/// If memory runs out, the machine and the log are left where the steps before led. If the watcher fails at an entry, its step was made.
+pub fn follow_watched<const SETS: usize, const WAYS: usize, L, W: Watcher<L>>(
+    machine: &mut Machine<SETS, WAYS>,
+    choices: &[Choice],
+    steps: u32,
+    watcher: &W,
+    log: &mut L,
+) -> Result<(), Halt>
+    ensures { MatchResult result (λ _. IsWatched (W.notes watcher.now) (geometry SETS WAYS) choices.now steps machine.old machine.new log.old log.new)
+        (IsHalted (W.notes watcher.now) (W.misses watcher.now) (geometry SETS WAYS) choices.now steps machine.old machine.new log.old log.new) }
+{
+    let mut last = machine.last_hart();
+    let mut left = steps;
+    for choice in choices {
+        if left == 0 {
+            return Ok(());
+        }
+        last = choose(machine, choice, last, watcher, log)?;
+        left -= 1;
+    }
+    for _ in 0..left {
+        let Some(step) = machine.next_turn(last) else {
+            return Ok(());
+        };
+        show(machine, step, watcher, log)?;
+        last = hart_after(&step, last);
+    }
+    Ok(())
+}

@@ -1,0 +1,60 @@
+ghost use Rattle.std.specs.Prelude.{◌≡◌, ◌↔◌, IsTrue, IfOk, IfErr, IfSome, IfNone, OnOk, OnErr};
+ghost use Rattle.machine.specs.States.{geometry};
+ghost use Rattle.board.specs.Boards.{IsRunning, IsLent, Fits, settled, IsRefusedFor};
+ghost use Rattle.board.specs.Visits.{IsVisit, BeginsVisit};
+
+use board::{Board, Lease, Refusal};
+use std::alloc::{AllocError, Allocator};
+use words::HartId;
+
+/// What a worker does with a lease. Neither is called while a lock is held.
+pub trait Gate<L> {
+    /// The hart was lent, on a turn with this number: the lease is run here. The answer `false` ends the worker.
+    fn lent(&self, hart: HartId, turn: u64, lease: &mut L) -> bool;
+
+    /// The lease was settled, and the hart visited.
+    fn settled(&self, hart: HartId, turn: u64);
+}
+
+/// What a worker knows of a board.
+pub trait Desk {
+    type Lease: Drop;
+
+    fn lend(&self, id: HartId) -> Option<Self::Lease>;
+
+    fn settle(&mut self, lease: Self::Lease) -> Result<(), (Self::Lease, Refusal)>;
+
+    fn visit(&mut self, id: HartId) -> Result<bool, AllocError>;
+}
+
+impl<'p, const SETS: usize, const WAYS: usize, A: Allocator + Copy> Desk
+    for Board<'p, SETS, WAYS, A> {
+    type Lease = Lease<'p, SETS, WAYS>;
+
+    fn lend(&self, id: HartId) -> Option<Lease<'p, SETS, WAYS>>
+        ensures some { IfSome result (IsLent self.now id) }
+        ensures none { IfNone result (IsRunning self.now.machine id → ⊥) }
+    {
+        Board::lend(self, id)
+    }
+
+    fn settle(
+        &mut self,
+        lease: Lease<'p, SETS, WAYS>,
+    ) -> Result<(), (Lease<'p, SETS, WAYS>, Refusal)>
+        ensures ok { OnOk result (Fits self.old lease.entry × (self.new ≡ settled self.old lease.entry)) }
+        ensures unchanged { OnErr result (self.new ≡ self.old) }
+        ensures back { IfErr result (λ r. r.0 ≡ lease.entry) }
+        ensures refused { IfErr result (λ r. IsRefusedFor self.old lease.entry r.1) }
+    {
+        Board::settle(self, lease)
+    }
+
+    fn visit(&mut self, id: HartId) -> Result<bool, AllocError>
+        ensures runs { IfOk result (λ runs. IsTrue runs ↔ IsRunning self.new.machine id) }
+        ensures ok { OnOk result (IsVisit (geometry SETS WAYS) id self.old self.new) }
+        ensures err { OnErr result (BeginsVisit (geometry SETS WAYS) id self.old self.new) }
+    {
+        Board::visit(self, id)
+    }
+}

@@ -1,0 +1,94 @@
+ghost use Rattle.std.specs.Prelude.{◌≡◌, ◌≤◌, IfOk};
+ghost use Rattle.arrayvec.specs.ArrayVec.{array_vec_len};
+ghost use Rattle.words.specs.Limits.{most_harts};
+
+use crate::desk::{Desk, Gate};
+use crate::end::End;
+use arrayvec::ArrayVec;
+use board::Refusal;
+use std::alloc::AllocError;
+use std::sync::{Mutex, MutexGuard, Wait};
+use std::thread;
+use std::thread::Threads;
+use words::{HARTS, HartId};
+
+/// How often a worker looks for a free lock before it sleeps. To wake a sleeper costs far more than most turns take, so workers that handed
+/// the lock from sleeper to sleeper would make each turn wait for that.
+const LOOKS: usize = 300;
+
+/// The lock: looked for a while, then slept for.
+fn locked<'d, D, R: Wait>(rt: &R, desk: &'d Mutex<D>) -> MutexGuard<'d, D> {
+    for _ in 0..LOOKS {
+        if let Some(held) = desk.try_lock() {
+            return held;
+        }
+        thread::yield_now();
+    }
+    desk.lock(rt)
+}
+
+/// Turns of one hart: it is lent, the gate runs the lease, it is settled and the hart visited. A stale lease is let go, and the hart visited all
+/// the same.
+pub fn work<D: Desk, G: Gate<D::Lease>, R: Wait>(
+    rt: &R,
+    desk: &Mutex<D>,
+    id: HartId,
+    gate: &G,
+    turns: u64,
+) -> Result<End, AllocError> {
+    for turn in 0..turns {
+        let lent = locked(rt, desk).lend(id);
+        let Some(mut lease) = lent else {
+            return Ok(End::Stopped);
+        };
+        if !gate.lent(id, turn, &mut lease) {
+            return Ok(End::Shut);
+        }
+        let mut held = locked(rt, desk);
+        if let Err((_lease, Refusal::NoMemory)) = held.settle(lease) {
+            return Err(AllocError);
+        }
+        let runs = held.visit(id)?;
+        drop(held);
+        gate.settled(id, turn);
+        if !runs {
+            return Ok(End::Stopped);
+        }
+    }
+    Ok(End::Limit)
+}
+
+/// The work of each of so many harts, in threads, and how each ended, in their order. What no thread can be started for, the caller does. It fails
+/// if one of them wanted memory that there wasn't.
+pub fn serve<D: Desk + Send, G: Gate<D::Lease> + Sync, R: Threads + Wait + Sync>(
+    rt: &R,
+    desk: &Mutex<D>,
+    harts: usize,
+    gate: &G,
+    turns: u64,
+) -> Result<ArrayVec<End, HARTS>, AllocError>
+where
+    D::Lease: Send,
+    requires { harts ≤ most_harts }
+    ensures { IfOk result (λ ends. array_vec_len ends ≡ harts) }
+{
+    let mut all = [Ok(End::Limit); HARTS];
+    let places = &mut all[..harts];
+    if harts > 0 {
+        thread::for_each_mut(
+            rt,
+            places,
+            harts,
+            &|i, end| {
+                if let Some(id) = HartId::try_new(i) {
+                    *end = work(rt, desk, id, gate, turns);
+                }
+            },
+        );
+    }
+    let mut ends = ArrayVec::new();
+    for end in places.iter() {
+        ends.push((*end)?);
+    }
+    Ok(ends)
+}
