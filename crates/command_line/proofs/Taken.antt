@@ -188,6 +188,6 @@ refused_words words a error NoMemory is fails memory refusal = tt
 pub read_words : (words : List Text) (name : Text) (rows : List Row) (r : Result Request OrderFault) → AsksFor name words rows
     → MatchResult r (IsReadingOf name rows) (NamesFirstIn name rows) → MatchResult r (IsRequestOf words) (IsFaultOf words)
 read_words words name rows (Ok request) asks read = (name, rows, asks, read)
-read_words words name rows (Err (Refused text)) asks bad = ⊎_elim (λ run. absurd run.1) (λ debug. absurd debug.1) bad
+read_words words name rows (Err (Refused text)) asks bad = ⊎_elim (λ run. ⊎_elim (λ first. absurd first) (λ clash. absurd clash.2.2) run.1) (λ debug. absurd debug.1) bad
 read_words words name rows (Err (Value value)) asks bad = (name, rows, asks, bad)
 read_words words name rows (Err NoMemory) asks bad = tt

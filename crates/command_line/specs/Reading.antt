@@ -1,5 +1,5 @@
 -- What the values that clap found stand for.
-use Rattle.std.specs.Prelude.{◌≡◌, ◌≢◌, ◌⊎◌, IsSome, ⊤, List, [], ◌++◌, Option, Some, None, codes, filter, if◌then◌else◌, is_some, map, not, slice_get, unwrap_or}
+use Rattle.std.specs.Prelude.{◌≡◌, ◌≢◌, ◌⊎◌, ◌||◌, Bool, true, false, IsSome, ⊤, List, [], ◌++◌, Option, Some, None, codes, filter, if◌then◌else◌, is_some, map, not, slice_get, unwrap_or}
 use Rattle.std.specs.Option.{option_map, option_map_or, option_to_list}
 use Rattle.std.specs.Str.{bytes_eq}
 use Rattle.clap.specs.Words.{Row, Text, all_of, fault_of, first_of, subcommand_of}
@@ -15,6 +15,8 @@ use Rattle.command_line.specs.declared.request.Order.TheVariants as order
 use Rattle.command_line.specs.declared.request.Request.{Request}
 use Rattle.command_line.specs.declared.request.Request.TheVariants as request
 use Rattle.command_line.specs.declared.request.Run.{Run}
+use Rattle.command_line.specs.declared.request.Target.{Target}
+use Rattle.command_line.specs.declared.request.Target.TheVariants.{Output, File}
 use Rattle.command_line.specs.declared.request.Word.{Word}
 
 -- the cache of this name
@@ -77,9 +79,23 @@ IsDebugOf rows debug =
     × (read_or number_of 1048576 (codes "memory") rows ≡ Some debug.memory)
     × (read_or cache_of Normal (codes "cache") rows ≡ Some debug.cache)
 
+-- whether a path is that of a file which the run reads: the program's, or the schedule's
+abbrev pub is_read_by : Run → Text → Bool
+is_read_by run path = bytes_eq path run.file.now || option_map_or (λ list. bytes_eq path list.now) run.schedule false
+
+-- the trace goes to standard output for a dash, and else to the file with this path, which is none that the run reads
+abbrev pub IsTargetOf : Run → Text → Target → Type 0
+IsTargetOf run path Output = path ≡ codes "-"
+IsTargetOf run path (File file) = (file.now ≡ path) × (path ≢ codes "-") × (is_read_by run path ≡ false)
+
+-- the trace can't go to this path, which is that of a file that the run reads: the fault names it
+abbrev pub IsClash : Run → Text → OrderFault → Type 0
+IsClash run path (Value value) = (value.now ≡ path) × (path ≢ codes "-") × (is_read_by run path ≡ true)
+IsClash run path other = ⊥
+
 -- the order is what the values of the subcommand of this name stand for
 abbrev pub IsOrderIn : Text → List Row → Order → Type 0
-IsOrderIn name rows (order.Run run) = (name ≡ codes "run") × IsRunOf rows run
+IsOrderIn name rows (order.Run run) = (name ≡ codes "run") × IsRunOf rows run × (first_of (codes "trace") rows ≡ None)
 IsOrderIn name rows (order.Dis file) =
     (name ≡ codes "dis") × (first_of (codes "file") rows ≡ Some file.now)
 IsOrderIn name rows (order.Asm source target) = (name ≡ codes "asm")
@@ -89,6 +105,8 @@ IsOrderIn name rows (order.Asm source target) = (name ≡ codes "asm")
 -- and so is the request
 abbrev pub IsReadingOf : Text → List Row → Request → Type 0
 IsReadingOf name rows (request.Order order) = IsOrderIn name rows order
+IsReadingOf name rows (request.Traced traced) = (name ≡ codes "run") × IsRunOf rows traced.run
+    × ((path : Text) × (first_of (codes "trace") rows ≡ Some path) × IsTargetOf traced.run path traced.target)
 IsReadingOf name rows (request.Debug debug) = (name ≡ codes "debug") × IsDebugOf rows debug
 
 -- the fault names the first of these texts, or memory ran out
@@ -97,9 +115,21 @@ NamesFirstOf texts (Refused text) = ⊥
 NamesFirstOf texts (Value value) = slice_get texts 0 ≡ Some value.now
 NamesFirstOf texts NoMemory = ⊤
 
+-- the run's values are read, and its trace is to go to a file that it reads
+abbrev pub Clashes : List Row → OrderFault → Type 0
+Clashes rows fault = (run : Run) × IsRunOf rows run × ((path : Text) × (first_of (codes "trace") rows ≡ Some path) × IsClash run path fault)
+
+-- the fault names the first malformed value of a run, or memory ran out
+abbrev pub NamesFirstInRun : List Row → OrderFault → Type 0
+NamesFirstInRun rows fault = NamesFirstOf (malformed_of rows) fault ⊎ Clashes rows fault
+
+-- the request is a run that the values stand for
+abbrev pub IsRunRequestOf : List Row → Request → Type 0
+IsRunRequestOf rows request = IsReadingOf (codes "run") rows request
+
 -- the fault names the first malformed value of the subcommand of this name, or memory ran out
 abbrev pub NamesFirstIn : Text → List Row → OrderFault → Type 0
-NamesFirstIn name rows fault = ((name ≡ codes "run") × NamesFirstOf (malformed_of rows) fault)
+NamesFirstIn name rows fault = ((name ≡ codes "run") × NamesFirstInRun rows fault)
     ⊎ ((name ≡ codes "debug") × NamesFirstOf (malformed_of_machine rows) fault)
 
 -- a value was given for the argument

@@ -24,7 +24,8 @@ const CACHE_HELP: &str = "The cache of each hart, small or normal, normal if not
 ///
 /// clap says what it refuses, and answers `--help` in the same way. Where it takes the words of a
 /// run, the values of `--harts`, `--memory`, `--steps` and `--cache` and then the WORDs are read, in
-/// this order, up to the first malformed one; those of `debug` likewise. Memory may run out at any time: no clause says when.
+/// this order, up to the first malformed one, and then that of `--trace`, which is malformed where it is the path of a file
+/// that the run reads; those of `debug` likewise. Memory may run out at any time: no clause says when.
 pub fn parse<'a>(alloc: Global, words: &'a [&'a str]) -> Result<Request<'a>, OrderFault<'a>>
     ensures { MatchResult result (IsRequestOf (map (λ w. w.now) words.entry.now))
         (IsFaultOf (map (λ w. w.now) words.entry.now)) }
@@ -58,6 +59,7 @@ fn run_command<'a>(alloc: Global) -> Result<Command<'a>, AllocError>
     let about = "Runs a program, and reports what became of it";
     let steps = "How many steps are taken at most, 10000000 if not given";
     let schedule = "A file whose lines choose the first steps";
+    let trace = "A file for the trace, a line for each entry; - for standard output";
     bare(alloc, "run", about)
         .arg(program(alloc))?
         .arg(option(alloc, "harts", "N", HARTS_HELP))?
@@ -65,6 +67,7 @@ fn run_command<'a>(alloc: Global) -> Result<Command<'a>, AllocError>
         .arg(option(alloc, "steps", "N", steps))?
         .arg(option(alloc, "cache", "NAME", CACHE_HELP))?
         .arg(option(alloc, "schedule", "LIST", schedule))?
+        .arg(option(alloc, "trace", "FILE", trace))?
         .arg(words(alloc))
 }
 

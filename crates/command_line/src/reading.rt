@@ -3,11 +3,12 @@ ghost use Rattle.clap.specs.Words.{first_of, found_of, rows_of};
 ghost use Rattle.command_line.specs.Numbers.{number_of};
 ghost use Rattle.command_line.specs.Reading.{HasValue, IsComplete, IsReadingOf, IsReadingOfWords, IsRunOf, IsDebugOf};
 ghost use Rattle.command_line.specs.Reading.{NamesFirstIn, NamesFirstOf, cache_of, given, malformed};
+ghost use Rattle.command_line.specs.Reading.{IsRunRequestOf, NamesFirstInRun, IsTargetOf, IsClash, is_read_by};
 ghost use Rattle.command_line.specs.Reading.{malformed_of, malformed_of_machine, read_or, words_of};
 
 use crate::fault::OrderFault;
 use crate::numbers::number;
-use crate::request::{Cache, Debug, Order, Request, Run, Word};
+use crate::request::{Cache, Debug, Order, Request, Run, Target, Traced, Word};
 use clap::ArgMatches;
 use std::alloc::Global;
 
@@ -32,7 +33,7 @@ pub(crate) fn read<'a>(
         (NamesFirstIn name.now (rows_of (found_of matches.now))) }
 {
     match name {
-        "run" => read_run(alloc, matches).map(Order::Run).map(Request::Order),
+        "run" => read_run_request(alloc, matches),
         "debug" => read_debug(matches).map(Request::Debug),
         "dis" => Ok(Request::Order(Order::Dis {
             file: argument(matches, "file"),
@@ -51,6 +52,48 @@ fn argument<'a>(matches: &ArgMatches<'a>, id: &str) -> &'a str
     ensures { first_of id.now (rows_of (found_of matches.now)) ≡ Some result.now }
 {
     matches.get_str(id).unwrap()
+}
+
+/// A run, with its trace where one is asked for.
+fn read_run_request<'a>(
+    alloc: Global,
+    matches: &ArgMatches<'a>,
+) -> Result<Request<'a>, OrderFault<'a>>
+    requires { HasValue (codes "file") (rows_of (found_of matches.now)) }
+    ensures { MatchResult result (IsRunRequestOf (rows_of (found_of matches.now)))
+        (NamesFirstInRun (rows_of (found_of matches.now))) }
+{
+    let run = read_run(alloc, matches)?;
+    match path_given(matches, "trace") {
+        Some(path) => {
+            let target = target_at(path, &run)?;
+            Ok(Request::Traced(Traced { run, target }))
+        }
+        None => Ok(Request::Order(Order::Run(run))),
+    }
+}
+
+/// Where the trace of a run goes: no file that the run reads.
+fn target_at<'a>(path: &'a str, run: &Run<'_>) -> Result<Target<'a>, OrderFault<'a>>
+    ensures { MatchResult result (IsTargetOf run.now path.now) (IsClash run.now path.now) }
+{
+    if path == "-" {
+        return Ok(Target::Output);
+    }
+    if is_read_by(path, run) {
+        return Err(OrderFault::Value(path));
+    }
+    Ok(Target::File(path))
+}
+
+/// Whether a path is that of a file which a run reads: the program's, or the schedule's.
+fn is_read_by(path: &str, run: &Run<'_>) -> bool
+    ensures { result ≡ is_read_by run.now path.now }
+{
+    match run.schedule {
+        Some(list) => path == run.file || path == list,
+        None => path == run.file,
+    }
 }
 
 fn read_run<'a>(alloc: Global, matches: &ArgMatches<'a>) -> Result<Run<'a>, OrderFault<'a>>

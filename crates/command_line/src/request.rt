@@ -3,6 +3,8 @@
 pub enum Request<'a> {
     /// What is carried out at once.
     Order(Order<'a>),
+    /// To run a program, write its trace, and report what became of it.
+    Traced(Traced<'a>),
     /// To play a program by hand.
     Debug(Debug<'a>),
 }
@@ -70,6 +72,23 @@ pub struct Run<'a> {
     pub schedule: Option<&'a str>,
     /// The words of memory to show at the end.
     pub words: Vec<Word<'a>>,
+}
+
+/// A run of a program with a trace.
+#[derive(Debug, Drop)]
+pub struct Traced<'a> {
+    pub run: Run<'a>,
+    /// Where the trace goes.
+    pub target: Target<'a>,
+}
+
+/// Where a trace goes.
+#[derive(Clone, Copy, Debug)]
+pub enum Target<'a> {
+    /// Standard output, before the report.
+    Output,
+    /// The file with this path, which is none that the run reads.
+    File(&'a str),
 }
 
 /// A program that is to be played by hand, and the machine that it begins in.

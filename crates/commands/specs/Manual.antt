@@ -6,7 +6,8 @@ abbrev pub help_text : List ℕ
 help_text = concat (
     codes "Words are parted by one space. Numbers are decimal, or hexadecimal behind 0x.\n" ∷
     codes "H is a hart's number from 0, A the address of a word, B that of a word of text, N a number of steps.\n" ∷
-    codes "SORT is get, put, done, grant, forward, putack, ack or nack.\n" ∷
+    codes "SORT is get, put, done, grant, forward, putack, ack or nack. Each line of messages begins with SORT H A.\n" ∷
+    codes "core, evict and deliver show what the step did or sent, done if nothing of these, nothing if it can't be made now.\n" ∷
     codes "step              takes turns until a hart does something, and shows it\n" ∷
     codes "run N             takes turns until no hart runs, or one is at a breakpoint; N at most\n" ∷
     codes "run               the same, 1000000 turns at most\n" ∷
@@ -20,12 +21,12 @@ help_text = concat (
     codes "view H A          the word as hart H sees it\n" ∷
     codes "line H A          hart H's line of A's block: its state and marks\n" ∷
     codes "dir A             the directory's entry of A's block\n" ∷
-    codes "dirs              all entries of the directory\n" ∷
+    codes "dirs              the directory's entries of all blocks in use\n" ∷
     codes "tx H              hart H's transaction\n" ∷
-    codes "log A             the word of an undo log\n" ∷
+    codes "log A             the word of an undo log; they lie above all other words\n" ∷
     codes "dis B             the word of text as an instruction\n" ∷
-    codes "messages          the messages in flight, the oldest first\n" ∷
-    codes "harts             each hart's pc and status\n" ∷
+    codes "messages          the messages in flight, the oldest first; held where their block is busy\n" ∷
+    codes "harts             each hart's pc and status, how deep it is in a transaction, and the block that it waits for\n" ∷
     codes "help              these lines\n" ∷
     codes "quit              ends\n" ∷
     codes "#                 begins a comment\n" ∷ [])

@@ -1,5 +1,5 @@
 ghost use Rattle.std.specs.Prelude.{◌≡◌, Some};
-ghost use Rattle.commands.specs.Faults.{fault_number, fault_name, fault_text};
+ghost use Rattle.commands.specs.Faults.{fault_text};
 ghost use Rattle.commands.specs.declared.fault.DebugFault.TheVariants.{NoMemory, Device};
 
 use std::alloc::{AllocError, AllocFailed};
@@ -27,33 +27,18 @@ pub enum DebugFault {
 }
 
 impl DebugFault {
-    /// The number that is printed, 1 to 7.
-    pub fn number(self) -> u32
-        ensures { result ≡ fault_number self }
+    /// The number and the name that are printed.
+    pub fn text(self) -> &'static str
+        ensures { result.now ≡ fault_text self }
     {
         match self {
-            DebugFault::Unknown => 1,
-            DebugFault::NoHart => 2,
-            DebugFault::Address => 3,
-            DebugFault::Stopped => 4,
-            DebugFault::Limit => 5,
-            DebugFault::NoMemory => 6,
-            DebugFault::Device => 7,
-        }
-    }
-
-    /// The name that is printed.
-    pub fn name(self) -> &'static str
-        ensures { result.now ≡ fault_name self }
-    {
-        match self {
-            DebugFault::Unknown => "Unknown",
-            DebugFault::NoHart => "NoHart",
-            DebugFault::Address => "Address",
-            DebugFault::Stopped => "Stopped",
-            DebugFault::Limit => "Limit",
-            DebugFault::NoMemory => "NoMemory",
-            DebugFault::Device => "Device",
+            DebugFault::Unknown => "1 Unknown",
+            DebugFault::NoHart => "2 NoHart",
+            DebugFault::Address => "3 Address",
+            DebugFault::Stopped => "4 Stopped",
+            DebugFault::Limit => "5 Limit",
+            DebugFault::NoMemory => "6 NoMemory",
+            DebugFault::Device => "7 Device",
         }
     }
 }
@@ -62,7 +47,7 @@ impl fmt::Display for DebugFault {
     ghost output = { λ fault. Some (fault_text fault) };
 
     fn fmt<W: fmt::Write>(&self, f: &mut fmt::Formatter<W>) -> fmt::Result {
-        write!(f, "{} {}", self.number(), self.name())
+        f.write_str(self.text())
     }
 }
 

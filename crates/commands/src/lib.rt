@@ -10,6 +10,3 @@ pub use command::{Command, Look};
 pub use fault::DebugFault;
 pub use manual::help;
 pub use spelling::command_of;
-
-#[cfg(test)]
-mod tests;

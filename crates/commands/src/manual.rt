@@ -8,7 +8,8 @@ pub fn help() -> &'static str
     "\
 Words are parted by one space. Numbers are decimal, or hexadecimal behind 0x.
 H is a hart's number from 0, A the address of a word, B that of a word of text, N a number of steps.
-SORT is get, put, done, grant, forward, putack, ack or nack.
+SORT is get, put, done, grant, forward, putack, ack or nack. Each line of messages begins with SORT H A.
+core, evict and deliver show what the step did or sent, done if nothing of these, nothing if it can't be made now.
 step              takes turns until a hart does something, and shows it
 run N             takes turns until no hart runs, or one is at a breakpoint; N at most
 run               the same, 1000000 turns at most
@@ -22,12 +23,12 @@ raw A             the word as it stands in place
 view H A          the word as hart H sees it
 line H A          hart H's line of A's block: its state and marks
 dir A             the directory's entry of A's block
-dirs              all entries of the directory
+dirs              the directory's entries of all blocks in use
 tx H              hart H's transaction
-log A             the word of an undo log
+log A             the word of an undo log; they lie above all other words
 dis B             the word of text as an instruction
-messages          the messages in flight, the oldest first
-harts             each hart's pc and status
+messages          the messages in flight, the oldest first; held where their block is busy
+harts             each hart's pc and status, how deep it is in a transaction, and the block that it waits for
 help              these lines
 quit              ends
 #                 begins a comment

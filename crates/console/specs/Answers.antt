@@ -1,10 +1,12 @@
 -- How a line is answered.
-use Rattle.std.specs.Prelude.{ℕ, ◌≡◌, ◌≤◌, Bool, true, List, Option, Some, None, Result, Ok, Err, IsUtf8, length, codes}
+use Rattle.std.specs.Prelude.{ℕ, ◌≡◌, ◌≤◌, Bool, true, List, [], ◌∷◌, Option, Some, None, Result, Ok, Err, IsUtf8, length, codes}
+use Rattle.std.specs.List.{concat}
 use Rattle.words.specs.declared.sink.SinkFault.{SinkFault}
 use Rattle.texts.specs.Puts.{Puts}
 use Rattle.commands.specs.declared.command.Command.{Command}
 use Rattle.commands.specs.declared.fault.DebugFault.{DebugFault}
-use Rattle.commands.specs.declared.fault.DebugFault.TheVariants.{Unknown, NoHart, Address, Stopped, Limit, NoMemory, Device}
+use Rattle.commands.specs.declared.fault.DebugFault.TheVariants.{Unknown, Device}
+use Rattle.commands.specs.Faults.{fault_text}
 use Rattle.commands.specs.Spelling.{command_of}
 use Rattle.console.specs.declared.fault.ConsoleFault.{ConsoleFault}
 use Rattle.console.specs.declared.fault.ConsoleFault.TheVariants.{Unwritten}
@@ -19,26 +21,25 @@ pub record Asks (line : List ℕ) (asked : Option Command) : Type 0 where
   pub spelled : IsShortText (without_return line) → asked ≡ command_of (without_return line)
   pub passed : (IsShortText (without_return line) → ⊥) → asked ≡ None
 
--- what is told of a fault. Of a put that failed nothing is
-abbrev pub refusal : DebugFault → Option (List ℕ)
-refusal Unknown = Some (codes "refused 1 Unknown\n")
-refusal NoHart = Some (codes "refused 2 NoHart\n")
-refusal Address = Some (codes "refused 3 Address\n")
-refusal Stopped = Some (codes "refused 4 Stopped\n")
-refusal Limit = Some (codes "refused 5 Limit\n")
-refusal NoMemory = Some (codes "refused 6 NoMemory\n")
-refusal Device = None
+-- the number and the name of a fault that is told. A put that failed is not
+abbrev pub told_name : DebugFault → Option (List ℕ)
+told_name Device = None
+told_name fault = Some (fault_text fault)
+
+-- what is told of a fault
+abbrev pub refused : List ℕ → List ℕ
+refused name = concat (codes "refused " ∷ name ∷ codes "\n" ∷ [])
 
 -- a fault is told, and more is wanted; or the put failed, now or before, and that is the end
 abbrev pub Refuses : Option (List ℕ) → Option (List ℕ) → Option (List ℕ) → ℕ → ℕ → Result Bool ConsoleFault → Type 0
 Refuses None before after failed_before failed_after r = (after ≡ before) × (failed_after ≡ failed_before) × (r ≡ Err Unwritten)
-Refuses (Some text) before after failed_before failed_after (Ok more) = Puts before after failed_before failed_after text (Ok tt) × (more ≡ true)
-Refuses (Some text) before after failed_before failed_after (Err fault) = (f : SinkFault) × Puts before after failed_before failed_after text (Err f) × (fault ≡ Unwritten)
+Refuses (Some name) before after failed_before failed_after (Ok more) = Puts before after failed_before failed_after (refused name) (Ok tt) × (more ≡ true)
+Refuses (Some name) before after failed_before failed_after (Err fault) = (f : SinkFault) × Puts before after failed_before failed_after (refused name) (Err f) × (fault ≡ Unwritten)
 
 -- what comes of a session's answer: more is wanted, or not, as it says; or its fault is told
 abbrev pub Closes : Result Bool DebugFault → Option (List ℕ) → Option (List ℕ) → ℕ → ℕ → Result Bool ConsoleFault → Type 0
 Closes (Ok more) before after failed_before failed_after r = (after ≡ before) × (failed_after ≡ failed_before) × (r ≡ Ok more)
-Closes (Err fault) before after failed_before failed_after r = Refuses (refusal fault) before after failed_before failed_after r
+Closes (Err fault) before after failed_before failed_after r = Refuses (told_name fault) before after failed_before failed_after r
 
 -- what a session may answer to a command
 abbrev pub Answering : Type 0 → Type 1
@@ -46,7 +47,7 @@ Answering D = D → Command → D → Option (List ℕ) → Option (List ℕ) �
 
 -- a command is carried out by the session; where there is none, that is told, and the session stays as it is
 abbrev pub IsCarriedOut : {D : Type 0} → Answering D → Option Command → D → D → Option (List ℕ) → Option (List ℕ) → ℕ → ℕ → Result Bool ConsoleFault → Type 0
-IsCarriedOut answers None s t before after failed_before failed_after r = (t ≡ s) × Refuses (refusal Unknown) before after failed_before failed_after r
+IsCarriedOut answers None s t before after failed_before failed_after r = (t ≡ s) × Refuses (told_name Unknown) before after failed_before failed_after r
 IsCarriedOut answers (Some command) s t before after failed_before failed_after r =
     (answer : Result Bool DebugFault) × (between : Option (List ℕ)) × (failed_between : ℕ) × answers s command t before between failed_before failed_between answer
     × Closes answer between after failed_between failed_after r

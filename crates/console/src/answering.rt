@@ -4,10 +4,11 @@ ghost use Rattle.texts.specs.Puts.{Puts};
 ghost use Rattle.commands.specs.declared.command.Command.{Command as CommandValue};
 ghost use Rattle.commands.specs.declared.fault.DebugFault.{DebugFault as Fault};
 ghost use Rattle.console.specs.Lines.{without_return};
-ghost use Rattle.console.specs.Answers.{Asks, IsAnswered, Refuses, refusal};
+ghost use Rattle.console.specs.Answers.{Asks, IsAnswered, Refuses, told_name, refused};
 
 use crate::fault::ConsoleFault;
 use commands::{Command, DebugFault, command_of};
+use texts::put_all;
 use words::{Sink, SinkFault};
 
 /// What answers commands.
@@ -45,19 +46,21 @@ fn asked(line: &[u8]) -> Option<Command>
     }
 }
 
-/// What is told of a fault, if the session goes on.
-fn refusal(fault: DebugFault) -> Option<&'static str>
-    ensures { option_map (λ text. text.now) result ≡ refusal fault }
+/// The number and the name of a fault that is told, and after which the session goes on.
+fn told(fault: DebugFault) -> Option<&'static str>
+    ensures { option_map (λ text. text.now) result ≡ told_name fault }
 {
     match fault {
-        DebugFault::Unknown => Some("refused 1 Unknown\n"),
-        DebugFault::NoHart => Some("refused 2 NoHart\n"),
-        DebugFault::Address => Some("refused 3 Address\n"),
-        DebugFault::Stopped => Some("refused 4 Stopped\n"),
-        DebugFault::Limit => Some("refused 5 Limit\n"),
-        DebugFault::NoMemory => Some("refused 6 NoMemory\n"),
         DebugFault::Device => None,
+        _ => Some(fault.text()),
     }
+}
+
+/// Puts what is told of a refusal.
+fn put_refused<S: Sink>(name: &str, out: &mut S) -> Result<(), SinkFault>
+    ensures { Puts (S.taken out.old) (S.taken out.new) (S.failed out.old) (S.failed out.new) (refused name.now) result }
+{
+    put_all(out, &[b"refused ", name.as_bytes(), b"\n"])
 }
 
 /// Puts a text.
@@ -69,12 +72,12 @@ pub(crate) fn put_text<S: Sink>(sink: &mut S, text: &str) -> Result<(), SinkFaul
 
 /// Tells a fault, after which more commands are wanted. A put that failed is told by nothing but this function's error.
 fn refuse<S: Sink>(fault: DebugFault, out: &mut S) -> Result<bool, ConsoleFault>
-    ensures { Refuses (refusal fault) (S.taken out.old) (S.taken out.new) (S.failed out.old) (S.failed out.new) result }
+    ensures { Refuses (told_name fault) (S.taken out.old) (S.taken out.new) (S.failed out.old) (S.failed out.new) result }
 {
-    let Some(text) = refusal(fault) else {
+    let Some(name) = told(fault) else {
         return Err(ConsoleFault::Unwritten);
     };
-    match put_text(out, text) {
+    match put_refused(name, out) {
         Ok(()) => Ok(true),
         Err(_) => Err(ConsoleFault::Unwritten),
     }

@@ -14,6 +14,3 @@ pub use debugging::debug;
 pub use fault::ConsoleFault;
 pub use input::{KEPT, LineInput, Reading, Typed};
 pub use playing::play;
-
-#[cfg(test)]
-mod tests;

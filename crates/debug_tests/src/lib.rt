@@ -1,4 +1,4 @@
-//! The debugger's commands on small programs.
+//! The debugger's commands: how they are spelled, what they do and show on small programs, and what a console makes of lines.
 #![tactic(auto)]
 
 #[cfg(test)]

@@ -1,13 +1,12 @@
 -- What commands do to a debugging session.
-use Rattle.std.specs.Prelude.{ℕ, ◌≡◌, ◌<◌, ◌≤◌, ◌⊎◌, ◌==◌, ◌&&◌, ◌/◌, ◌%◌, ◌++◌, zero, suc, Bool, true, false, List, [], ◌∷◌, Option, Some, None, cond, is_some, length, position}
+use Rattle.std.specs.Prelude.{ℕ, ◌≡◌, ◌<◌, ◌≤◌, ◌⊎◌, ◌==◌, ◌/◌, ◌++◌, zero, suc, Bool, true, false, List, [], ◌∷◌, Option, Some, None, cond, is_some, length, position}
 use Rattle.std.specs.Prelude.{remove}
-use Rattle.std.specs.Option.{option_map, option_and_then}
+use Rattle.std.specs.Option.{option_map, option_and_then, option_or}
 use Rattle.words.specs.Limits.{block_bytes}
 use Rattle.words.specs.declared.entry.Entry.{Entry}
 use Rattle.words.specs.declared.entry.Entry.TheVariants.{Retire, Abort, Trap, Refuse, Spill}
 use Rattle.words.specs.declared.entry.Step.{Step as MachineStep}
-use Rattle.table.specs.Program.{word_at}
-use Rattle.flat.specs.Reads.{is_readable}
+use Rattle.flat.specs.State.{Setting}
 use Rattle.protocol.specs.Caches.{Geometry}
 use Rattle.protocol.specs.Machine.{Machine, Steps}
 use Rattle.machine.specs.Mail.{NumbersOn}
@@ -22,7 +21,8 @@ use Rattle.schedule.specs.Steps.{IsStepOf}
 use Rattle.commands.specs.declared.command.Command.{Command}
 use Rattle.commands.specs.declared.command.Command.TheVariants.{Step, Run, Break, Core, Evict, Deliver, Look, Comment, Quit}
 use Rattle.commands.specs.declared.fault.DebugFault.{DebugFault}
-use Rattle.commands.specs.declared.fault.DebugFault.TheVariants.{NoHart, Address, Stopped, Limit, NoMemory}
+use Rattle.commands.specs.declared.fault.DebugFault.TheVariants.{Stopped, Limit, NoMemory}
+use Rattle.looks.specs.Refusals.{hart_fault, word_fault, text_fault}
 use Rattle.debugger.specs.declared.report.Report.{Report}
 use Rattle.debugger.specs.declared.report.Report.TheVariants as told
 
@@ -93,10 +93,6 @@ RunsInto g most s i pc t =
 
 -- Breakpoints
 
--- a word of text stands at an address, a multiple of 4
-abbrev pub is_text : State → ℕ → Bool
-is_text m b = (b % 4 == 0) && is_some (word_at m.program.segments b)
-
 -- the breakpoint at an address is cleared, where there is one
 abbrev pub Clears : Session → ℕ → Session → Type 0
 Clears s b t = (n : ℕ) × (position (λ a. a == b) s.breakpoints ≡ Some n) × (t ≡ record s { breakpoints = remove s.breakpoints n })
@@ -128,26 +124,22 @@ Chooses g s c other t = ⊥
 
 -- Commands
 
--- a hart is there, and so is a word that can be shown
-abbrev pub IsWordFor : Session → ℕ → ℕ → Type 0
-IsWordFor s h a = (h < (setting_of s.machine).count) × (is_readable (setting_of s.machine) a ≡ true)
+-- the fault of the hart and the address that a command names, the hart's first, if they have one
+abbrev pub place_fault : Setting → Command → Option DebugFault
+place_fault s (Break b) = text_fault s b
+place_fault s (Core h) = hart_fault s h
+place_fault s (Evict h a) = option_or (hart_fault s h) (word_fault s a)
+place_fault s (Deliver sort h a) = option_or (hart_fault s h) (word_fault s a)
+place_fault s other = None
 
--- why a command that isn't a look is refused: it names a hart that isn't there; else an address where no word can be shown or no text stands; or no hart runs
-abbrev pub IsNoHart : Session → ℕ → Type 0
-IsNoHart s h = (setting_of s.machine).count ≤ h
-
-abbrev pub IsNoWord : Session → ℕ → ℕ → Type 0
-IsNoWord s h a = (h < (setting_of s.machine).count) × (is_readable (setting_of s.machine) a ≡ false)
-
+-- why a command that isn't a look is refused: a fault of its places; or no hart runs, for `step`
 abbrev pub IsDeedRefused : ℕ → Session → Command → DebugFault → Type 0
-IsDeedRefused sets s (Core h) NoHart = IsNoHart s h
-IsDeedRefused sets s (Evict h a) NoHart = IsNoHart s h
-IsDeedRefused sets s (Evict h a) Address = IsNoWord s h a
-IsDeedRefused sets s (Deliver sort h a) NoHart = IsNoHart s h
-IsDeedRefused sets s (Deliver sort h a) Address = IsNoWord s h a
-IsDeedRefused sets s (Break b) Address = is_text s.machine b ≡ false
-IsDeedRefused sets s Step Stopped = IsIdle sets s
-IsDeedRefused sets s other fault = ⊥
+IsDeedRefused sets s Step fault = IsIdle sets s × (fault ≡ Stopped)
+IsDeedRefused sets s other fault = place_fault (setting_of s.machine) other ≡ Some fault
+
+-- its places are there
+abbrev pub IsPlaced : Session → Command → Type 0
+IsPlaced s command = place_fault (setting_of s.machine) command ≡ None
 
 -- how many turns `step` waits for an entry
 abbrev pub patience : ℕ
@@ -161,7 +153,7 @@ most_breakpoints = 16
 abbrev pub IsLimited : Geometry → Session → Command → Session → Type 0
 IsLimited g s Step t = (n : ℕ) × (n ≡ patience) × Waits g n s t
 IsLimited g s (Run n) t = RunsOn g n s t × (IsIdle g.sets t → ⊥)
-IsLimited g s (Break b) t = (is_text s.machine b ≡ true) × (has_breakpoint s.breakpoints b ≡ false) × (length s.breakpoints ≡ most_breakpoints) × (t ≡ s)
+IsLimited g s (Break b) t = IsPlaced s (Break b) × (has_breakpoint s.breakpoints b ≡ false) × (length s.breakpoints ≡ most_breakpoints) × (t ≡ s)
 IsLimited g s other t = ⊥
 
 -- a command ends for want of memory: some of its turns were made
@@ -184,11 +176,11 @@ abbrev pub Does : Geometry → Session → Command → Report → Session → Ty
 Does g s Step (told.Entry e) t = (IsIdle g.sets s → ⊥) × StepsTo g patience s e t
 Does g s (Run n) (told.Stopped) t = RunsOut g n s t
 Does g s (Run n) (told.Broke i pc) t = RunsInto g n s i pc t
-Does g s (Break b) (told.Set place) t = (place ≡ b) × (is_text s.machine b ≡ true) × Sets s b t
-Does g s (Break b) (told.Cleared place) t = (place ≡ b) × (is_text s.machine b ≡ true) × Clears s b t
-Does g s (Core h) report t = (h < (setting_of s.machine).count) × Chooses g s (choice.Core h) report t
-Does g s (Evict h a) report t = IsWordFor s h a × Chooses g s (choice.Evict h (a / block_bytes)) report t
-Does g s (Deliver sort h a) report t = IsWordFor s h a × Chooses g s (choice.Deliver (name sort h (a / block_bytes))) report t
+Does g s (Break b) (told.Set place) t = (place ≡ b) × IsPlaced s (Break b) × Sets s b t
+Does g s (Break b) (told.Cleared place) t = (place ≡ b) × IsPlaced s (Break b) × Clears s b t
+Does g s (Core h) report t = IsPlaced s (Core h) × Chooses g s (choice.Core h) report t
+Does g s (Evict h a) report t = IsPlaced s (Evict h a) × Chooses g s (choice.Evict h (a / block_bytes)) report t
+Does g s (Deliver sort h a) report t = IsPlaced s (Deliver sort h a) × Chooses g s (choice.Deliver (name sort h (a / block_bytes))) report t
 Does g s (Look l) (told.Silence) t = t ≡ s
 Does g s Comment (told.Silence) t = t ≡ s
 Does g s Quit (told.Silence) t = t ≡ s

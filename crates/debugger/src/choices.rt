@@ -7,11 +7,11 @@ ghost use Rattle.commands.specs.declared.fault.DebugFault.{DebugFault as Fault};
 ghost use Rattle.commands.specs.declared.fault.DebugFault.TheVariants.{NoMemory};
 ghost use Rattle.debugger.specs.Sessions.{Chooses, Does, Fails, IsDeedRefused};
 
-use crate::places::{hart_of, text_at, word_at};
 use crate::report::Report;
 use crate::session::Session;
 use crate::turns::place_of;
 use commands::DebugFault;
+use looks::{hart_of, text_at, word_at};
 use machine::hart_after;
 use schedule::{Choice, Name, Sort};
 

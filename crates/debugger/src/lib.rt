@@ -6,7 +6,6 @@
 mod answer;
 mod choices;
 mod command;
-mod places;
 mod report;
 mod session;
 mod tell;

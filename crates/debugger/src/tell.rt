@@ -5,9 +5,7 @@ ghost use Rattle.debugger.specs.Texts as spec;
 ghost use Rattle.debugger.specs.Texts.{IsTextOf};
 
 use crate::report::Report;
-use arrayvec::ArrayString;
-use itoa::Buffer;
-use lines::{message_text, put_entry};
+use lines::{hart_text, message_text, put_entry};
 use machine::Machine;
 use network::Flight;
 use texts::{hexadecimal, put_all};
@@ -82,16 +80,6 @@ fn put_made<const SETS: usize, const WAYS: usize, S: Sink>(
     } else {
         put_sent_from(machine, keys, from, sink)
     }
-}
-
-/// A hart's number.
-fn hart_text(hart: HartId) -> ArrayString<3>
-    ensures { result.bytes ≡ decimal hart }
-{
-    let mut digits = Buffer::new();
-    let mut text = ArrayString::new();
-    text.push_str(digits.format(hart.index() as u8));
-    text
 }
 
 /// Puts that a hart has come to a breakpoint.

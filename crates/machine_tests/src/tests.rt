@@ -1,5 +1,6 @@
 mod checks;
 mod moves;
 mod rows;
+mod script;
 mod sharing;
 mod traps;

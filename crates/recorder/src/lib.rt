@@ -4,6 +4,3 @@
 mod recording;
 
 pub use recording::{Recorder, put_trace};
-
-#[cfg(test)]
-mod tests;

@@ -12,6 +12,3 @@ pub use lines::{ScheduleFault, read};
 pub use playing::follow;
 pub use spelling::{choice, one_word, sort_of, split, three_words, two_words};
 pub use step::name_of;
-
-#[cfg(test)]
-mod tests;

@@ -4,3 +4,4 @@ pub mod Starting
 pub mod Refusing
 pub mod Performing
 pub mod Quoting
+mod TracedRuns

@@ -13,6 +13,8 @@ use Rattle.flat.specs.BootFaults.{boot_fault_number, boot_fault_name}
 use Rattle.source_operands.specs.Faults.{fault_number as asm_number, fault_name as asm_name}
 use Rattle.schedule.specs.declared.lines.ScheduleFault.{ScheduleFault}
 use Rattle.schedule.specs.declared.lines.ScheduleFault.TheVariants as schedule
+use Rattle.watch.specs.declared.halt.Halt.{Halt}
+use Rattle.watch.specs.declared.halt.Halt.TheVariants as halt
 use Rattle.simulate.specs.Quotes.{quotation}
 use Rattle.simulate.specs.Reports.{line_end}
 use Rattle.simulate.specs.declared.fault.Fault.{Fault}
@@ -104,3 +106,8 @@ of_boot boot.NoMemory = NoMemory
 abbrev pub of_schedule : ScheduleFault → Fault
 of_schedule (schedule.Line number) = Schedule number
 of_schedule schedule.NoMemory = NoMemory
+
+-- the fault of a run whose entries are put, likewise
+abbrev pub of_halt : Halt → Fault
+of_halt halt.NoMemory = NoMemory
+of_halt halt.Untold = Unwritten

@@ -9,6 +9,8 @@ pub mod Statuses
 pub mod Runs
 pub mod Unreadable
 pub mod Starts
+pub mod Begins
+pub mod Traced
 pub mod Orders
 pub mod Answers
 pub mod Refusals

@@ -1,5 +1,5 @@
 -- A line of a source, as the user is shown it.
-use Rattle.std.specs.Prelude.{ℕ, zero, suc, ◌==◌, ◌&&◌, ◌||◌, nat_le, cond, List, [], ◌∷◌, ◌++◌, map, take, slice_get, Option, Some, None}
+use Rattle.std.specs.Prelude.{ℕ, zero, suc, ◌==◌, ◌&&◌, ◌||◌, nat_le, cond, List, [], ◌++◌, map, take, slice_get, Option, Some, None}
 use Rattle.std.specs.Str.Lines.{strip_carriage_return}
 use Rattle.assembler.specs.Passes.{lines}
 use Rattle.simulate.specs.Reports.{line_end}

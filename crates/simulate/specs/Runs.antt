@@ -19,8 +19,8 @@ use Rattle.simulate.specs.Sources.{IsProgramIn}
 use Rattle.simulate.specs.Statuses.{IsStatusOf}
 
 -- the file with this name and these bytes has a program, which boots; so many steps, those that a list chooses and then turns, lead from the machine that it begins in to another, or
--- fewer if there are no more; and their entries, as a run of the flat machine, lead from the program's first state to this one
-pub record ComesTo (path file list : List ℕ) (cache : Geometry) (harts memory steps : ℕ) (f : Flat) : Type 0 where
+-- fewer if there are no more; and their entries, which are these, lead as a run of the flat machine from the program's first state to this one
+pub record ComesBy (path file list : List ℕ) (cache : Geometry) (harts memory steps : ℕ) (entries : List Entry) (f : Flat) : Type 0 where
   pub program : Program
   pub holds : IsProgramIn path file program
   pub boots : boot_fault program.segments harts memory ≡ None
@@ -29,9 +29,12 @@ pub record ComesTo (path file list : List ℕ) (cache : Geometry) (harts memory 
   pub choices : List Choice
   pub chosen : AreChosenBy list choices
   pub last : State
-  pub entries : List Entry
   pub made : Follows cache choices steps first ((setting_of first).count - 1) entries last
   pub run : IsRun (booted program.segments program.entry harts memory) entries f
+
+-- some entries lead there
+abbrev pub ComesTo : List ℕ → List ℕ → List ℕ → Geometry → ℕ → ℕ → ℕ → Flat → Type 0
+ComesTo path file list cache harts memory steps f = (entries : List Entry) × ComesBy path file list cache harts memory steps entries f
 
 -- the addresses of the words that are to be shown
 abbrev pub addresses : List Word → List ℕ

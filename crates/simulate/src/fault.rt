@@ -1,5 +1,5 @@
 ghost use Rattle.std.specs.Prelude.{◌≡◌};
-ghost use Rattle.simulate.specs.Faults.{fault_status, fault_text, line, refusal_line, refused_text, refused_line, unspelled_text, of_order, of_load, of_boot, of_schedule};
+ghost use Rattle.simulate.specs.Faults.{fault_status, fault_text, line, refusal_line, refused_text, refused_line, unspelled_text, of_order, of_load, of_boot, of_schedule, of_halt};
 ghost use Rattle.simulate.specs.Sinks.{IsPut};
 ghost use Rattle.texts.specs.Puts.{Puts};
 ghost use Rattle.simulate.specs.declared.fault.Fault.TheVariants.{NoMemory, Unwritten};
@@ -13,6 +13,7 @@ use loader::LoadFault;
 use schedule::ScheduleFault;
 use std::alloc::{AllocError, AllocFailed};
 use texts::put_all;
+use watch::Halt;
 use words::{Sink, SinkFault};
 
 /// A line of a source that is refused.
@@ -214,6 +215,17 @@ impl<'a> From<ScheduleFault> for Fault<'a> {
         match fault {
             ScheduleFault::Line(line) => Fault::Schedule(line),
             ScheduleFault::NoMemory => Fault::NoMemory,
+        }
+    }
+}
+
+impl<'a> From<Halt> for Fault<'a> {
+    ghost from_gives = { λ x e. e ≡ of_halt x };
+
+    fn from(halt: Halt) -> Fault<'a> {
+        match halt {
+            Halt::NoMemory => Fault::NoMemory,
+            Halt::Untold => Fault::Unwritten,
         }
     }
 }

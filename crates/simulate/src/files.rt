@@ -1,12 +1,13 @@
 use crate::debugging::play;
 use crate::fault::Fault;
 use crate::perform::perform;
-use command_line::{Debug, Order, Request, parse};
+use crate::tracing::{Page, trace_apart, trace_before};
+use command_line::{Debug, Order, Request, Run, Target, Traced, parse};
 use console::LineInput;
 use std::fs;
 use std::io::{BufWriter, ErrorKind, Write};
 use std::rt::Files;
-use words::{Counted, Sink};
+use words::{Counted, Sink, SinkFault};
 
 /// Answers the words of a command line, the program's name first: reads the files that it names, has the order performed, and writes the
 /// file that it asks for; or has the lines of an input debug a program, each asked for by a prompt. It gives the status that the program ends with.
@@ -35,6 +36,7 @@ fn try_answer<'a, R: Files + AllocGlobal, I: LineInput, W: Write + Drop, E: Sink
 ) -> Result<u8, Fault<'a>> {
     match parse(rt.alloc(), words)? {
         Request::Order(order) => carry_out(rt, &order, out, error),
+        Request::Traced(traced) => trace(rt, &traced, out, error),
         Request::Debug(debug) => debug_file(rt, &debug, input, prompt, out, error),
     }
 }
@@ -69,13 +71,8 @@ fn carry_out<'a, R: Files + AllocGlobal, W: Write + Drop, E: Sink>(
     error: &mut E,
 ) -> Result<u8, Fault<'a>> {
     let bytes = read(rt, order.path())?;
-    let list = match order.schedule() {
-        Some(path) => read(rt, path)?,
-        None => Vec::new(rt.alloc()),
-    };
-    let Ok(writer) = BufWriter::new(rt.alloc(), out) else {
-        return Err(Fault::NoMemory);
-    };
+    let list = read_if_any(rt, order.schedule())?;
+    let writer = buffered(rt, out)?;
     let mut out = Counted { writer, failed: 0 };
     let outcome = perform(rt.alloc(), order, &bytes, &list, &mut out, error);
     let Counted {
@@ -90,6 +87,123 @@ fn carry_out<'a, R: Files + AllocGlobal, W: Write + Drop, E: Sink>(
         write(rt, target, image)?;
     }
     Ok(outcome.status)
+}
+
+/// Has a run performed, and its trace written to where it is to go.
+fn trace<'a, R: Files + AllocGlobal, W: Write + Drop, E: Sink>(
+    rt: &R,
+    traced: &Traced<'a>,
+    out: W,
+    error: &mut E,
+) -> Result<u8, Fault<'a>> {
+    let run = &traced.run;
+    let bytes = read(rt, run.file)?;
+    let list = read_if_any(rt, run.schedule)?;
+    let writer = buffered(rt, out)?;
+    match traced.target {
+        Target::Output => trace_out(rt, run, &bytes, &list, writer, error),
+        Target::File(path) => trace_into(rt, run, path, &bytes, &list, writer, error),
+    }
+}
+
+/// The same where the trace goes to standard output.
+fn trace_out<'a, R: AllocGlobal, W: Write + Drop, E: Sink>(
+    rt: &R,
+    run: &Run<'a>,
+    bytes: &[u8],
+    list: &[u8],
+    writer: BufWriter<W>,
+    error: &mut E,
+) -> Result<u8, Fault<'a>> {
+    let mut out = Counted { writer, failed: 0 };
+    let status = trace_before(rt.alloc(), run, bytes, list, &mut out, error);
+    let Counted { writer, failed: _ } = out;
+    write_out(writer, status)
+}
+
+/// The same where it goes to a file, which is made before the program is booted.
+fn trace_into<'a, R: Files + AllocGlobal, W: Write + Drop, E: Sink>(
+    rt: &R,
+    run: &Run<'a>,
+    path: &'a str,
+    bytes: &[u8],
+    list: &[u8],
+    writer: BufWriter<W>,
+    error: &mut E,
+) -> Result<u8, Fault<'a>> {
+    let file = buffered(rt, make(rt, path)?)?;
+    let mut page = Counted {
+        writer: file,
+        failed: 0,
+    };
+    let mut out = Counted { writer, failed: 0 };
+    let status = trace_apart(
+        rt.alloc(),
+        run,
+        path,
+        bytes,
+        list,
+        &mut page,
+        &mut out,
+        error,
+    );
+    let Counted {
+        writer: mut file,
+        failed: _,
+    } = page;
+    let Counted { writer, failed: _ } = out;
+    // Where memory ran out, lines that were put may still stand in the buffer.
+    let _ = file.flush();
+    write_out(writer, status)
+}
+
+/// Writes out what may still stand in the buffer: the report, or what was put before memory ran out. It answers the status.
+fn write_out<'a, W: Write + Drop>(mut writer: BufWriter<W>, status: u8) -> Result<u8, Fault<'a>> {
+    let flushed = writer.flush();
+    match status {
+        0 | 1 | 5 if flushed.is_err() => Err(Fault::Unwritten),
+        _ => Ok(status),
+    }
+}
+
+impl<W: Write> Page for Counted<W> {
+    fn flush(&mut self) -> Result<(), SinkFault> {
+        match self.writer.flush() {
+            Ok(()) => Ok(()),
+            Err(_) => {
+                self.failed = self.failed.saturating_add(1);
+                Err(SinkFault)
+            }
+        }
+    }
+}
+
+fn buffered<'a, R: AllocGlobal, W: Write + Drop>(
+    rt: &R,
+    writer: W,
+) -> Result<BufWriter<W>, Fault<'a>> {
+    match BufWriter::new(rt.alloc(), writer) {
+        Ok(writer) => Ok(writer),
+        Err(_) => Err(Fault::NoMemory),
+    }
+}
+
+fn make<'a, R: Files + AllocGlobal>(rt: &R, file: &'a str) -> Result<R::File, Fault<'a>> {
+    match fs::create(rt, file) {
+        Ok(made) => Ok(made),
+        Err(error) if error.kind() == ErrorKind::OutOfMemory => Err(Fault::NoMemory),
+        Err(_) => Err(Fault::Unmade(file)),
+    }
+}
+
+fn read_if_any<'a, R: Files + AllocGlobal>(
+    rt: &R,
+    file: Option<&'a str>,
+) -> Result<Vec<u8>, Fault<'a>> {
+    match file {
+        Some(path) => read(rt, path),
+        None => Ok(Vec::new(rt.alloc())),
+    }
 }
 
 fn read<'a, R: Files + AllocGlobal>(rt: &R, file: &'a str) -> Result<Vec<u8>, Fault<'a>> {

@@ -10,8 +10,7 @@ mod readable;
 mod report;
 mod source;
 mod status;
-#[cfg(test)]
-mod tests;
+pub mod tracing;
 
 pub use fault::{Fault, RefusedLine};
 pub use files::answer;

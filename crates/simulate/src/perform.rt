@@ -4,6 +4,7 @@ ghost use Rattle.loader.specs.Programs.{Program};
 ghost use Rattle.loader.specs.Writing.{elf_of};
 ghost use Rattle.machine.specs.States.{geometry};
 ghost use Rattle.simulate.specs.Orders.{geometry_of};
+ghost use Rattle.simulate.specs.Begins.{IsBegunBy};
 ghost use Rattle.simulate.specs.Answers.{IsAnswerTo, IsListingOf, IsImageFor, AsksForFile, IsGiven, IsCut};
 ghost use Rattle.simulate.specs.Refusals.{IsFaultOf, IsListingFault, IsRunFault, IsTold};
 ghost use Rattle.simulate.specs.Runs.{IsReportOf};
@@ -22,9 +23,9 @@ use command_line::{Cache, Order, Run};
 use disassembler::listing;
 use loader::{read_elf, write_elf};
 use machine::Machine;
-use schedule::follow;
+use schedule::{Choice, follow};
 use std::alloc::Global;
-use words::Sink;
+use words::{Addr, Sink};
 
 /// What came of an order.
 #[derive(Debug, Drop)]
@@ -173,13 +174,49 @@ fn run_on<'a, const SETS: usize, const WAYS: usize, S: Sink>(
     ensures refused { IfErr result (λ fault. fault ≢ Unwritten → IsUntouched (S.taken out.old) (S.taken out.new) (S.failed out.old) (S.failed out.new)) }
     ensures why { IfErr result (IsRunFault run.now file.now schedule.now) }
 {
-    let mut machine: Machine<SETS, WAYS> = boot(alloc, run.file, file, run.harts, run.memory)?;
-    let addrs = readable(alloc, &machine, &run.words)?;
-    let choices = choices_in(alloc, schedule)?;
+    let Begun {
+        mut machine,
+        addrs,
+        choices,
+    } = begin::<SETS, WAYS>(alloc, run, file, schedule)?;
     follow(&mut machine, &choices, run.steps)?;
     let status = status(&machine);
     report(&machine, &addrs, out)?;
     Ok(status)
+}
+
+/// What there is before the first step of a run.
+#[derive(Drop)]
+pub(crate) struct Begun<const SETS: usize, const WAYS: usize> {
+    pub(crate) machine: Machine<SETS, WAYS>,
+    /// The addresses of the words to show.
+    pub(crate) addrs: Vec<Addr>,
+    /// The choices of the first steps.
+    pub(crate) choices: Vec<Choice>,
+}
+
+/// Begins a run of the program in a file.
+pub(crate) fn begin<'a, const SETS: usize, const WAYS: usize>(
+    alloc: Global,
+    run: &Run<'a>,
+    file: &'a [u8],
+    schedule: &[u8],
+) -> Result<Begun<SETS, WAYS>, Fault<'a>>
+    requires sets { 0 < SETS }
+    requires ways { 0 < WAYS }
+    requires lines { SETS * WAYS < 2 ^ 32 }
+    ensures begun { IfOk result (λ b. IsBegunBy (geometry SETS WAYS) run.now file.now schedule.now b.machine b.addrs.items b.choices.items) }
+    ensures why { IfErr result (IsRunFault run.now file.now schedule.now) }
+    ensures unput { IfErr result (λ fault. fault ≢ Unwritten) }
+{
+    let machine: Machine<SETS, WAYS> = boot(alloc, run.file, file, run.harts, run.memory)?;
+    let addrs = readable(alloc, &machine, &run.words)?;
+    let choices = choices_in(alloc, schedule)?;
+    Ok(Begun {
+        machine,
+        addrs,
+        choices,
+    })
 }
 
 /// The machine that the program in a file begins in.

@@ -4,8 +4,6 @@
 mod cells;
 mod counting;
 mod kinds;
-#[cfg(test)]
-mod tests;
 
 pub use cells::Counts;
 pub use counting::{Counter, count_run};

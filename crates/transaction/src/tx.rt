@@ -11,9 +11,6 @@ use std::marker::Model;
 use undo_log::{LogFull, UndoLog};
 use words::{AbortCause, Addr, Block, BlockNo, Regs, Stamp};
 
-#[cfg(test)]
-mod tests;
-
 /// How deep transactions nest at most.
 pub const DEPTHS: u8 = 255;
 

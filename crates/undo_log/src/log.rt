@@ -11,9 +11,6 @@ use std::fmt;
 use std::marker::Model;
 use words::{Addr, Block, BlockNo, LOG_BYTES, LOG_RECORDS};
 
-#[cfg(test)]
-mod tests;
-
 /// The log holds its greatest number of records.
 #[derive(Clone, Copy, Debug, PartialEq, Eq)]
 pub struct LogFull;

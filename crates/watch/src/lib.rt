@@ -8,6 +8,3 @@ mod watcher;
 pub use following::follow_watched;
 pub use halt::Halt;
 pub use watcher::{WatchFault, Watcher};
-
-#[cfg(test)]
-mod tests;

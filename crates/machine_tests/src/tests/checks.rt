@@ -1,11 +1,11 @@
 //! What the tests ask of a machine and of its entries.
 
-use super::moves::{Name, find};
+use super::moves::{Name, find, name_of};
 use directory::DirEntry;
 use machine::{Machine, TxInfo};
 use machine_play::{block, entry, line, log_word, peek, place, raw, regs, tx, used, view};
 use std::process::Abort;
-use words::{Addr, Entry, HartId, LineState, Marks, Message, Status};
+use words::{AbortCause, Addr, Entry, HartId, LineState, Marks, Message, Status};
 
 /// That there are so many of what is counted.
 pub fn check_count(rt: &impl Abort, found: usize, want: usize) {
@@ -203,4 +203,89 @@ pub fn check_carried<const SETS: usize, const WAYS: usize>(
 ) {
     assert!(rt; find(machine, name).is_some());
     assert_eq!(rt; carried(machine, name), want);
+}
+
+/// How many entries there are of a word that was retired, of a line given up, and others.
+pub fn counts(entries: &[Entry]) -> (usize, usize, usize) {
+    let (mut retired, mut spilled, mut others): (usize, usize, usize) = (0, 0, 0);
+    for entry in entries {
+        match entry {
+            Entry::Retire { .. } => retired = retired.saturating_add(1),
+            Entry::Spill { .. } => spilled = spilled.saturating_add(1),
+            _ => others = others.saturating_add(1),
+        }
+    }
+    (retired, spilled, others)
+}
+
+/// That there are so many of each.
+pub fn check_counts(rt: &impl Abort, entries: &[Entry], want: (usize, usize, usize)) {
+    assert_eq!(rt; counts(entries), want);
+}
+
+/// That so many words were retired.
+pub fn check_retired(rt: &impl Abort, entries: &[Entry], want: usize) {
+    let (retired, _, _) = counts(entries);
+    check_count(rt, retired, want);
+}
+
+/// That the first words of 113 blocks from 0x2000 on are 113, 112 and so on, once all running transactions are rolled back.
+pub fn check_logged_words<const SETS: usize, const WAYS: usize>(
+    rt: &impl Abort,
+    machine: &Machine<SETS, WAYS>,
+) {
+    for k in 0..113 {
+        check_word(rt, machine, 0x2000 + 32 * k, Some(113 - k));
+    }
+}
+
+/// That those of 114 blocks are 0.
+pub fn check_undone_words<const SETS: usize, const WAYS: usize>(
+    rt: &impl Abort,
+    machine: &Machine<SETS, WAYS>,
+) {
+    for k in 0..114 {
+        check_word(rt, machine, 0x2000 + 32 * k, Some(0));
+    }
+}
+
+/// That the log of hart 0 in a megabyte begins with the record of the block at 0x2000, whose words were 0.
+pub fn check_first_record<const SETS: usize, const WAYS: usize>(
+    rt: &impl Abort,
+    machine: &Machine<SETS, WAYS>,
+) {
+    check_log(rt, machine, 0xf_f000, Some(0x2000));
+    for k in 1..9 {
+        check_log(rt, machine, 0xf_f000 + 4 * k, Some(0));
+    }
+}
+
+/// Whether a hart's transaction has refused an earlier one, and why it is being aborted.
+fn flags<const SETS: usize, const WAYS: usize>(
+    machine: &Machine<SETS, WAYS>,
+    hart: HartId,
+) -> Option<(bool, Option<AbortCause>)> {
+    let tx = tx(machine, hart)?;
+    Some((tx.cycle, tx.aborting))
+}
+
+/// That a hart's transaction has refused an earlier one or not, and that it is being aborted for this cause or goes on.
+pub fn check_flags<const SETS: usize, const WAYS: usize>(
+    rt: &impl Abort,
+    machine: &Machine<SETS, WAYS>,
+    hart: HartId,
+    cycle: bool,
+    aborting: Option<AbortCause>,
+) {
+    assert_eq!(rt; flags(machine, hart), Some((cycle, aborting)));
+}
+
+/// That this is the oldest message of its name.
+pub fn check_oldest<const SETS: usize, const WAYS: usize>(
+    rt: &impl Abort,
+    machine: &Machine<SETS, WAYS>,
+    message: Message,
+) {
+    let found = find(machine, name_of(&message)).map(|(_, found)| found);
+    assert!(rt; found == Some(message));
 }

@@ -2,8 +2,9 @@
 
 ghost use Rattle.std.specs.Prelude.{◌≤◌, IfOk};
 
+use super::checks::counts;
 use machine::Machine;
-use machine_play::{make, message, next_message, next_turn};
+use machine_play::{make, message, next_message, next_turn, zero};
 use std::alloc::AllocError;
 use std::test::Fail;
 use words::{Entry, HartId, Message, Step};
@@ -21,7 +22,7 @@ pub enum Name {
     Nack,
 }
 
-fn name_of(message: &Message) -> Name {
+pub fn name_of(message: &Message) -> Name {
     match message {
         Message::Get { .. } => Name::Get,
         Message::Put { .. } => Name::Put,
@@ -154,6 +155,32 @@ pub fn take_turns<const SETS: usize, const WAYS: usize>(
             last = hart;
         }
         make(machine, turn, entries)?;
+    }
+    Ok(())
+}
+
+/// A core goes on, and all messages arrive.
+pub fn ask<const SETS: usize, const WAYS: usize>(
+    machine: &mut Machine<SETS, WAYS>,
+    hart: HartId,
+    entries: &mut Vec<Entry>,
+) -> Result<(), AllocError> {
+    make(machine, Step::Core(hart), entries)?;
+    settle(machine, entries)?;
+    Ok(())
+}
+
+/// A machine goes on until hart 0 aborts, or a thousand entries are given.
+pub fn go_to_an_abort<const SETS: usize, const WAYS: usize>(
+    machine: &mut Machine<SETS, WAYS>,
+    entries: &mut Vec<Entry>,
+) -> Result<(), AllocError> {
+    for _ in 0..1000 {
+        let (_, _, others) = counts(entries);
+        if others == 1 {
+            break;
+        }
+        go(machine, zero(), 1, entries)?;
     }
     Ok(())
 }

@@ -1,18 +1,13 @@
 //! One hart, turn by turn.
 
-use super::checks::{
-    check_count, check_directory, check_entry, check_events, check_hart, check_last, check_line,
-    check_log, check_place, check_register, check_tx, check_used, check_view, check_word,
-};
-use super::moves::{go, settle};
+use super::checks::check_events;
+use super::script::{Act, Fact, play_all, play_small};
 use directory::{DirEntry, Owner};
 use elf_samples::{ABORTS, COMMITS, EXIT};
-use machine::{Machine, TxInfo};
+use machine::TxInfo;
 use machine_play::{
-    LARGE, LOADS_AND_STORES, SIZE, SPILLS, STORES_113, STORES_114, STORES_ONCE, all_stopped, block,
-    booted, make, place, zero,
+    LARGE, LOADS_AND_STORES, SIZE, SPILLS, STORES_113, STORES_114, STORES_ONCE, block, place, zero,
 };
-use std::process::Abort;
 use std::test::Fail;
 use words::{
     AbortCause, Access, Addr, BlockNo, Entry, HartSet, LineState, Marks, Reg, Stamp, Status, Step,
@@ -76,55 +71,6 @@ fn modified(written: bool) -> Option<(LineState, Marks)> {
     Some((LineState::Modified, marks))
 }
 
-#[test]
-fn a_transaction_stores_in_place(rt: HostRuntime) -> Result<(), Fail> {
-    let mut machine = booted::<16, 4>(rt.alloc(), &COMMITS, 1, SIZE)?;
-    let mut entries = Vec::new(rt.alloc());
-    go(&mut machine, zero(), 4, &mut entries)?;
-    check_entry(&rt, &entries, 3, stored(0x100c, 0x0062_a023, 7));
-    check_place(&rt, &machine, 7, 0);
-    check_view(&rt, &machine, zero(), 7);
-    check_line(&rt, &machine, zero(), modified(true));
-    check_used(&rt, &machine, 1);
-    check_directory(&rt, &machine, owned_by_zero());
-    check_tx(&rt, &machine, zero(), running(1, false));
-    Ok(())
-}
-
-#[test]
-fn a_transaction_commits(rt: HostRuntime) -> Result<(), Fail> {
-    let mut machine = booted::<16, 4>(rt.alloc(), &COMMITS, 1, SIZE)?;
-    let mut entries = Vec::new(rt.alloc());
-    let commit = go(&mut machine, zero(), 5, &mut entries)?;
-    check_place(&rt, &machine, 7, 7);
-    check_tx(&rt, &machine, zero(), None);
-    check_line(&rt, &machine, zero(), modified(false));
-    let after = go(&mut machine, zero(), 100, &mut entries)?;
-    check_events(&rt, &entries, &[None; 8]);
-    check_count(&rt, commit + after, 12);
-    check_hart(&rt, &machine, zero(), Addr::new(0x1020), Status::Exited(0));
-    Ok(())
-}
-
-#[test]
-fn a_transaction_is_rolled_back(rt: HostRuntime) -> Result<(), Fail> {
-    let mut machine = booted::<16, 4>(rt.alloc(), &ABORTS, 1, SIZE)?;
-    let mut entries = Vec::new(rt.alloc());
-    go(&mut machine, zero(), 5, &mut entries)?;
-    check_hart(&rt, &machine, zero(), Addr::new(0x1014), Status::Running);
-    check_register(&rt, &machine, zero(), 5, 0);
-    check_register(&rt, &machine, zero(), 6, 0);
-    check_place(&rt, &machine, 0, 0);
-    go(&mut machine, zero(), 100, &mut entries)?;
-    let abort = Some(aborted(AbortCause::Asked));
-    check_events(
-        &rt,
-        &entries,
-        &[None, None, None, None, abort, None, None, None],
-    );
-    Ok(())
-}
-
 fn spill(block: u32) -> Option<Entry> {
     Some(Entry::Spill {
         hart: zero(),
@@ -133,27 +79,78 @@ fn spill(block: u32) -> Option<Entry> {
 }
 
 #[test]
+fn a_transaction_stores_in_place(rt: HostRuntime) -> Result<(), Fail> {
+    let script = [
+        Act::Go(zero(), 4),
+        Act::See(Fact::Entry(3, stored(0x100c, 0x0062_a023, 7))),
+        Act::See(Fact::Place(7, 0)),
+        Act::See(Fact::View(zero(), 7)),
+        Act::See(Fact::Line(zero(), modified(true))),
+        Act::See(Fact::Used(1)),
+        Act::See(Fact::Directory(owned_by_zero())),
+        Act::See(Fact::Tx(zero(), running(1, false))),
+    ];
+    play_all(&rt, &COMMITS, 1, SIZE, &script)?;
+    Ok(())
+}
+
+#[test]
+fn a_transaction_commits(rt: HostRuntime) -> Result<(), Fail> {
+    let script = [
+        Act::Go(zero(), 5),
+        Act::See(Fact::Place(7, 7)),
+        Act::See(Fact::Tx(zero(), None)),
+        Act::See(Fact::Line(zero(), modified(false))),
+        Act::Go(zero(), 100),
+        Act::See(Fact::Steps(12)),
+        Act::See(Fact::Hart(zero(), Addr::new(0x1020), Status::Exited(0))),
+    ];
+    let entries = play_all(&rt, &COMMITS, 1, SIZE, &script)?;
+    check_events(&rt, &entries, &[None; 8]);
+    Ok(())
+}
+
+#[test]
+fn a_transaction_is_rolled_back(rt: HostRuntime) -> Result<(), Fail> {
+    let script = [
+        Act::Go(zero(), 5),
+        Act::See(Fact::Hart(zero(), Addr::new(0x1014), Status::Running)),
+        Act::See(Fact::Register(zero(), 5, 0)),
+        Act::See(Fact::Register(zero(), 6, 0)),
+        Act::See(Fact::Place(0, 0)),
+        Act::Go(zero(), 100),
+    ];
+    let entries = play_all(&rt, &ABORTS, 1, SIZE, &script)?;
+    let abort = Some(aborted(AbortCause::Asked));
+    let want = [None, None, None, None, abort, None, None, None];
+    check_events(&rt, &entries, &want);
+    Ok(())
+}
+
+#[test]
 fn a_spilled_block_is_logged(rt: HostRuntime) -> Result<(), Fail> {
-    let mut machine = booted::<2, 1>(rt.alloc(), &SPILLS, 1, LARGE)?;
-    let mut entries = Vec::new(rt.alloc());
-    go(&mut machine, zero(), 9, &mut entries)?;
-    check_place(&rt, &machine, 9, 0);
-    check_tx(&rt, &machine, zero(), running(2, true));
-    // The block's address, and the word at its beginning before the first store and before the second.
-    check_log(&rt, &machine, 0xf_f000, Some(0x2000));
-    check_log(&rt, &machine, 0xf_f004, Some(0));
-    check_log(&rt, &machine, 0xf_f024, Some(0x2000));
-    check_log(&rt, &machine, 0xf_f028, Some(7));
+    let script = [
+        Act::Go(zero(), 9),
+        Act::See(Fact::Place(9, 0)),
+        Act::See(Fact::Tx(zero(), running(2, true))),
+        // The block's address, and the word at its beginning before the first store and before the second.
+        Act::See(Fact::Log(0xf_f000, Some(0x2000))),
+        Act::See(Fact::Log(0xf_f004, Some(0))),
+        Act::See(Fact::Log(0xf_f024, Some(0x2000))),
+        Act::See(Fact::Log(0xf_f028, Some(7))),
+    ];
+    play_small(&rt, &SPILLS, 1, LARGE, &script)?;
     Ok(())
 }
 
 #[test]
 fn a_spilled_block_is_rolled_back(rt: HostRuntime) -> Result<(), Fail> {
-    let mut machine = booted::<2, 1>(rt.alloc(), &SPILLS, 1, LARGE)?;
-    let mut entries = Vec::new(rt.alloc());
-    go(&mut machine, zero(), 10, &mut entries)?;
-    check_place(&rt, &machine, 0, 0);
-    go(&mut machine, zero(), 100, &mut entries)?;
+    let script = [
+        Act::Go(zero(), 10),
+        Act::See(Fact::Place(0, 0)),
+        Act::Go(zero(), 100),
+    ];
+    let entries = play_small(&rt, &SPILLS, 1, LARGE, &script)?;
     let want = [
         None,
         None,
@@ -173,155 +170,123 @@ fn a_spilled_block_is_rolled_back(rt: HostRuntime) -> Result<(), Fail> {
     Ok(())
 }
 
-/// How many entries there are of a word that was retired, of a line given up, and others.
-fn counts(entries: &[Entry]) -> (usize, usize, usize) {
-    let (mut retired, mut spilled, mut others): (usize, usize, usize) = (0, 0, 0);
-    for entry in entries {
-        match entry {
-            Entry::Retire { .. } => retired = retired.saturating_add(1),
-            Entry::Spill { .. } => spilled = spilled.saturating_add(1),
-            _ => others = others.saturating_add(1),
-        }
-    }
-    (retired, spilled, others)
-}
-
 #[test]
 fn a_log_has_113_records(rt: HostRuntime) -> Result<(), Fail> {
-    let mut machine = booted::<16, 4>(rt.alloc(), &STORES_113, 1, SIZE)?;
-    let mut entries = Vec::new(rt.alloc());
-    go(&mut machine, zero(), 1000, &mut entries)?;
-    // Three instructions, four for each store, the commit, and three more; a spill for each block that the cache has no room for.
-    assert_eq!(rt; counts(&entries), (3 + 4 * 113 + 4, 113 - 64, 0));
-    for k in 0..113 {
-        check_word(&rt, &machine, 0x2000 + 32 * k, Some(113 - k));
-    }
-    Ok(())
-}
-
-/// A machine goes on until hart 0 aborts, or a thousand entries are given.
-fn go_to_an_abort(machine: &mut Machine<16, 4>, entries: &mut Vec<Entry>) -> Result<(), Fail> {
-    for _ in 0..1000 {
-        let (_, _, others) = counts(entries);
-        if others == 1 {
-            break;
-        }
-        go(machine, zero(), 1, entries)?;
-    }
+    let script = [
+        Act::Go(zero(), 1000),
+        // Three instructions, four for each store, the commit, and three more; a spill for each block that the cache has no room for.
+        Act::See(Fact::Counts(3 + 4 * 113 + 4, 113 - 64, 0)),
+        Act::See(Fact::LoggedWords),
+    ];
+    play_all(&rt, &STORES_113, 1, SIZE, &script)?;
     Ok(())
 }
 
 #[test]
 fn a_store_on_a_full_log_aborts(rt: HostRuntime) -> Result<(), Fail> {
-    let mut machine = booted::<16, 4>(rt.alloc(), &STORES_114, 1, SIZE)?;
-    let mut entries = Vec::new(rt.alloc());
-    go_to_an_abort(&mut machine, &mut entries)?;
-    let (retired, _, _) = counts(&entries);
-    check_count(&rt, retired, 3 + 4 * 113);
-    check_last(&rt, &entries, aborted(AbortCause::LogFull));
-    for k in 0..114 {
-        check_word(&rt, &machine, 0x2000 + 32 * k, Some(0));
-    }
-    let mut after = Vec::new(rt.alloc());
-    go(&mut machine, zero(), 100, &mut after)?;
+    let script = [
+        Act::GoToAnAbort,
+        Act::See(Fact::Retired(3 + 4 * 113)),
+        Act::See(Fact::Last(aborted(AbortCause::LogFull))),
+        Act::See(Fact::UndoneWords),
+        Act::Forget,
+        Act::Go(zero(), 100),
+        Act::See(Fact::Stopped),
+    ];
+    let after = play_all(&rt, &STORES_114, 1, SIZE, &script)?;
     check_events(&rt, &after, &[None; 3]);
-    assert!(rt; all_stopped(&machine));
     Ok(())
-}
-
-/// That the log has the record of the block at 0x2000, whose words were 0.
-fn check_first_record(rt: &impl Abort, machine: &Machine<16, 4>) {
-    check_log(rt, machine, 0xf_f000, Some(0x2000));
-    for k in 1..9 {
-        check_log(rt, machine, 0xf_f000 + 4 * k, Some(0));
-    }
 }
 
 #[test]
 fn log_bytes_stay_after_a_commit(rt: HostRuntime) -> Result<(), Fail> {
-    let mut machine = booted::<16, 4>(rt.alloc(), &COMMITS, 1, LARGE)?;
-    let mut entries = Vec::new(rt.alloc());
-    check_log(&rt, &machine, 0xf_f000, Some(0));
-    go(&mut machine, zero(), 4, &mut entries)?;
-    check_count(&rt, entries.len(), 4);
-    check_first_record(&rt, &machine);
-    go(&mut machine, zero(), 1, &mut entries)?;
-    check_tx(&rt, &machine, zero(), None);
-    check_first_record(&rt, &machine);
+    let script = [
+        Act::See(Fact::Log(0xf_f000, Some(0))),
+        Act::Go(zero(), 4),
+        Act::See(Fact::Entries(4)),
+        Act::See(Fact::FirstRecord),
+        Act::Go(zero(), 1),
+        Act::See(Fact::Tx(zero(), None)),
+        Act::See(Fact::FirstRecord),
+    ];
+    play_all(&rt, &COMMITS, 1, LARGE, &script)?;
     Ok(())
 }
 
 #[test]
 fn logs_lie_at_the_top_of_memory(rt: HostRuntime) -> Result<(), Fail> {
-    let one = booted::<16, 4>(rt.alloc(), &COMMITS, 1, LARGE)?;
-    for elsewhere in [0xf_effc, 0x10_0000, 0xf_f002, 0, 0xffff_fffc] {
-        check_log(&rt, &one, elsewhere, None);
-    }
-    check_log(&rt, &one, 0xf_fffc, Some(0));
-    check_word(&rt, &one, 0xf_effc, Some(0));
-    check_word(&rt, &one, 0xf_f000, None);
+    let script = [
+        Act::See(Fact::Log(0xf_effc, None)),
+        Act::See(Fact::Log(0x10_0000, None)),
+        Act::See(Fact::Log(0xf_f002, None)),
+        Act::See(Fact::Log(0, None)),
+        Act::See(Fact::Log(0xffff_fffc, None)),
+        Act::See(Fact::Log(0xf_fffc, Some(0))),
+        Act::See(Fact::Word(0xf_effc, Some(0))),
+        Act::See(Fact::Word(0xf_f000, None)),
+    ];
+    play_all(&rt, &COMMITS, 1, LARGE, &script)?;
     Ok(())
 }
 
 #[test]
 fn the_log_of_hart_1_lies_below_that_of_hart_0(rt: HostRuntime) -> Result<(), Fail> {
-    let two = booted::<16, 4>(rt.alloc(), &COMMITS, 2, LARGE)?;
-    check_log(&rt, &two, 0xf_e000, Some(0));
-    check_log(&rt, &two, 0xf_dffc, None);
+    let script = [
+        Act::See(Fact::Log(0xf_e000, Some(0))),
+        Act::See(Fact::Log(0xf_dffc, None)),
+    ];
+    play_all(&rt, &COMMITS, 2, LARGE, &script)?;
     Ok(())
 }
 
 #[test]
 fn a_store_is_a_request_and_three_messages(rt: HostRuntime) -> Result<(), Fail> {
-    let mut machine = booted::<16, 4>(rt.alloc(), &STORES_ONCE, 1, SIZE)?;
-    let mut entries = Vec::new(rt.alloc());
-    check_count(&rt, go(&mut machine, zero(), 100, &mut entries)?, 10);
+    let script = [
+        Act::Go(zero(), 100),
+        Act::See(Fact::Steps(10)),
+        Act::See(Fact::Used(1)),
+        Act::See(Fact::Directory(owned_by_zero())),
+    ];
+    let entries = play_all(&rt, &STORES_ONCE, 1, SIZE, &script)?;
     check_events(&rt, &entries, &[None; 6]);
-    check_used(&rt, &machine, 1);
-    check_directory(&rt, &machine, owned_by_zero());
     Ok(())
 }
 
 #[test]
 fn a_block_that_is_written_back_is_not_in_use(rt: HostRuntime) -> Result<(), Fail> {
-    let mut machine = booted::<16, 4>(rt.alloc(), &STORES_ONCE, 1, SIZE)?;
-    let mut entries = Vec::new(rt.alloc());
-    go(&mut machine, zero(), 100, &mut entries)?;
-    make(&mut machine, Step::Evict(zero(), block()), &mut entries)?;
-    check_place(&rt, &machine, 7, 7);
-    settle(&mut machine, &mut entries)?;
-    check_used(&rt, &machine, 0);
-    check_directory(&rt, &machine, DirEntry::first());
-    check_place(&rt, &machine, 7, 7);
-    check_count(&rt, entries.len(), 6);
+    let script = [
+        Act::Go(zero(), 100),
+        Act::Make(Step::Evict(zero(), block())),
+        Act::See(Fact::Place(7, 7)),
+        Act::Settle,
+        Act::See(Fact::Used(0)),
+        Act::See(Fact::Directory(DirEntry::first())),
+        Act::See(Fact::Place(7, 7)),
+        Act::See(Fact::Entries(6)),
+    ];
+    play_all(&rt, &STORES_ONCE, 1, SIZE, &script)?;
     Ok(())
 }
 
 #[test]
 fn a_block_that_nobody_shares_is_stored_to_at_once(rt: HostRuntime) -> Result<(), Fail> {
-    let mut machine = booted::<16, 4>(rt.alloc(), &LOADS_AND_STORES, 1, SIZE)?;
-    let mut entries = Vec::new(rt.alloc());
-    let load = go(&mut machine, zero(), 2, &mut entries)?;
     let exclusive = Some((LineState::Exclusive, Marks::none()));
-    check_line(&rt, &machine, zero(), exclusive);
-    check_directory(&rt, &machine, owned_by_zero());
-    check_count(&rt, go(&mut machine, zero(), 1, &mut entries)?, 1);
-    check_line(&rt, &machine, zero(), modified(false));
-    let rest = go(&mut machine, zero(), 100, &mut entries)?;
-    check_count(&rt, load + 1 + rest, 10);
+    let script = [
+        Act::Go(zero(), 2),
+        Act::See(Fact::Line(zero(), exclusive)),
+        Act::See(Fact::Directory(owned_by_zero())),
+        Act::GoBy(zero(), 1, 1),
+        Act::See(Fact::Line(zero(), modified(false))),
+        Act::Go(zero(), 100),
+        Act::See(Fact::Steps(10)),
+    ];
+    let entries = play_all(&rt, &LOADS_AND_STORES, 1, SIZE, &script)?;
     check_events(&rt, &entries, &[None; 6]);
     Ok(())
 }
 
 #[test]
 fn a_program_without_accesses_has_no_entries_in_use(rt: HostRuntime) -> Result<(), Fail> {
-    let mut machine = booted::<16, 4>(rt.alloc(), &EXIT, 1, SIZE)?;
-    let mut entries = Vec::new(rt.alloc());
-    for k in 0..4 {
-        check_count(&rt, entries.len(), k.min(3));
-        check_used(&rt, &machine, 0);
-        go(&mut machine, zero(), 1, &mut entries)?;
-    }
     let first = Entry::Retire {
         hart: zero(),
         pc: Addr::new(0x1000),
@@ -330,7 +295,22 @@ fn a_program_without_accesses_has_no_entries_in_use(rt: HostRuntime) -> Result<(
         load: None,
         store: None,
     };
-    check_entry(&rt, &entries, 0, first);
-    assert!(rt; all_stopped(&machine));
+    let script = [
+        Act::See(Fact::Entries(0)),
+        Act::See(Fact::Used(0)),
+        Act::Go(zero(), 1),
+        Act::See(Fact::Entries(1)),
+        Act::See(Fact::Used(0)),
+        Act::Go(zero(), 1),
+        Act::See(Fact::Entries(2)),
+        Act::See(Fact::Used(0)),
+        Act::Go(zero(), 1),
+        Act::See(Fact::Entries(3)),
+        Act::See(Fact::Used(0)),
+        Act::Go(zero(), 1),
+        Act::See(Fact::Entry(0, first)),
+        Act::See(Fact::Stopped),
+    ];
+    play_all(&rt, &EXIT, 1, SIZE, &script)?;
     Ok(())
 }

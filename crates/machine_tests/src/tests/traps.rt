@@ -1,26 +1,26 @@
 //! What can't be retired.
 
-use super::checks::{check_count, check_hart, check_last};
-use super::moves::go;
-use machine_play::{SIZE, booted, zero};
+use super::script::{Act, Fact, play_all};
+use machine_play::{SIZE, zero};
 use std::process::Abort;
 use std::test::Fail;
 use words::{AbortCause, Addr, Cause, Entry, Status};
 
 /// That hart 0 retires all words but the last of a program, and traps there.
 fn check_trap(rt: &(impl Abort + AllocGlobal), text: &[u32], cause: Cause) -> Result<(), Fail> {
-    let mut machine = booted::<16, 4>(rt.alloc(), text, 1, SIZE)?;
-    let mut entries = Vec::new(rt.alloc());
-    go(&mut machine, zero(), 100, &mut entries)?;
     let pc = Addr::new(0x0ffc).plus(4 * text.len().min(100) as u32);
     let trap = Entry::Trap {
         hart: zero(),
         cause,
         pc,
     };
-    check_count(rt, entries.len(), text.len());
-    check_last(rt, &entries, trap);
-    check_hart(rt, &machine, zero(), pc, Status::Stopped(cause, pc));
+    let script = [
+        Act::Go(zero(), 100),
+        Act::See(Fact::Entries(text.len())),
+        Act::See(Fact::Last(trap)),
+        Act::See(Fact::Hart(zero(), pc, Status::Stopped(cause, pc))),
+    ];
+    play_all(rt, text, 1, SIZE, &script)?;
     Ok(())
 }
 
@@ -43,9 +43,6 @@ fn illegal_words_trap(rt: HostRuntime) -> Result<(), Fail> {
 #[test]
 fn legal_words_retire(rt: HostRuntime) -> Result<(), Fail> {
     for word in [0x0000_040b, 0xfe00_0e8b, 0x8330_000f] {
-        let mut machine = booted::<16, 4>(rt.alloc(), &[word], 1, SIZE)?;
-        let mut entries = Vec::new(rt.alloc());
-        go(&mut machine, zero(), 1, &mut entries)?;
         let retired = Entry::Retire {
             hart: zero(),
             pc: Addr::new(0x1000),
@@ -54,7 +51,8 @@ fn legal_words_retire(rt: HostRuntime) -> Result<(), Fail> {
             load: None,
             store: None,
         };
-        check_last(&rt, &entries, retired);
+        let script = [Act::Go(zero(), 1), Act::See(Fact::Last(retired))];
+        play_all(&rt, &[word], 1, SIZE, &script)?;
     }
     Ok(())
 }
@@ -81,18 +79,19 @@ fn accesses_have_their_causes(rt: HostRuntime) -> Result<(), Fail> {
 
 #[test]
 fn transactions_nest_255_deep(rt: HostRuntime) -> Result<(), Fail> {
-    let mut machine = booted::<16, 4>(rt.alloc(), &[0x0000_000b; 256], 1, SIZE)?;
-    let mut entries = Vec::new(rt.alloc());
-    go(&mut machine, zero(), 1000, &mut entries)?;
     let pc = Addr::new(0x1000 + 4 * 255);
     let abort = Entry::Abort {
         hart: zero(),
         cause: AbortCause::Trapped(Cause::TooDeep, pc),
     };
-    check_count(&rt, entries.len(), 256);
-    check_last(&rt, &entries, abort);
     // The pc is the outermost transaction's, whose handler is itself.
     let status = Status::Stopped(Cause::TooDeep, pc);
-    check_hart(&rt, &machine, zero(), Addr::new(0x1000), status);
+    let script = [
+        Act::Go(zero(), 1000),
+        Act::See(Fact::Entries(256)),
+        Act::See(Fact::Last(abort)),
+        Act::See(Fact::Hart(zero(), Addr::new(0x1000), status)),
+    ];
+    play_all(&rt, &[0x0000_000b; 256], 1, SIZE, &script)?;
     Ok(())
 }

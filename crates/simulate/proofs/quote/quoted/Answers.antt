@@ -1,5 +1,5 @@
 use Rattle.std.proofs.Common.{◌∙◌, ap, take, arith}
-use Rattle.simulate.specs.Quotes.{shown_byte, without_return}
+use Rattle.simulate.specs.Quotes.{without_return}
 use Rattle.simulate.proofs.Quoting.{shown-more, short-front, room, shown-all}
 use Rattle.simulate.proofs.quote.quoted.Goals as goal
 

@@ -1,0 +1,6 @@
+mod calls;
+mod counters;
+mod gates;
+mod memory;
+mod play;
+mod rows;

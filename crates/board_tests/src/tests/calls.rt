@@ -1,0 +1,134 @@
+//! The calls that workers make of a board and of their gate, in order.
+
+use super::play::TEN;
+use board::{Board, Lease, Refusal};
+use elf_samples::program;
+use loader::Program;
+use machine_play::{SIZE, one, zero};
+use std::alloc::{AllocError, Global};
+use std::cell::RefCell;
+use std::sync::Mutex;
+use std::test::Fail;
+use words::HartId;
+use workers::{Desk, End, Gate, serve, work};
+
+type Loan<'p> = Lease<'p, 2, 1>;
+
+#[derive(Clone, Copy, Debug, PartialEq, Eq)]
+enum Call {
+    Lend(HartId),
+    Lent(HartId),
+    Settle(HartId, usize),
+    Visit(HartId),
+    Settled(HartId),
+}
+
+/// A board that notes each call.
+#[derive(Drop)]
+struct Noted<'p> {
+    board: Board<'p, 2, 1>,
+    calls: RefCell<Vec<Call>>,
+}
+
+impl<'p> Noted<'p> {
+    fn note(&self, call: Call) {
+        if let Ok(mut calls) = self.calls.try_borrow_mut() {
+            let _ = calls.push(call);
+        }
+    }
+}
+
+impl<'p> Desk for Noted<'p> {
+    type Lease = Loan<'p>;
+
+    fn lend(&self, id: HartId) -> Option<Loan<'p>> {
+        self.note(Call::Lend(id));
+        self.board.lend(id)
+    }
+
+    fn settle(&mut self, lease: Loan<'p>) -> Result<(), (Loan<'p>, Refusal)> {
+        self.note(Call::Settle(lease.hart(), lease.len()));
+        self.board.settle(lease)
+    }
+
+    fn visit(&mut self, id: HartId) -> Result<bool, AllocError> {
+        self.note(Call::Visit(id));
+        self.board.visit(id)
+    }
+}
+
+fn desk<'p>(alloc: Global, program: &'p Program, harts: u32) -> Result<Mutex<Noted<'p>>, Fail> {
+    let board: Board<'p, 2, 1> = Board::boot(alloc, program, harts, SIZE)?;
+    Ok(Mutex::new(Noted {
+        board,
+        calls: RefCell::new(Vec::new(alloc)),
+    }))
+}
+
+/// Notes its own calls at the board, for which it has to find the lock free.
+#[derive(Drop)]
+struct Free<'d, 'p> {
+    desk: &'d Mutex<Noted<'p>>,
+    most: usize,
+}
+
+impl<'d, 'p> Free<'d, 'p> {
+    /// Whether the lock was free.
+    fn note(&self, call: Call) -> bool {
+        match self.desk.try_lock() {
+            Some(desk) => {
+                desk.note(call);
+                true
+            }
+            None => false,
+        }
+    }
+}
+
+impl<'d, 'p> Gate<Loan<'p>> for Free<'d, 'p> {
+    fn lent(&self, hart: HartId, _turn: u64, lease: &mut Loan<'p>) -> bool {
+        let free = self.note(Call::Lent(hart));
+        lease.run(self.most);
+        free
+    }
+
+    fn settled(&self, hart: HartId, _turn: u64) {
+        let _free = self.note(Call::Settled(hart));
+    }
+}
+
+#[test]
+fn the_lock_is_free_while_the_gate_is_called(rt: HostRuntime) -> Result<(), Fail> {
+    let program = program(rt.alloc(), &TEN)?;
+    let h = zero();
+    let whole = [
+        Call::Lend(h),
+        Call::Lent(h),
+        Call::Settle(h, 12),
+        Call::Visit(h),
+        Call::Settled(h),
+    ];
+    let none = [
+        Call::Lend(h),
+        Call::Lent(h),
+        Call::Settle(h, 0),
+        Call::Visit(h),
+        Call::Settled(h),
+        Call::Lend(h),
+        Call::Lent(h),
+        Call::Settle(h, 0),
+        Call::Visit(h),
+        Call::Settled(h),
+    ];
+    for (most, turns, ends, calls) in [
+        (64, 9, End::Stopped, whole.as_slice()),
+        (0, 2, End::Limit, none.as_slice()),
+    ] {
+        let desk = desk(rt.alloc(), &program, 1)?;
+        let end = work(&rt, &desk, h, &Free { desk: &desk, most }, turns)?;
+        assert_eq!(rt; end, ends);
+        let noted = desk.into_inner().calls.into_inner();
+        assert_eq!(rt; noted.as_slice(), calls);
+    }
+    Ok(())
+}

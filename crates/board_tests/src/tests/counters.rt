@@ -1,0 +1,78 @@
+//! A counter, to which each hart adds in transactions.
+
+ghost use Rattle.std.specs.Prelude.{◌≤◌, ◌<◌, ◌*◌, ◌^◌};
+
+use super::gates::Runs;
+use super::play::{WAITS, check_again};
+use board::{Board, Finished};
+use elf_samples::{COUNTS, program};
+use loader::Program;
+use machine_play::{SIZE, peek, place};
+use std::alloc::Global;
+use std::process::Abort;
+use std::sync::{Mutex, Wait};
+use std::test::Fail;
+use std::thread::Threads;
+use workers::{End, serve};
+
+/// The board of a program that so many harts have run in threads, so many turns each, and whether all of them have ended.
+fn served<'p, const SETS: usize, const WAYS: usize, R: Threads + Wait + AllocGlobal + Sync>(
+    rt: &R,
+    program: &'p Program,
+    harts: u32,
+    turns: u64,
+) -> Result<(Finished<'p, SETS, WAYS>, bool), Fail>
+    requires sets { 0 < SETS }
+    requires ways { 0 < WAYS }
+    requires lines { SETS * WAYS < 2 ^ 32 }
+    requires harts { harts ≤ 8 }
+{
+    let board: Board<'p, SETS, WAYS> = Board::boot(rt.alloc(), program, harts, SIZE)?;
+    let desk = Mutex::new(board);
+    let gate = Runs { most: 64 };
+    let ends = serve::<Board<'p, SETS, WAYS>, Runs, R>(rt, &desk, harts as usize, &gate, turns)?;
+    let stopped = ends.iter().all(|end| *end == End::Stopped);
+    Ok((desk.into_inner().finish(), stopped))
+}
+
+/// That what so many harts did in threads is made again by its history, and that they have counted to a number if all have ended. The answer is
+/// whether they have.
+fn check_count<
+    const SETS: usize,
+    const WAYS: usize,
+    R: Threads + Wait + Abort + AllocGlobal + Sync,
+>(rt: &R, text: &[u32], harts: u32, turns: u64, count: u32) -> Result<bool, Fail>
+    requires sets { 0 < SETS }
+    requires ways { 0 < WAYS }
+    requires lines { SETS * WAYS < 2 ^ 32 }
+    requires harts { harts ≤ 8 }
+{
+    let program = program(rt.alloc(), text)?;
+    let (end, stopped) = served::<SETS, WAYS, R>(rt, &program, harts, turns)?;
+    check_again(rt, &end)?;
+    if stopped {
+        assert_eq!(rt; peek(&end.machine, place()), Some(count));
+    }
+    Ok(stopped)
+}
+
+#[test]
+fn each_number_of_harts_counts(rt: HostRuntime) -> Result<(), Fail> {
+    let most = 100_000;
+    assert!(rt; check_count::<2, 1, HostRuntime>(&rt, &COUNTS, 2, most, 200)?);
+    assert!(rt; check_count::<16, 4, HostRuntime>(&rt, &COUNTS, 2, most, 200)?);
+    for harts in 2..9u32 {
+        assert!(rt; check_count::<2, 1, HostRuntime>(&rt, &WAITS, harts, most, harts)?);
+        assert!(rt; check_count::<16, 4, HostRuntime>(&rt, &WAITS, harts, most, harts)?);
+    }
+    Ok(())
+}
+
+#[test]
+fn eight_workers_play_200_times(rt: HostRuntime) -> Result<(), Fail> {
+    for _ in 0..100 {
+        check_count::<2, 1, HostRuntime>(&rt, &WAITS, 8, 50, 8)?;
+        check_count::<16, 4, HostRuntime>(&rt, &WAITS, 8, 50, 8)?;
+    }
+    Ok(())
+}

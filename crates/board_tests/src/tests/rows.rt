@@ -1,0 +1,52 @@
+//! Leases that are out at once, and leases that come back with no step.
+
+use super::gates::{Meeting, Runs};
+use super::play::TEN;
+use board::Board;
+use elf_samples::program;
+use machine_play::{SIZE, one, zero};
+use std::sync::Mutex;
+use std::test::Fail;
+use words::{Entry, HartId};
+use workers::{End, serve};
+
+type Small<'p> = Board<'p, 2, 1>;
+
+#[test]
+fn two_leases_are_out_at_once(rt: HostRuntime) -> Result<(), Fail> {
+    let program = program(rt.alloc(), &TEN)?;
+    let board: Small = Board::boot(rt.alloc(), &program, 2, SIZE)?;
+    let desk = Mutex::new(board);
+    let ends = serve::<Small, Meeting, HostRuntime>(&rt, &desk, 2, &Meeting::new(), 2)?;
+    assert_eq!(rt; ends.as_slice(), [End::Stopped; 2].as_slice());
+    Ok(())
+}
+
+/// Whether an entry is of a word that a hart retired.
+fn is_retired_by(entry: &Entry, id: HartId) -> bool {
+    match entry {
+        Entry::Retire { hart, .. } => *hart == id,
+        _ => false,
+    }
+}
+
+#[test]
+fn empty_leases_leave_all_to_the_visits(rt: HostRuntime) -> Result<(), Fail> {
+    let program = program(rt.alloc(), &TEN)?;
+    let board: Small = Board::boot(rt.alloc(), &program, 2, SIZE)?;
+    let desk = Mutex::new(board);
+    let gate = Runs { most: 0 };
+    let ends = serve::<Small, Runs, HostRuntime>(&rt, &desk, 2, &gate, 5)?;
+    assert_eq!(rt; ends.as_slice(), [End::Limit; 2].as_slice());
+    let end = desk.into_inner().finish();
+    assert_eq!(rt; end.history.len(), 10);
+    for hart in [zero(), one()] {
+        let retired = end
+            .entries
+            .iter()
+            .filter(|entry| is_retired_by(entry, hart))
+            .count();
+        assert_eq!(rt; retired, 5);
+    }
+    Ok(())
+}

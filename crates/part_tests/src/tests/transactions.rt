@@ -1,0 +1,103 @@
+//! A transaction through its depths, its commits and its aborts.
+
+use std::process::Abort;
+use transaction::{Tx, TxFault};
+use words::{AbortCause, Addr, BlockNo, Cause, HartId, Regs, Stamp};
+
+const REGS: Regs = [7; 32];
+
+fn stamp(count: u64) -> Stamp {
+    Stamp {
+        count,
+        hart: HartId::new(1),
+    }
+}
+
+/// A transaction that began with `REGS`, the abort pc 0x1014 and the stamp of count 5.
+fn begun(rt: &impl Abort) -> Tx {
+    let mut tx = Tx::new(Addr::new(0xff000));
+    assert!(rt; tx.aborting().is_none());
+    assert_eq!(rt; tx.begin(&REGS, Addr::new(0x1014), stamp(5)), Ok(true));
+    assert!(rt; tx.aborting().is_none());
+    tx
+}
+
+#[test]
+fn begins_and_commits(rt: HostRuntime) {
+    let mut tx = begun(&rt);
+    assert!(rt; tx.aborting().is_none());
+    assert_eq!(rt; tx.begin(&[0; 32], Addr::new(0), stamp(6)), Ok(false));
+    assert_eq!(rt;
+        (tx.depth(), tx.stamp(), tx.abort_pc()),
+        (2, Some(stamp(5)), Addr::new(0x1014))
+    );
+    assert_eq!(rt; tx.checkpoint()[31], 7);
+    assert_eq!(rt; tx.append_record(BlockNo::new(256), &[1; 8]), Ok(()));
+    tx.set_overflow();
+    tx.set_cycle();
+    assert_eq!(rt; tx.commit(), Ok(()));
+    assert_eq!(rt;
+        (tx.depth(), tx.overflow(), tx.cycle(), tx.log().len()),
+        (1, true, true, 1)
+    );
+    assert_eq!(rt; tx.commit(), Ok(()));
+    assert_eq!(rt;
+        (tx.depth(), tx.overflow(), tx.cycle(), tx.log().len()),
+        (0, false, false, 0)
+    );
+    assert_eq!(rt; (tx.stamp(), tx.kept_stamp()), (None, None));
+    let before = tx;
+    assert_eq!(rt; tx.commit(), Err(TxFault::Outside));
+    assert_eq!(rt; tx.start_abort(AbortCause::Asked), Err(TxFault::Outside));
+    assert!(rt; tx.same(&before) && tx.aborting().is_none());
+    assert_eq!(rt; tx.begin(&REGS, Addr::new(0x1014), stamp(6)), Ok(true));
+    assert_eq!(rt; tx.stamp(), Some(stamp(6)));
+}
+
+#[test]
+fn an_abort_keeps_the_stamp(rt: HostRuntime) {
+    let mut tx = begun(&rt);
+    let cause = AbortCause::Trapped(Cause::Illegal, Addr::new(0x1008));
+    assert_eq!(rt; tx.append_record(BlockNo::new(256), &[1; 8]), Ok(()));
+    tx.set_overflow();
+    assert!(rt; tx.aborting().is_none());
+    assert_eq!(rt; tx.start_abort(cause), Ok(()));
+    assert_eq!(rt; tx.aborting(), Some(cause));
+    assert!(rt; !tx.log().is_empty());
+    tx.pop_record();
+    assert!(rt; tx.log().is_empty() && tx.aborting().is_some());
+    let restart = tx.end_abort();
+    assert_eq!(rt;
+        (restart.regs[31], restart.pc, restart.cause),
+        (7, Addr::new(0x1014), cause)
+    );
+    assert_eq!(rt; (tx.depth(), tx.overflow(), tx.stamp()), (0, false, None));
+    assert_eq!(rt; tx.kept_stamp(), Some(stamp(5)));
+    assert_eq!(rt; tx.begin(&REGS, Addr::new(0x1014), stamp(9)), Ok(false));
+    assert_eq!(rt; tx.stamp(), Some(stamp(5)));
+}
+
+#[test]
+fn nests_255_deep(rt: HostRuntime) {
+    let mut tx = Tx::new(Addr::new(0xff000));
+    for depth in 0..255 {
+        assert!(rt; tx.aborting().is_none());
+        assert_eq!(rt; tx.begin(&REGS, Addr::new(0), stamp(0)), Ok(depth == 0));
+    }
+    assert!(rt; tx.aborting().is_none());
+    assert_eq!(rt;
+        tx.begin(&REGS, Addr::new(0), stamp(0)),
+        Err(TxFault::TooDeep)
+    );
+    assert_eq!(rt; tx.depth(), 255);
+}
+
+#[test]
+fn gives_way_to_an_earlier_one(rt: HostRuntime) {
+    let mut tx = begun(&rt);
+    tx.note_refusal(Some(stamp(6)));
+    tx.note_refusal(None);
+    assert!(rt; !tx.cycle() && !tx.must_abort(true));
+    tx.note_refusal(Some(stamp(4)));
+    assert!(rt; tx.cycle() && tx.must_abort(true) && !tx.must_abort(false));
+}

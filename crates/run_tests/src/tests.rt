@@ -1,0 +1,5 @@
+mod booted;
+mod schedules;
+mod tallies;
+mod traces;
+mod watches;

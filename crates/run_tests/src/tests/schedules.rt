@@ -1,0 +1,184 @@
+//! Lines with what they spell, and the steps of a machine.
+use super::booted::booted;
+use elf_samples::COMMITS;
+use schedule::{Choice, Name, ScheduleFault, Sort, choice, follow, name_of, read};
+use std::test::Fail;
+use words::{Addr, BlockNo, HartId, Message, Status, Step};
+
+fn hart(number: u8) -> HartId {
+    match HartId::try_new(number as usize) {
+        Some(hart) => hart,
+        None => HartId::new(0),
+    }
+}
+
+fn named(sort: Sort, number: u8, block: u32) -> Option<Choice> {
+    Some(Choice::Deliver(Name {
+        sort,
+        hart: hart(number),
+        block: BlockNo::new(block),
+    }))
+}
+
+#[test]
+fn lines_are_taken(rt: HostRuntime) {
+    let cases = [
+        ("turn", Some(Choice::Turn)),
+        ("core 0", Some(Choice::Core(hart(0)))),
+        ("core 0x7", Some(Choice::Core(hart(7)))),
+        (
+            "evict 1 0x2000",
+            Some(Choice::Evict(hart(1), BlockNo::new(256))),
+        ),
+        (
+            "evict 1 8220",
+            Some(Choice::Evict(hart(1), BlockNo::new(256))),
+        ),
+        (
+            "evict 1 0xFFFFFFFC",
+            Some(Choice::Evict(hart(1), BlockNo::new(0x07ff_ffff))),
+        ),
+        ("deliver get 1 0x2000", named(Sort::Get, 1, 256)),
+        ("deliver put 0 0", named(Sort::Put, 0, 0)),
+        ("deliver done 2 32", named(Sort::Done, 2, 1)),
+        ("deliver grant 3 0x40", named(Sort::Grant, 3, 2)),
+        ("deliver forward 4 0x44", named(Sort::Forward, 4, 2)),
+        ("deliver putack 5 28", named(Sort::PutAck, 5, 0)),
+        ("deliver ack 6 0x2000", named(Sort::Ack, 6, 256)),
+        ("deliver nack 07 0x02000", named(Sort::Nack, 7, 256)),
+    ];
+    for (line, want) in cases {
+        assert_eq!(rt; choice(line), want, "at {line}");
+    }
+}
+
+#[test]
+fn lines_are_refused(rt: HostRuntime) {
+    let cases = [
+        "",
+        " ",
+        "turn ",
+        " turn",
+        "turn 1",
+        "Turn",
+        "core",
+        "core ",
+        "core 8",
+        "core -1",
+        "core 1 ",
+        "core  1",
+        "core 1 2",
+        "core x",
+        "core\t1",
+        "evict 1",
+        "evict 1 0x2001",
+        "evict 1 0x2002",
+        "evict 8 0x2000",
+        "evict 1 0x100000000",
+        "evict 1 0x2000 0",
+        "evict 1  0x2000",
+        "deliver",
+        "deliver get",
+        "deliver get 1",
+        "deliver 1 0x2000",
+        "deliver Get 1 0x2000",
+        "deliver gets 1 0x2000",
+        "deliver get 1 0x2000 read",
+        "deliver get 1 2",
+        "# turn",
+        "step",
+    ];
+    for line in cases {
+        assert_eq!(rt; choice(line), None, "at {line}");
+    }
+}
+
+#[test]
+fn texts_are_read(rt: HostRuntime) -> Result<(), Fail> {
+    let text = "# a comment\ncore 1\n\n#\nturn\ndeliver ack 0 0x20\n";
+    match read(rt.alloc(), text) {
+        Ok(choices) => {
+            let ack = named(Sort::Ack, 0, 1).ok_or("a choice")?;
+            let want = [Choice::Core(hart(1)), Choice::Turn, ack];
+            assert_eq!(rt; choices.as_slice(), want.as_slice());
+        }
+        Err(fault) => assert_eq!(rt; fault, ScheduleFault::NoMemory),
+    }
+    for (text, line) in [("turns", 1), ("turn\n\n#\n core 0\n?", 4), ("turn\r\n", 1)] {
+        match read(rt.alloc(), text) {
+            Ok(_) => assert!(rt; false),
+            Err(ScheduleFault::NoMemory) => {}
+            Err(fault) => assert_eq!(rt; fault, ScheduleFault::Line(line)),
+        }
+    }
+    Ok(())
+}
+
+#[test]
+fn answers_are_named_for_their_senders(rt: HostRuntime) {
+    let ack = Message::Ack {
+        from: hart(1),
+        to: hart(2),
+        block: BlockNo::new(3),
+        content: None,
+    };
+    let forward = Message::Forward {
+        to: hart(1),
+        block: BlockNo::new(3),
+        kind: words::Kind::Read,
+        requester: hart(2),
+        stamp: None,
+    };
+    assert_eq!(rt;
+        Some(Choice::Deliver(name_of(&ack))),
+        named(Sort::Ack, 1, 3)
+    );
+    assert_eq!(rt;
+        Some(Choice::Deliver(name_of(&forward))),
+        named(Sort::Forward, 1, 3)
+    );
+    assert_eq!(rt; Sort::PutAck.name(), "putack");
+}
+
+#[test]
+fn a_message_is_found_by_its_name(rt: HostRuntime) -> Result<(), Fail> {
+    let mut machine = booted(rt.alloc(), &COMMITS, 1)?;
+    let get = named(Sort::Get, 0, 256).ok_or("a choice")?;
+    assert_eq!(rt; get.step(&machine, hart(0)), None);
+    follow(&mut machine, &[Choice::Core(hart(0)); 4], 4)?;
+    let key = machine.next_message(None).ok_or("a message")?;
+    assert_eq!(rt; get.step(&machine, hart(0)), Some(Step::Deliver(key)));
+    for other in [
+        named(Sort::Put, 0, 256),
+        named(Sort::Get, 1, 256),
+        named(Sort::Get, 0, 257),
+    ] {
+        let other = other.ok_or("a choice")?;
+        assert_eq!(rt; other.step(&machine, hart(0)), None);
+    }
+    assert_eq!(rt;
+        Choice::Turn.step(&machine, hart(0)),
+        Some(Step::Deliver(key))
+    );
+    Ok(())
+}
+
+#[test]
+fn choices_and_turns_are_followed(rt: HostRuntime) -> Result<(), Fail> {
+    // Twelve steps to the end, and two more that change nothing.
+    for (steps, status) in [(13, Status::Running), (14, Status::Exited(0))] {
+        let mut machine = booted(rt.alloc(), &COMMITS, 1)?;
+        let choices = [
+            Choice::Core(hart(0)),
+            Choice::Core(hart(1)),
+            Choice::Evict(hart(0), BlockNo::new(256)),
+        ];
+        follow(&mut machine, &choices, steps)?;
+        let (_, _, now) = machine.regs(hart(0)).ok_or("a hart")?;
+        assert_eq!(rt; now, status);
+    }
+    let mut machine = booted(rt.alloc(), &COMMITS, 1)?;
+    follow(&mut machine, &[], 100)?;
+    assert_eq!(rt; machine.peek(Addr::new(0x2000)), Some(7));
+    Ok(())
+}

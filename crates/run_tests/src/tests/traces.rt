@@ -1,0 +1,75 @@
+//! The trace of a program that stores 7 to 0x2000 in a transaction, and exits.
+use super::booted::booted;
+use elf_samples::COMMITS;
+use recorder::put_trace;
+use schedule::Choice;
+use std::test::Fail;
+use watch::Halt;
+use words::{HartId, Sink, SinkFault, Taken};
+
+const TRACE: &str = "0 0x00001000 00000a0b tbegin 20\n\
+    0 0x00001004 000022b7 lui t0, 0x2 | t0=0x00002000\n\
+    0 0x00001008 00700313 addi t1, zero, 7 | t1=0x00000007\n\
+    0 0x0000100c 0062a023 sw t1, 0(t0) | store 4 0x00002000=0x00000007\n\
+    0 0x00001010 0000100b tcommit\n\
+    0 0x00001014 05d00893 addi a7, zero, 93 | a7=0x0000005d\n\
+    0 0x00001018 00000513 addi a0, zero, 0 | a0=0x00000000\n\
+    0 0x0000101c 00000073 ecall\n";
+
+#[test]
+fn each_entry_has_its_line(rt: HostRuntime) -> Result<(), Fail> {
+    for choices in [0, 3] {
+        let mut machine = booted(rt.alloc(), &COMMITS, 1)?;
+        let mut sink = Taken {
+            bytes: Vec::new(rt.alloc()),
+            failed: 0,
+        };
+        let choices = &[Choice::Core(HartId::new(0)); 3][..choices];
+        match put_trace(&mut machine, choices, 100, &mut sink) {
+            Ok(()) => assert_eq!(rt; &sink.bytes[..], TRACE.as_bytes()),
+            Err(Halt::NoMemory) => {}
+            Err(Halt::Untold) => assert_eq!(rt; sink.failed, 1),
+        }
+    }
+    Ok(())
+}
+
+/// Takes so many puts, and refuses the others.
+#[derive(Drop)]
+struct Refusing {
+    left: u32,
+    failed: u64,
+}
+
+impl Sink for Refusing {
+    ghost use Rattle.std.specs.Prelude.{None};
+
+    ghost failed = { λ r. r.failed };
+
+    ghost taken = { λ _. None };
+
+    fn put(&mut self, _bytes: &[u8]) -> Result<(), SinkFault> {
+        if self.left == 0 {
+            self.failed = self.failed.saturating_add(1);
+            return Err(SinkFault);
+        }
+        self.left -= 1;
+        Ok(())
+    }
+}
+
+#[test]
+fn each_put_that_is_refused_is_told(rt: HostRuntime) -> Result<(), Fail> {
+    for left in 0..90 {
+        let mut machine = booted(rt.alloc(), &COMMITS, 1)?;
+        let mut sink = Refusing { left, failed: 0 };
+        let put = put_trace(&mut machine, &[], 100, &mut sink);
+        // A line of a retired word is put in eleven pieces.
+        let want = if left < 88 { Err(Halt::Untold) } else { Ok(()) };
+        if put != Err(Halt::NoMemory) {
+            assert_eq!(rt; put, want, "after {left}");
+            assert_eq!(rt; sink.failed, u64::from(left < 88));
+        }
+    }
+    Ok(())
+}
