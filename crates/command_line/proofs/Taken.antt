@@ -18,7 +18,7 @@ use Rattle.clap.specs.Walk.{answers_to, finished, nothing_held, rows_after, stop
 use Rattle.command_line.specs.Command.{asm, debug, dis, logtm, run}
 use Rattle.command_line.specs.Reading.{AsksFor, IsComplete, IsFaultOf, IsRequestOf, IsReadingOf, IsRefusal, NamesFirstIn}
 use Rattle.command_line.specs.declared.fault.OrderFault.{OrderFault}
-use Rattle.command_line.specs.declared.fault.OrderFault.TheVariants.{NoMemory, Refused, Value}
+use Rattle.command_line.specs.declared.fault.OrderFault.TheVariants.{NoMemory, Refused, TracedAndCounted, Value}
 use Rattle.command_line.specs.declared.request.Request.{Request}
 use Rattle.command_line.proofs.Levels.{given_first, is_none, lacks_nothing, level_passes, subcommand_checked, value_there}
 
@@ -169,6 +169,7 @@ subcommand_given words a m is passes matches =
 abbrev is_no_memory : OrderFault → Bool
 is_no_memory (Refused text) = false
 is_no_memory (Value value) = false
+is_no_memory TracedAndCounted = false
 is_no_memory NoMemory = true
 
 among_some : (k : ErrorKind) (kinds : Kinds) → IsAmong k kinds → kinds ≢ []
@@ -181,6 +182,7 @@ pub refused_words : (words : List Text) (a : App) (error : Error) (fault : Order
 refused_words words a error (Refused text) is fails memory refusal =
     ⊎_elim (λ out. absurd (true≢false (sym (ap is_no_memory (memory out))))) (λ among e. among_some _ _ among (ap (λ b. fault_of b words) is ∙ e)) (fails (ap is_simple_and_free is))
 refused_words words a error (Value value) is fails memory refusal = absurd refusal
+refused_words words a error TracedAndCounted is fails memory refusal = absurd refusal
 refused_words words a error NoMemory is fails memory refusal = tt
 
 -- ---- the reading of the values is what the words ask for
@@ -188,6 +190,7 @@ refused_words words a error NoMemory is fails memory refusal = tt
 pub read_words : (words : List Text) (name : Text) (rows : List Row) (r : Result Request OrderFault) → AsksFor name words rows
     → MatchResult r (IsReadingOf name rows) (NamesFirstIn name rows) → MatchResult r (IsRequestOf words) (IsFaultOf words)
 read_words words name rows (Ok request) asks read = (name, rows, asks, read)
-read_words words name rows (Err (Refused text)) asks bad = ⊎_elim (λ run. ⊎_elim (λ first. absurd first) (λ clash. absurd clash.2.2) run.1) (λ debug. absurd debug.1) bad
+read_words words name rows (Err (Refused text)) asks bad = ⊎_elim (λ run. ⊎_elim (λ first. absurd first) (λ clash. absurd clash.2.2.1) run.1) (λ debug. absurd debug.1) bad
 read_words words name rows (Err (Value value)) asks bad = (name, rows, asks, bad)
+read_words words name rows (Err TracedAndCounted) asks bad = (name, rows, asks, bad)
 read_words words name rows (Err NoMemory) asks bad = tt

@@ -1,5 +1,5 @@
 -- Values that are read.
-use Rattle.std.proofs.Common.{◌≡◌, ◌∙◌, List, [], ◌∷◌, Option, Some, None, Result, MatchResult, codes, is_some, refl, sym, ap, true≢false}
+use Rattle.std.proofs.Common.{◌≡◌, ◌∙◌, ◌++◌, List, [], ◌∷◌, Option, Some, None, Result, MatchResult, codes, is_some, refl, sym, ap, true≢false}
 use Rattle.std.specs.Borrow.{Bor}
 use Rattle.std.specs.Option.{IsSome, ok_or, option_map, option_map_or, option_to_list, unwrap_or}
 use Rattle.clap.specs.Words.{Text, first_value, matched_of, raw_values, rows_of}
@@ -7,7 +7,7 @@ use Rattle.clap.specs.declared.parser.matches.Found.{Found}
 use Rattle.clap.proofs.WalkLemmas.{first_value-rows, raw_values-rows}
 use Rattle.command_line.specs.Reading.{HasValue, NamesFirstOf, malformed, words_of}
 use Rattle.command_line.specs.declared.fault.OrderFault.{OrderFault}
-use Rattle.command_line.specs.declared.fault.OrderFault.TheVariants.{Value}
+use Rattle.command_line.specs.declared.fault.OrderFault.TheVariants.{Refused, Value, TracedAndCounted, NoMemory}
 
 module _ {T : Type 0} (read : Text → Option T) (default : T) where
   here : (text : Bor Text) (o : Option T) → o ≡ read text.now
@@ -28,3 +28,22 @@ words_are f o is = ap (λ given. unwrap_or given []) (sym (is ∙ raw_values-row
 pub value_is_there : (f : Found) (id : Text) (o : Option (Bor Text)) → option_map (λ s. s.now) o ≡ first_value f id → HasValue id (rows_of f) → IsSome o
 value_is_there f id (Some text) is has = refl
 value_is_there f id None is has = absurd (true≢false (sym has ∙ ap is_some (sym (is ∙ first_value-rows f id))))
+
+-- a value that is read is not malformed
+pub none_malformed : {T : Type 0} (read : Text → Option T) (default x : T) (given : Option Text) → option_map_or read given (Some default) ≡ Some x → malformed read (option_to_list given) ≡ []
+none_malformed read default x None is = refl
+none_malformed read default x (Some text) is = rw is refl
+
+-- the first of some texts is the first of more, and of those behind none
+pub first_of_more : (xs ys : List Text) (fault : OrderFault) → NamesFirstOf xs fault → NamesFirstOf (xs ++ ys) fault
+first_of_more xs ys (Refused text) first = absurd first
+first_of_more [] ys (Value value) first = absurd (cc)
+first_of_more (x ∷ xs) ys (Value value) first = first
+first_of_more xs ys TracedAndCounted first = absurd first
+first_of_more xs ys NoMemory first = tt
+
+pub first_behind : (xs ys : List Text) (fault : OrderFault) → xs ≡ [] → NamesFirstOf ys fault → NamesFirstOf (xs ++ ys) fault
+first_behind xs ys fault none first = rw none first
+
+pub none_of_both : (xs ys : List Text) → xs ≡ [] → ys ≡ [] → xs ++ ys ≡ []
+none_of_both xs ys first second = rw (first, second) refl

@@ -20,7 +20,8 @@ words = record (new_rule (codes "words")) { action = Some Append; value_names = 
 abbrev pub run : Shape
 run = record (new_shape (codes "run")) {
   rules = required_named (codes "file") ∷ option_named (codes "harts") ∷ option_named (codes "memory")
-      ∷ option_named (codes "steps") ∷ option_named (codes "cache") ∷ option_named (codes "schedule") ∷ option_named (codes "trace") ∷ words ∷ [];
+      ∷ option_named (codes "steps") ∷ option_named (codes "cache") ∷ option_named (codes "schedule") ∷ option_named (codes "trace")
+      ∷ option_named (codes "stats") ∷ words ∷ [];
 }
 
 -- the subcommand `debug`

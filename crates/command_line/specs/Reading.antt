@@ -6,7 +6,7 @@ use Rattle.clap.specs.Words.{Row, Text, all_of, fault_of, first_of, subcommand_o
 use Rattle.command_line.specs.Command.{logtm}
 use Rattle.command_line.specs.Numbers.{number_of}
 use Rattle.command_line.specs.declared.fault.OrderFault.{OrderFault}
-use Rattle.command_line.specs.declared.fault.OrderFault.TheVariants.{Refused, Value, NoMemory}
+use Rattle.command_line.specs.declared.fault.OrderFault.TheVariants.{Refused, Value, TracedAndCounted, NoMemory}
 use Rattle.command_line.specs.declared.request.Cache.{Cache}
 use Rattle.command_line.specs.declared.request.Cache.TheVariants.{Small, Normal}
 use Rattle.command_line.specs.declared.request.Debug.{Debug}
@@ -15,6 +15,8 @@ use Rattle.command_line.specs.declared.request.Order.TheVariants as order
 use Rattle.command_line.specs.declared.request.Request.{Request}
 use Rattle.command_line.specs.declared.request.Request.TheVariants as request
 use Rattle.command_line.specs.declared.request.Run.{Run}
+use Rattle.command_line.specs.declared.request.Stats.{Stats}
+use Rattle.command_line.specs.declared.request.Stats.TheVariants.{Table, Csv}
 use Rattle.command_line.specs.declared.request.Target.{Target}
 use Rattle.command_line.specs.declared.request.Target.TheVariants.{Output, File}
 use Rattle.command_line.specs.declared.request.Word.{Word}
@@ -24,6 +26,12 @@ abbrev pub cache_of : Text → Option Cache
 cache_of text =
     if bytes_eq text (codes "small") then Some Small
     else if bytes_eq text (codes "normal") then Some Normal else None
+
+-- the form of this name, in which counts are shown
+abbrev pub stats_of : Text → Option (Option Stats)
+stats_of text =
+    if bytes_eq text (codes "table") then Some (Some Table)
+    else if bytes_eq text (codes "csv") then Some (Some Csv) else None
 
 -- the value given for an option, if it was given
 abbrev pub given : Text → List Row → List Text
@@ -47,6 +55,7 @@ malformed_of rows = malformed number_of (given (codes "harts") rows)
     ++ malformed number_of (given (codes "memory") rows)
     ++ malformed number_of (given (codes "steps") rows)
     ++ malformed cache_of (given (codes "cache") rows)
+    ++ malformed stats_of (given (codes "stats") rows)
     ++ malformed number_of (words_of rows)
 
 -- the same of a program that is to be played by hand
@@ -69,6 +78,7 @@ IsRunOf rows run =
     × (read_or number_of 10000000 (codes "steps") rows ≡ Some run.steps)
     × (read_or cache_of Normal (codes "cache") rows ≡ Some run.cache)
     × (option_map (λ path. path.now) run.schedule ≡ first_of (codes "schedule") rows)
+    × (read_or stats_of None (codes "stats") rows ≡ Some run.stats)
     × IsReadingOfWords (words_of rows) run.words.items
 
 -- what is to be played by hand is what the values of its subcommand stand for
@@ -93,6 +103,14 @@ abbrev pub IsClash : Run → Text → OrderFault → Type 0
 IsClash run path (Value value) = (value.now ≡ path) × (path ≢ codes "-") × (is_read_by run path ≡ true)
 IsClash run path other = ⊥
 
+-- the trace of a run goes there, or why it can't: counts are asked for too, or the path is that of a file that the run reads
+abbrev pub IsTraceTarget : Run → Text → Target → Type 0
+IsTraceTarget run path target = (run.stats ≡ None) × IsTargetOf run path target
+
+abbrev pub IsTraceFault : Run → Text → OrderFault → Type 0
+IsTraceFault run path TracedAndCounted = IsSome run.stats
+IsTraceFault run path other = (run.stats ≡ None) × IsClash run path other
+
 -- the order is what the values of the subcommand of this name stand for
 abbrev pub IsOrderIn : Text → List Row → Order → Type 0
 IsOrderIn name rows (order.Run run) = (name ≡ codes "run") × IsRunOf rows run × (first_of (codes "trace") rows ≡ None)
@@ -106,18 +124,19 @@ IsOrderIn name rows (order.Asm source target) = (name ≡ codes "asm")
 abbrev pub IsReadingOf : Text → List Row → Request → Type 0
 IsReadingOf name rows (request.Order order) = IsOrderIn name rows order
 IsReadingOf name rows (request.Traced traced) = (name ≡ codes "run") × IsRunOf rows traced.run
-    × ((path : Text) × (first_of (codes "trace") rows ≡ Some path) × IsTargetOf traced.run path traced.target)
+    × ((path : Text) × (first_of (codes "trace") rows ≡ Some path) × IsTraceTarget traced.run path traced.target)
 IsReadingOf name rows (request.Debug debug) = (name ≡ codes "debug") × IsDebugOf rows debug
 
 -- the fault names the first of these texts, or memory ran out
 abbrev pub NamesFirstOf : List Text → OrderFault → Type 0
 NamesFirstOf texts (Refused text) = ⊥
 NamesFirstOf texts (Value value) = slice_get texts 0 ≡ Some value.now
+NamesFirstOf texts TracedAndCounted = ⊥
 NamesFirstOf texts NoMemory = ⊤
 
--- the run's values are read, and its trace is to go to a file that it reads
+-- the run's values are read, and its trace can't go where it is to go
 abbrev pub Clashes : List Row → OrderFault → Type 0
-Clashes rows fault = (run : Run) × IsRunOf rows run × ((path : Text) × (first_of (codes "trace") rows ≡ Some path) × IsClash run path fault)
+Clashes rows fault = (run : Run) × IsRunOf rows run × ((path : Text) × (first_of (codes "trace") rows ≡ Some path) × IsTraceFault run path fault)
 
 -- the fault names the first malformed value of a run, or memory ran out
 abbrev pub NamesFirstInRun : List Row → OrderFault → Type 0
@@ -153,14 +172,16 @@ abbrev pub IsRequestOf : List Text → Request → Type 0
 IsRequestOf words request =
     (name : Text) × (rows : List Row) × AsksFor name words rows × IsReadingOf name rows request
 
--- why the words ask for nothing: clap refuses them, a value is malformed, or memory ran out
+-- why the words ask for nothing: clap refuses them, a value is malformed, a run is to be traced and counted, or memory ran out
 abbrev pub IsFaultOf : List Text → OrderFault → Type 0
 IsFaultOf words (Refused text) = fault_of logtm words ≢ []
 IsFaultOf words (Value value) = (name : Text) × (rows : List Row) × AsksFor name words rows × NamesFirstIn name rows (Value value)
+IsFaultOf words TracedAndCounted = (name : Text) × (rows : List Row) × AsksFor name words rows × NamesFirstIn name rows TracedAndCounted
 IsFaultOf words NoMemory = ⊤
 
 -- clap's refusal, or that memory ran out for its text
 abbrev pub IsRefusal : OrderFault → Type 0
 IsRefusal (Refused text) = ⊤
 IsRefusal (Value value) = ⊥
+IsRefusal TracedAndCounted = ⊥
 IsRefusal NoMemory = ⊤

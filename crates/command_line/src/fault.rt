@@ -9,9 +9,11 @@ pub enum OrderFault<'a> {
     /// clap refused the words, or was asked for help: the text that it has for the user. clap has no contract on its
     /// texts, so none says which text this is.
     Refused(String),
-    /// The first malformed value, as the user wrote it: no number below 2^32, or for `--cache` the
-    /// name of no cache.
+    /// The first malformed value, as the user wrote it: no number below 2^32, or for `--cache` and `--stats` the
+    /// name of no cache and no form.
     Value(&'a str),
+    /// A run is to be traced and counted.
+    TracedAndCounted,
     /// Memory ran out.
     NoMemory,
 }

@@ -2,7 +2,7 @@
 //!
 //! The subcommands are:
 //!
-//! - `logtm run FILE [--harts N] [--memory S] [--steps N] [--cache small|normal] [--schedule LIST] [--trace FILE] [WORD..]`
+//! - `logtm run FILE [--harts N] [--memory S] [--steps N] [--cache small|normal] [--schedule LIST] [--trace FILE | --stats table|csv] [WORD..]`
 //! - `logtm debug FILE [--harts N] [--memory S] [--cache small|normal]`
 //! - `logtm dis FILE`
 //! - `logtm asm IN OUT`
@@ -19,4 +19,4 @@ mod request;
 pub use fault::OrderFault;
 pub use numbers::number;
 pub use parser::parse;
-pub use request::{Cache, Debug, Order, Request, Run, Target, Traced, Word};
+pub use request::{Cache, Debug, Order, Request, Run, Stats, Target, Traced, Word};

@@ -13,6 +13,8 @@ use clap::error::ErrorKind;
 use clap::{Arg, ArgAction, Command, Error};
 use std::alloc::{AllocError, Global};
 
+const PROGRAM_HELP: &str = "The program, an ELF file, or assembly text if its name ends in .s";
+
 const HARTS_HELP: &str = "How many harts run it, 1 if not given";
 
 const MEMORY_HELP: &str = "How many bytes of memory there are, 1048576 if not given";
@@ -23,9 +25,9 @@ const CACHE_HELP: &str = "The cache of each hart, small or normal, normal if not
 /// environment gives, and is not read.
 ///
 /// clap says what it refuses, and answers `--help` in the same way. Where it takes the words of a
-/// run, the values of `--harts`, `--memory`, `--steps` and `--cache` and then the WORDs are read, in
+/// run, the values of `--harts`, `--memory`, `--steps`, `--cache` and `--stats` and then the WORDs are read, in
 /// this order, up to the first malformed one, and then that of `--trace`, which is malformed where it is the path of a file
-/// that the run reads; those of `debug` likewise. Memory may run out at any time: no clause says when.
+/// that the run reads, and is refused beside `--stats`; those of `debug` likewise. Memory may run out at any time: no clause says when.
 pub fn parse<'a>(alloc: Global, words: &'a [&'a str]) -> Result<Request<'a>, OrderFault<'a>>
     ensures { MatchResult result (IsRequestOf (map (λ w. w.now) words.entry.now))
         (IsFaultOf (map (λ w. w.now) words.entry.now)) }
@@ -60,6 +62,7 @@ fn run_command<'a>(alloc: Global) -> Result<Command<'a>, AllocError>
     let steps = "How many steps are taken at most, 10000000 if not given";
     let schedule = "A file whose lines choose the first steps";
     let trace = "A file for the trace, a line for each entry; - for standard output";
+    let stats = "Counts behind the report, as a table or as csv; not with a trace";
     bare(alloc, "run", about)
         .arg(program(alloc))?
         .arg(option(alloc, "harts", "N", HARTS_HELP))?
@@ -68,6 +71,7 @@ fn run_command<'a>(alloc: Global) -> Result<Command<'a>, AllocError>
         .arg(option(alloc, "cache", "NAME", CACHE_HELP))?
         .arg(option(alloc, "schedule", "LIST", schedule))?
         .arg(option(alloc, "trace", "FILE", trace))?
+        .arg(option(alloc, "stats", "NAME", stats))?
         .arg(words(alloc))
 }
 
@@ -90,7 +94,8 @@ fn dis_command<'a>(alloc: Global) -> Result<Command<'a>, AllocError>
     ensures shape { IfOk result (λ c. shape_of c ≡ spec.dis) }
     ensures local { IfOk result (λ c. (out-Command c).has_globals ≡ false) }
 {
-    bare(alloc, "dis", "Lists a program").arg(program(alloc))
+    let file = required(alloc, "file", "FILE", "The program, an ELF file");
+    bare(alloc, "dis", "Lists a program").arg(file)
 }
 
 fn asm_command<'a>(alloc: Global) -> Result<Command<'a>, AllocError>
@@ -114,7 +119,7 @@ fn program<'a>(alloc: Global) -> Arg<'a>
     ensures rule { rule_of result ≡ spec.required_named (codes "file") }
     ensures local { result.global ≡ false }
 {
-    required(alloc, "file", "FILE", "The program, an ELF file")
+    required(alloc, "file", "FILE", PROGRAM_HELP)
 }
 
 fn required<'a>(alloc: Global, name: &'a str, value: &'a str, help: &'a str) -> Arg<'a>

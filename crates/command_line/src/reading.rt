@@ -1,14 +1,14 @@
-ghost use Rattle.std.specs.Prelude.{◌≡◌, MatchResult, Some, codes, map, option_map};
+ghost use Rattle.std.specs.Prelude.{◌≡◌, MatchResult, None, Some, codes, map, option_map};
 ghost use Rattle.clap.specs.Words.{first_of, found_of, rows_of};
 ghost use Rattle.command_line.specs.Numbers.{number_of};
 ghost use Rattle.command_line.specs.Reading.{HasValue, IsComplete, IsReadingOf, IsReadingOfWords, IsRunOf, IsDebugOf};
 ghost use Rattle.command_line.specs.Reading.{NamesFirstIn, NamesFirstOf, cache_of, given, malformed};
-ghost use Rattle.command_line.specs.Reading.{IsRunRequestOf, NamesFirstInRun, IsTargetOf, IsClash, is_read_by};
-ghost use Rattle.command_line.specs.Reading.{malformed_of, malformed_of_machine, read_or, words_of};
+ghost use Rattle.command_line.specs.Reading.{IsRunRequestOf, NamesFirstInRun, IsTargetOf, IsClash, IsTraceTarget, IsTraceFault, is_read_by};
+ghost use Rattle.command_line.specs.Reading.{malformed_of, malformed_of_machine, read_or, stats_of, words_of};
 
 use crate::fault::OrderFault;
 use crate::numbers::number;
-use crate::request::{Cache, Debug, Order, Request, Run, Target, Traced, Word};
+use crate::request::{Cache, Debug, Order, Request, Run, Stats, Target, Traced, Word};
 use clap::ArgMatches;
 use std::alloc::Global;
 
@@ -66,10 +66,20 @@ fn read_run_request<'a>(
     let run = read_run(alloc, matches)?;
     match path_given(matches, "trace") {
         Some(path) => {
-            let target = target_at(path, &run)?;
+            let target = trace_target(path, &run)?;
             Ok(Request::Traced(Traced { run, target }))
         }
         None => Ok(Request::Order(Order::Run(run))),
+    }
+}
+
+/// Where the trace of a run goes that isn't counted too.
+fn trace_target<'a>(path: &'a str, run: &Run<'_>) -> Result<Target<'a>, OrderFault<'a>>
+    ensures { MatchResult result (IsTraceTarget run.now path.now) (IsTraceFault run.now path.now) }
+{
+    match run.stats {
+        Some(_) => Err(OrderFault::TracedAndCounted),
+        None => target_at(path, run),
     }
 }
 
@@ -107,6 +117,7 @@ fn read_run<'a>(alloc: Global, matches: &ArgMatches<'a>) -> Result<Run<'a>, Orde
     let steps = number_given(matches, "steps", DEFAULT_STEPS)?;
     let cache = cache_given(matches, "cache", DEFAULT_CACHE)?;
     let schedule = path_given(matches, "schedule");
+    let stats = stats_given(matches, "stats")?;
     let words = words_given(alloc, matches)?;
     Ok(Run {
         file,
@@ -115,6 +126,7 @@ fn read_run<'a>(alloc: Global, matches: &ArgMatches<'a>) -> Result<Run<'a>, Orde
         steps,
         cache,
         schedule,
+        stats,
         words,
     })
 }
@@ -162,6 +174,18 @@ fn cache_given<'a>(
     }
 }
 
+/// The form in which counts are asked for, if they are.
+fn stats_given<'a>(matches: &ArgMatches<'a>, id: &str) -> Result<Option<Stats>, OrderFault<'a>>
+    ensures { MatchResult result
+        (λ stats. read_or stats_of None id.now (rows_of (found_of matches.now)) ≡ Some stats)
+        (NamesFirstOf (malformed stats_of (given id.now (rows_of (found_of matches.now))))) }
+{
+    match matches.get_str(id) {
+        Some(text) => stats_named(text).ok_or(OrderFault::Value(text)),
+        None => Ok(None),
+    }
+}
+
 fn path_given<'a>(matches: &ArgMatches<'a>, id: &str) -> Option<&'a str>
     ensures { option_map (λ path. path.now) result ≡ first_of id.now (rows_of (found_of matches.now)) }
 {
@@ -174,6 +198,16 @@ fn cache_named(name: &str) -> Option<Cache>
     match name {
         "small" => Some(Cache::Small),
         "normal" => Some(Cache::Normal),
+        _ => None,
+    }
+}
+
+fn stats_named(name: &str) -> Option<Option<Stats>>
+    ensures { result ≡ stats_of name.now }
+{
+    match name {
+        "table" => Some(Some(Stats::Table)),
+        "csv" => Some(Some(Stats::Csv)),
         _ => None,
     }
 }

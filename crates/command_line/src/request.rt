@@ -70,11 +70,13 @@ pub struct Run<'a> {
     pub cache: Cache,
     /// The path of the file whose lines choose the first steps, if there is one.
     pub schedule: Option<&'a str>,
+    /// How the counts of the run are shown behind the report, if they are.
+    pub stats: Option<Stats>,
     /// The words of memory to show at the end.
     pub words: Vec<Word<'a>>,
 }
 
-/// A run of a program with a trace.
+/// A run of a program with a trace, and without counts.
 #[derive(Debug, Drop)]
 pub struct Traced<'a> {
     pub run: Run<'a>,
@@ -111,6 +113,15 @@ pub enum Cache {
     Small,
     /// 16 sets of 4 ways.
     Normal,
+}
+
+/// A form in which the counts of a run are shown.
+#[derive(Clone, Copy, Debug, PartialEq, Eq)]
+pub enum Stats {
+    /// A table for people.
+    Table,
+    /// Lines for scripts, with commas.
+    Csv,
 }
 
 /// A word of memory that is to be shown.

@@ -97,9 +97,13 @@ RunsInto g most s i pc t =
 abbrev pub Clears : Session → ℕ → Session → Type 0
 Clears s b t = (n : ℕ) × (position (λ a. a == b) s.breakpoints ≡ Some n) × (t ≡ record s { breakpoints = remove s.breakpoints n })
 
--- or it is set, behind the others
+-- how many breakpoints there are at most
+abbrev pub most_breakpoints : ℕ
+most_breakpoints = 16
+
+-- or it is set, behind the others, where there is room
 abbrev pub Sets : Session → ℕ → Session → Type 0
-Sets s b t = (has_breakpoint s.breakpoints b ≡ false) × (t ≡ record s { breakpoints = s.breakpoints ++ b ∷ [] })
+Sets s b t = (has_breakpoint s.breakpoints b ≡ false) × (length s.breakpoints < most_breakpoints) × (t ≡ record s { breakpoints = s.breakpoints ++ b ∷ [] })
 
 -- Steps by hand
 
@@ -121,6 +125,10 @@ Chooses g s c (told.Nothing) t = (step : Option MachineStep) × IsStepOf g.sets 
 Chooses g s c (told.Entry e) t = (step : Option MachineStep) × IsStepOf g.sets s.machine s.last c step × Makes g s step (Some e) t
 Chooses g s c (told.Made number) t = (step : Option MachineStep) × IsStepOf g.sets s.machine s.last c step × Makes g s step None t × (number ≡ s.machine.sent)
 Chooses g s c other t = ⊥
+
+-- there is no memory for a step that is enabled: nothing is done
+abbrev pub LacksRoom : Geometry → Session → Choice → Session → Type 0
+LacksRoom g s c t = (step : MachineStep) × IsStepOf g.sets s.machine s.last c (Some step) × IsEnabled g (shown g.sets s.machine) step true × (t ≡ s)
 
 -- Commands
 
@@ -145,10 +153,6 @@ IsPlaced s command = place_fault (setting_of s.machine) command ≡ None
 abbrev pub patience : ℕ
 patience = 1000000
 
--- how many breakpoints there are at most
-abbrev pub most_breakpoints : ℕ
-most_breakpoints = 16
-
 -- a command ends at a limit: so many turns were made; or there is no room for a further breakpoint
 abbrev pub IsLimited : Geometry → Session → Command → Session → Type 0
 IsLimited g s Step t = (n : ℕ) × (n ≡ patience) × Waits g n s t
@@ -156,13 +160,13 @@ IsLimited g s (Run n) t = RunsOn g n s t × (IsIdle g.sets t → ⊥)
 IsLimited g s (Break b) t = IsPlaced s (Break b) × (has_breakpoint s.breakpoints b ≡ false) × (length s.breakpoints ≡ most_breakpoints) × (t ≡ s)
 IsLimited g s other t = ⊥
 
--- a command ends for want of memory: some of its turns were made
+-- a command ends for want of memory: some of its turns were made, and a hart runs, so that there is a further one; or its step is enabled
 abbrev pub LacksMemory : Geometry → Session → Command → Session → Type 0
-LacksMemory g s Step t = (n : ℕ) × (n < patience) × Waits g n s t
-LacksMemory g s (Run n) t = (k : ℕ) × (k < n) × RunsOn g k s t
-LacksMemory g s (Core h) t = t ≡ s
-LacksMemory g s (Evict h a) t = t ≡ s
-LacksMemory g s (Deliver sort h a) t = t ≡ s
+LacksMemory g s Step t = (n : ℕ) × (n < patience) × Waits g n s t × (IsIdle g.sets t → ⊥)
+LacksMemory g s (Run n) t = (k : ℕ) × (k < n) × RunsOn g k s t × (IsIdle g.sets t → ⊥)
+LacksMemory g s (Core h) t = IsPlaced s (Core h) × LacksRoom g s (choice.Core h) t
+LacksMemory g s (Evict h a) t = IsPlaced s (Evict h a) × LacksRoom g s (choice.Evict h (a / block_bytes)) t
+LacksMemory g s (Deliver sort h a) t = IsPlaced s (Deliver sort h a) × LacksRoom g s (choice.Deliver (name sort h (a / block_bytes))) t
 LacksMemory g s other t = ⊥
 
 -- a command ends with a fault, before anything is told

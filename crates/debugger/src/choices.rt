@@ -5,7 +5,7 @@ ghost use Rattle.schedule.specs.declared.choices.Sort.{Sort as SortValue};
 ghost use Rattle.commands.specs.declared.command.Command.TheVariants.{Break, Core, Evict, Deliver};
 ghost use Rattle.commands.specs.declared.fault.DebugFault.{DebugFault as Fault};
 ghost use Rattle.commands.specs.declared.fault.DebugFault.TheVariants.{NoMemory};
-ghost use Rattle.debugger.specs.Sessions.{Chooses, Does, Fails, IsDeedRefused};
+ghost use Rattle.debugger.specs.Sessions.{Chooses, LacksRoom, Does, Fails, IsDeedRefused};
 
 use crate::report::Report;
 use crate::session::Session;
@@ -17,9 +17,9 @@ use schedule::{Choice, Name, Sort};
 
 /// Steps by hand, and breakpoints.
 impl<const SETS: usize, const WAYS: usize> Session<SETS, WAYS> {
-    /// Makes the step that is chosen, if it is enabled. It fails only if memory runs out.
+    /// Makes the step that is chosen, if it is enabled. It fails only if memory runs out for such a step.
     fn choose(&mut self, choice: Choice) -> Result<Report, DebugFault>
-        ensures { MatchResult result (λ report. Chooses (geometry SETS WAYS) self.old choice report self.new) (λ fault. (fault ≡ NoMemory) × (self.new ≡ self.old)) }
+        ensures { MatchResult result (λ report. Chooses (geometry SETS WAYS) self.old choice report self.new) (λ fault. (fault ≡ NoMemory) × LacksRoom (geometry SETS WAYS) self.old choice self.new) }
     {
         let Some(step) = choice.step(&self.machine, self.last) else {
             return Ok(Report::Nothing);

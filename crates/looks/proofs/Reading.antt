@@ -1,5 +1,6 @@
 -- What is read of a machine, once its hart and its address are tested.
-use Rattle.std.proofs.Common.{◌≡◌, ℕ, ◌<◌, Bool, true, false, cond, nat_lt, List, Option, Some, None, Ok, Err, length, arith, refl, sym, ◌∙◌}
+use Rattle.std.proofs.Common.{◌≡◌, ℕ, ◌<◌, Bool, true, false, cond, nat_lt, List, Option, Some, None, Result, Ok, Err, length, arith, refl, sym, subst, ◌∙◌}
+use Rattle.std.specs.Prelude.{IsSome, is_some}
 use Rattle.std.proofs.lemmas.Bool.Decides.{nat_tests}
 use Rattle.std.proofs.lemmas.List.{get_or_past}
 use Rattle.std.proofs.lemmas.Option.{same_Some}
@@ -12,9 +13,11 @@ use Rattle.protocol.specs.Machine.{Machine}
 use Rattle.protocol.specs.Network.{LiesBelow}
 use Rattle.protocol.specs.Values.{view}
 use Rattle.machine.specs.Mail.{in_flight}
-use Rattle.machine.specs.Reads.{regs_if, view_if}
+use Rattle.machine.specs.Reads.{regs_if, view_if, log_word}
+use Rattle.machine.specs.States.{State}
 use Rattle.commands.specs.declared.fault.DebugFault.{DebugFault}
-use Rattle.looks.specs.Refusals.{unless}
+use Rattle.commands.specs.declared.fault.DebugFault.TheVariants.{NoHart, Address}
+use Rattle.looks.specs.Refusals.{unless, hart_fault, word_fault, log_fault}
 
 -- messages lie below the end of the slots
 pub lies_below : (slots : List (Option Flight)) → LiesBelow (length slots) (in_flight slots)
@@ -50,3 +53,21 @@ unless-err (Some f) e y is = cc
 pub passed : (test : Bool) (f : DebugFault) → cond test None (Some f) ≡ None → test ≡ true
 passed true f is = refl
 passed false f is = absurd (cc)
+
+-- a value that passed its test is the one that was asked for, and so passes it
+tested : (fault : ℕ → Option DebugFault) (n x : ℕ) (r : Result ℕ DebugFault) → r ≡ Ok x → r ≡ unless (fault n) n → fault x ≡ None
+tested fault n x r ok is =
+    let found : Ok x ≡ unless (fault n) n = sym ok ∙ is in
+    subst (λ (y : ℕ). fault y ≡ None) (sym (unless-same (fault n) x n found)) (unless-ok (fault n) x n found)
+
+-- a hart is there; a word can be read; there is such a word of the logs
+pub is_hart : (s : Setting) (n h : ℕ) (r : Result ℕ DebugFault) → r ≡ Ok h → r ≡ unless (hart_fault s n) n → h < s.count
+is_hart s n h r ok is =
+    let below : nat_lt h s.count ≡ true = passed (nat_lt h s.count) NoHart (tested (hart_fault s) n h r ok is) in
+    grind (arith, nat_tests, below)
+
+pub readable : (s : Setting) (n a : ℕ) (r : Result ℕ DebugFault) → r ≡ Ok a → r ≡ unless (word_fault s n) n → is_readable s a ≡ true
+readable s n a r ok is = passed (is_readable s a) Address (tested (word_fault s) n a r ok is)
+
+pub logged : (m : State) (n a : ℕ) (r : Result ℕ DebugFault) → r ≡ Ok a → r ≡ unless (log_fault m n) n → IsSome (log_word m a)
+logged m n a r ok is = passed (is_some (log_word m a)) Address (tested (log_fault m) n a r ok is)

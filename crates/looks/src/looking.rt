@@ -7,7 +7,7 @@ ghost use Rattle.looks.specs.Looks.{refusal, Shows, told};
 use crate::blocks::{put_entries, put_entry, put_line};
 use crate::flights::put_messages;
 use crate::harts::{put_harts, put_regs, put_tx};
-use crate::memory::{put_instruction, put_logged, put_peeked, put_raw, put_seen};
+use crate::memory::{put_found, put_instruction};
 use crate::places::{hart_of, logged_at, text_at, word_at};
 use commands::{DebugFault, Look, help};
 use machine::Machine;
@@ -44,11 +44,18 @@ pub fn look<const SETS: usize, const WAYS: usize, S: Sink>(
 {
     let put = match look {
         Look::Regs(hart) => put_regs(machine, hart_of(machine, hart)?, sink),
-        Look::Word(addr) => put_peeked(machine, word_at(machine, addr)?, sink),
-        Look::Raw(addr) => put_raw(machine, word_at(machine, addr)?, sink),
+        Look::Word(addr) => {
+            let addr = word_at(machine, addr)?;
+            put_found(addr, machine.peek(addr), sink)
+        }
+        Look::Raw(addr) => {
+            let addr = word_at(machine, addr)?;
+            put_found(addr, machine.raw(addr), sink)
+        }
         Look::View(hart, addr) => {
             let hart = hart_of(machine, hart)?;
-            put_seen(machine, hart, word_at(machine, addr)?, sink)
+            let addr = word_at(machine, addr)?;
+            put_found(addr, machine.view(hart, addr), sink)
         }
         Look::Line(hart, addr) => {
             let hart = hart_of(machine, hart)?;
@@ -57,7 +64,10 @@ pub fn look<const SETS: usize, const WAYS: usize, S: Sink>(
         Look::Dir(addr) => put_entry(machine, word_at(machine, addr)?, sink),
         Look::Dirs => put_entries(machine, sink),
         Look::Tx(hart) => put_tx(machine, hart_of(machine, hart)?, sink),
-        Look::Log(addr) => put_logged(machine, logged_at(machine, addr)?, sink),
+        Look::Log(addr) => {
+            let addr = logged_at(machine, addr)?;
+            put_found(addr, machine.log_word(addr), sink)
+        }
         Look::Dis(addr) => put_instruction(machine, text_at(machine, addr)?, sink),
         Look::Messages => put_messages(machine, sink),
         Look::Harts => put_harts(machine, sink),

@@ -251,50 +251,76 @@ fn the_hart_is_tested_before_the_address(rt: HostRuntime) -> Result<(), Fail> {
     Ok(())
 }
 
-/// How the sink that breaks answers, and how many bytes it takes before.
-fn broken<const SETS: usize, const WAYS: usize>(
+/// That each put of these looks, each with what it shows, is refused in turn: then the fault is told, and a beginning was taken.
+fn check_cut<const SETS: usize, const WAYS: usize>(
     rt: &(impl Abort + AllocGlobal),
     machine: &Machine<SETS, WAYS>,
-    what: Look,
-    want: &str,
-    puts: u32,
+    looks: &[(Look, &str)],
 ) {
-    for left in 0..puts {
-        let mut sink = Breaking::new(rt.alloc(), left);
-        assert_eq!(rt;
-            look(machine, what, &mut sink),
-            Err(DebugFault::Device),
-            "{left}"
-        );
-        assert_eq!(rt; sink.failed, 1, "{left}");
-        assert!(rt; want.as_bytes().starts_with(&sink.bytes), "{left}");
-        assert!(rt; sink.bytes.len() < want.len(), "{left}");
+    for (what, shown) in looks {
+        let mut whole = false;
+        for left in 0..200 {
+            let mut sink = Breaking::new(rt.alloc(), left);
+            let answer = look(machine, *what, &mut sink);
+            whole = answer == Ok(());
+            assert!(rt; whole || answer == Err(DebugFault::Device), "{shown}");
+            assert_eq!(rt; sink.failed == 0, whole, "{shown}");
+            assert!(rt; shown.as_bytes().starts_with(&sink.bytes), "{shown}");
+            assert_eq!(rt; sink.bytes.len() == shown.len(), whole, "{shown}");
+            assert!(rt; left > 0 || !whole, "{shown}");
+        }
+        assert!(rt; whole, "{shown}");
     }
 }
 
-#[test]
-fn each_put_fails_in_turn(rt: HostRuntime) -> Result<(), Fail> {
-    let machine = two_want(rt.alloc())?;
-    broken(
-        &rt,
-        &machine,
-        Look::Dirs,
-        "0x00002000 owner none sharers - busy 0 M\n",
-        5,
-    );
-    broken(
-        &rt,
-        &machine,
+static OF_TWO: [(Look, &str); 5] = [
+    (Look::Dirs, "0x00002000 owner none sharers - busy 0 M\n"),
+    (
         Look::Messages,
         "get 1 0x00002000 write stamp - held\ngrant 0 0x00002000 M expect - content 0x00000000\n",
-        6,
-    );
-    broken(
-        &rt,
-        &machine,
+    ),
+    (
         Look::Harts,
         "0 pc=0x00001008 running waits 0x00002000\n1 pc=0x00001008 running waits 0x00002000\n",
-        16,
+    ),
+    (Look::Line(0, PLACE), "none\n"),
+    (Look::Tx(1), "none\n"),
+];
+
+static OF_STORED: [(Look, &str); 9] = [
+    (Look::Word(PLACE), "0x00002000 = 0x00000000\n"),
+    (Look::Raw(PLACE), "0x00002000 = 0x00000007\n"),
+    (Look::View(0, PLACE), "0x00002000 = 0x00000007\n"),
+    (Look::Line(0, PLACE), "M -w-\n"),
+    (Look::Dir(PLACE), "owned 0 sharers - busy -\n"),
+    (Look::Tx(0), "depth 1 records 1 stamp 0.0\n"),
+    (Look::Log(0xff000), "0x000ff000 = 0x00002000\n"),
+    (Look::Dis(0x1000), "0x00001000: 00000a0b  tbegin 20\n"),
+    (Look::Harts, "0 pc=0x00001010 running depth 1\n"),
+];
+
+#[test]
+fn each_put_fails_in_turn(rt: HostRuntime) -> Result<(), Fail> {
+    check_cut(&rt, &two_want(rt.alloc())?, &OF_TWO);
+    Ok(())
+}
+
+#[test]
+fn each_put_about_a_transaction_fails_in_turn(rt: HostRuntime) -> Result<(), Fail> {
+    let mut machine = booted::<16, 4>(rt.alloc(), &COMMITS, 1, LARGE)?;
+    let mut entries = Vec::new(rt.alloc());
+    go(&mut machine, 4, &mut entries)?;
+    check_cut(&rt, &machine, &OF_STORED);
+    Ok(())
+}
+
+#[test]
+fn each_put_of_registers_and_help_fails_in_turn(rt: HostRuntime) -> Result<(), Fail> {
+    let machine = booted::<16, 4>(rt.alloc(), &COMMITS, 1, LARGE)?;
+    check_cut(
+        &rt,
+        &machine,
+        &[(Look::Regs(0), REGISTERS), (Look::Help, help())],
     );
     Ok(())
 }

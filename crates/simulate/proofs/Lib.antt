@@ -3,5 +3,6 @@ pub mod Reported
 pub mod Starting
 pub mod Refusing
 pub mod Performing
+mod CountedRuns
 pub mod Quoting
 mod TracedRuns

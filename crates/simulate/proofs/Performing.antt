@@ -14,7 +14,7 @@ use Rattle.watch.specs.Watched.{PlaysWith}
 use Rattle.simulate.specs.Orders.{geometry_of}
 use Rattle.simulate.specs.Reports.{AllReadable, report_of}
 use Rattle.simulate.specs.Begins.{IsBegunBy}
-use Rattle.simulate.specs.Runs.{addresses, ComesBy, IsReport, IsReportOf}
+use Rattle.simulate.specs.Runs.{addresses, ComesBy, IsReport}
 use Rattle.simulate.specs.Schedules.{AreChosenBy}
 use Rattle.simulate.specs.Starts.{IsStartOf}
 use Rattle.simulate.specs.Statuses.{IsStatusOf}
@@ -60,7 +60,6 @@ pub record HasReport (run : Run) (file list : List ℕ) (g : Geometry) (w : Stat
   pub belongs : Belongs g end (shown g.sets w)
   pub comes : ComesBy run.file.now file list (geometry_of run.cache) run.harts run.memory run.steps entries end
   pub is : IsReport end run.words.items (report_of end words) status
-  pub report : IsReportOf run file list (report_of end words) status
   pub readable : AllReadable (setting_of w) words
 
 of_end : (run : Run) (file list : List ℕ) (g : Geometry) (entries : List Entry) (v w : State) (status : ℕ) → geometry_of run.cache ≡ g → HasEnd g run.file.now file list run.harts run.memory run.steps entries v w
@@ -75,7 +74,6 @@ of_end run file list g entries v w status caches e readable given =
       belongs = e.belongs;
       comes = comes;
       is = is;
-      report = (e.end, (entries, comes), is);
       readable = readable-stays e.end.setting (setting_of w) words (sym (same_setting g e.end w e.belongs)) end_readable;
     }
 

@@ -13,7 +13,7 @@ use Rattle.simulate.specs.Refusals.{IsFaultOf, IsListingFault, IsRunFault}
 use Rattle.simulate.specs.Sources.{IsProgramFault, IsSourceFault}
 use Rattle.simulate.specs.Statuses.{status_for, IsGreatest, IsReported, IsRefused}
 use Rattle.simulate.specs.declared.fault.Fault.{Fault}
-use Rattle.simulate.specs.declared.fault.Fault.TheVariants.{NotText, Refused, Value, Unread, NotSource, Source, Load, Boot, Word, NotSchedule, Schedule, Unwritten, Unmade, NoMemory}
+use Rattle.simulate.specs.declared.fault.Fault.TheVariants.{NotText, Refused, Value, TracedAndCounted, Unread, NotSource, Source, Load, Boot, Word, NotSchedule, Schedule, Unwritten, Unmade, NoMemory}
 use Rattle.std.specs.Prelude.{List}
 
 exit_status : (b : Bool) → IsReported (cond b 0 1)
@@ -67,6 +67,7 @@ pub fault-not_reported : (e : Fault) → IsReported (fault_status e) → ⊥
 fault-not_reported NotText h = omega (arith, h)
 fault-not_reported (Refused text) h = omega (arith, h)
 fault-not_reported (Value text) h = omega (arith, h)
+fault-not_reported TracedAndCounted h = omega (arith, h)
 fault-not_reported (Unread file) h = omega (arith, h)
 fault-not_reported NotSource h = omega (arith, h)
 fault-not_reported (Source refused) h = omega (arith, h)
@@ -84,6 +85,7 @@ program_unwritten : (path file : List ℕ) (e : Fault) → IsProgramFault path f
 program_unwritten path file NotText why h = absurd (omega (arith, h))
 program_unwritten path file (Refused text) why h = absurd (omega (arith, h))
 program_unwritten path file (Value text) why h = absurd (omega (arith, h))
+program_unwritten path file TracedAndCounted why h = absurd (omega (arith, h))
 program_unwritten path file (Unread other) why h = elim why [ inl x ↦ x.1 | inr x ↦ x.1 ]
 program_unwritten path file NotSource why h = absurd (omega (arith, h))
 program_unwritten path file (Source refused) why h = absurd (omega (arith, h))
@@ -101,6 +103,7 @@ run_unwritten : (run : Run) (file list : List ℕ) (e : Fault) → IsRunFault ru
 run_unwritten run file list NotText why h = absurd (omega (arith, h))
 run_unwritten run file list (Refused text) why h = absurd (omega (arith, h))
 run_unwritten run file list (Value text) why h = absurd (omega (arith, h))
+run_unwritten run file list TracedAndCounted why h = absurd (omega (arith, h))
 run_unwritten run file list (Unread path) why h = absurd (program_unwritten run.file.now file (Unread path) why h)
 run_unwritten run file list NotSource why h = absurd (omega (arith, h))
 run_unwritten run file list (Source refused) why h = absurd (omega (arith, h))
@@ -118,6 +121,7 @@ listing_unwritten : (file : List ℕ) (e : Fault) → IsListingFault file e → 
 listing_unwritten file NotText why h = absurd (omega (arith, h))
 listing_unwritten file (Refused text) why h = absurd (omega (arith, h))
 listing_unwritten file (Value text) why h = absurd (omega (arith, h))
+listing_unwritten file TracedAndCounted why h = absurd (omega (arith, h))
 listing_unwritten file (Unread path) why h = absurd why
 listing_unwritten file NotSource why h = absurd (omega (arith, h))
 listing_unwritten file (Source refused) why h = absurd (omega (arith, h))
@@ -135,6 +139,7 @@ source_unwritten : (file : List ℕ) (e : Fault) → IsSourceFault file e → fa
 source_unwritten file NotText why h = absurd (omega (arith, h))
 source_unwritten file (Refused text) why h = absurd (omega (arith, h))
 source_unwritten file (Value text) why h = absurd (omega (arith, h))
+source_unwritten file TracedAndCounted why h = absurd (omega (arith, h))
 source_unwritten file (Unread path) why h = why
 source_unwritten file NotSource why h = absurd (omega (arith, h))
 source_unwritten file (Source refused) why h = absurd (omega (arith, h))

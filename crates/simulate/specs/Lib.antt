@@ -6,6 +6,7 @@ pub mod Sources
 pub mod Debugging
 pub mod Schedules
 pub mod Statuses
+pub mod Counted
 pub mod Runs
 pub mod Unreadable
 pub mod Starts

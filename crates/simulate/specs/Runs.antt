@@ -12,6 +12,7 @@ use Rattle.command_line.specs.declared.request.Run.{Run}
 use Rattle.command_line.specs.declared.request.Word.{Word}
 use Rattle.schedule.specs.declared.choices.Choice.{Choice}
 use Rattle.schedule.specs.Follows.{Follows}
+use Rattle.simulate.specs.Counted.{with_counts}
 use Rattle.simulate.specs.Orders.{geometry_of}
 use Rattle.simulate.specs.Reports.{report_of, AllReadable}
 use Rattle.simulate.specs.Schedules.{AreChosenBy}
@@ -32,10 +33,6 @@ pub record ComesBy (path file list : List ℕ) (cache : Geometry) (harts memory 
   pub made : Follows cache choices steps first ((setting_of first).count - 1) entries last
   pub run : IsRun (booted program.segments program.entry harts memory) entries f
 
--- some entries lead there
-abbrev pub ComesTo : List ℕ → List ℕ → List ℕ → Geometry → ℕ → ℕ → ℕ → Flat → Type 0
-ComesTo path file list cache harts memory steps f = (entries : List Entry) × ComesBy path file list cache harts memory steps entries f
-
 -- the addresses of the words that are to be shown
 abbrev pub addresses : List Word → List ℕ
 addresses words = map (λ w. w.addr) words
@@ -46,7 +43,8 @@ pub record IsReport (f : Flat) (words : List Word) (shown : List ℕ) (given : �
   pub text : shown ≡ report_of f (addresses words)
   pub status : IsStatusOf f given
 
--- the text is the report that a run of the file with these bytes, by this list, comes to, and the status goes with it
+-- the text is the report that a run of the file with these bytes, by this list, comes to, and behind it the counts of its entries, if they are asked for; and the status goes with it
 abbrev pub IsReportOf : Run → List ℕ → List ℕ → List ℕ → ℕ → Type 0
 IsReportOf run file list text status =
-    (f : Flat) × ComesTo run.file.now file list (geometry_of run.cache) run.harts run.memory run.steps f × IsReport f run.words.items text status
+    (entries : List Entry) × (f : Flat) × ComesBy run.file.now file list (geometry_of run.cache) run.harts run.memory run.steps entries f
+    × ((report : List ℕ) × IsReport f run.words.items report status × (text ≡ with_counts run.stats entries f.setting.count report))

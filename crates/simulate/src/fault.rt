@@ -33,6 +33,8 @@ pub enum Fault<'a> {
     Refused(String),
     /// The first malformed value, as the user wrote it.
     Value(&'a str),
+    /// A run is to be traced and counted.
+    TracedAndCounted,
     /// The path of a file that can't be read.
     Unread(&'a str),
     /// The source is not text.
@@ -64,6 +66,7 @@ impl<'a> Fault<'a> {
     {
         match self {
             Fault::NotText | Fault::Refused(_) | Fault::Value(_) | Fault::Word(_) => 2,
+            Fault::TracedAndCounted => 2,
             Fault::NotSchedule | Fault::Schedule(_) => 2,
             Fault::Unread(_) | Fault::Unwritten | Fault::Unmade(_) => 3,
             Fault::NotSource | Fault::Source(_) | Fault::Load(_) | Fault::Boot(_) => 4,
@@ -79,6 +82,11 @@ impl<'a> Fault<'a> {
             Fault::NotText => put_line(sink, b"an argument is not text", ""),
             Fault::Refused(text) => put_all(sink, &[text.as_bytes()]),
             Fault::Value(text) => put_line(sink, b"value ", text),
+            Fault::TracedAndCounted => put_line(
+                sink,
+                b"--trace and --stats exclude each other",
+                "",
+            ),
             Fault::Unread(file) => put_line(sink, b"cannot read ", file),
             Fault::NotSource => put_line(sink, b"source is not text", ""),
             Fault::Source(refused) => put_refused(sink, refused),
@@ -181,6 +189,7 @@ impl<'a> From<OrderFault<'a>> for Fault<'a> {
         match fault {
             OrderFault::Refused(text) => Fault::Refused(text),
             OrderFault::Value(text) => Fault::Value(text),
+            OrderFault::TracedAndCounted => Fault::TracedAndCounted,
             OrderFault::NoMemory => Fault::NoMemory,
         }
     }

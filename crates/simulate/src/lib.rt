@@ -1,6 +1,7 @@
 //! What `logtm` does: it runs a program on a machine and reports what became of it, lists a program, or assembles a source.
 #![tactic(auto)]
 
+mod counting;
 pub mod debugging;
 mod fault;
 mod files;

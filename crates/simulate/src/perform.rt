@@ -14,6 +14,7 @@ ghost use Rattle.simulate.specs.Starts.{IsStartOf, IsStartFault};
 ghost use Rattle.simulate.specs.Statuses.{IsReported, IsRefused};
 ghost use Rattle.simulate.specs.declared.fault.Fault.TheVariants.{Unwritten};
 
+use crate::counting::{play, put_counts};
 use crate::fault::Fault;
 use crate::readable::readable;
 use crate::report::report;
@@ -23,7 +24,7 @@ use command_line::{Cache, Order, Run};
 use disassembler::listing;
 use loader::{read_elf, write_elf};
 use machine::Machine;
-use schedule::{Choice, follow};
+use schedule::Choice;
 use std::alloc::Global;
 use words::{Addr, Sink};
 
@@ -48,7 +49,8 @@ impl Outcome {
     }
 }
 
-/// Carries out an order, given the bytes of its file and those of its schedule, none where it has none: all but reading and writing files. It puts the report or the listing into `out`, or
+/// Carries out an order, given the bytes of its file and those of its schedule, none where it has none: all but reading and writing files. It puts the report, with the run's counts
+/// behind it where they are asked for, or the listing into `out`, or
 /// what the user is told of a fault into `error`.
 ///
 /// Memory may run out at any time, which gives 6: no clause says when.
@@ -136,7 +138,7 @@ fn list<'a, S: Sink>(alloc: Global, file: &[u8], out: &mut S) -> Result<u8, Faul
     Ok(0)
 }
 
-/// Runs the program in a file, and puts the report. It answers the status.
+/// Runs the program in a file, and puts the report, and the counts behind it where they are asked for. It answers the status.
 fn run_and_report<'a, S: Sink>(
     alloc: Global,
     run: &Run<'a>,
@@ -179,9 +181,11 @@ fn run_on<'a, const SETS: usize, const WAYS: usize, S: Sink>(
         addrs,
         choices,
     } = begin::<SETS, WAYS>(alloc, run, file, schedule)?;
-    follow(&mut machine, &choices, run.steps)?;
+    let counts = play(&mut machine, &choices, run.steps, run.stats)?;
     let status = status(&machine);
+    let harts = machine.harts();
     report(&machine, &addrs, out)?;
+    put_counts(run.stats, &counts, harts, out)?;
     Ok(status)
 }
 

@@ -31,6 +31,8 @@ pub trait Page: Sink {
 /// `trace`, which stands for the file at a path, while the run goes on; and then the report into `out`, or what the user is told of a fault into
 /// `error`. It answers the status that the program ends with.
 ///
+/// The counts of the run aren't put: a command line asks for a trace or for counts.
+///
 /// Memory may run out at any time, which gives 6: no clause says when.
 pub fn trace_apart<T: Page, O: Sink, E: Sink>(
     alloc: Global,

@@ -1,4 +1,5 @@
 mod command_lines;
+mod counting;
 mod memory;
 mod running;
 mod schedules;

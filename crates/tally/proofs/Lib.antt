@@ -1,3 +1,4 @@
 mod Adding
+mod Few
 mod Tallying
 mod Zeros

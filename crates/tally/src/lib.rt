@@ -6,5 +6,5 @@ mod counting;
 mod kinds;
 
 pub use cells::Counts;
-pub use counting::{Counter, count_run};
+pub use counting::{Counter, count_run, tally_run};
 pub use kinds::Kind;

@@ -26,18 +26,3 @@ impl fmt::Display for TxFault {
 }
 
 impl Error for TxFault {}
-
-#[cfg(test)]
-mod tests {
-    use super::*;
-    use std::test::Fail;
-
-    #[test]
-    fn texts(rt: HostRuntime) -> Result<(), Fail> {
-        let deep = TxFault::TooDeep.to_string(rt.alloc())?;
-        let outside = TxFault::Outside.to_string(rt.alloc())?;
-        assert_eq!(rt; deep.as_str(), "1 TooDeep");
-        assert_eq!(rt; outside.as_str(), "2 Outside");
-        Ok(())
-    }
-}

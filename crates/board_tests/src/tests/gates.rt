@@ -7,7 +7,7 @@ use workers::Gate;
 
 /// Runs each lease by so many steps at most.
 #[derive(Drop)]
-pub struct Runs {
+pub(crate) struct Runs {
     pub most: usize,
 }
 
@@ -25,13 +25,13 @@ const LOOKS: u64 = 50_000_000;
 
 /// Where two workers meet: each has its lease out until the other has one, too.
 #[derive(Drop)]
-pub struct Meeting {
+pub(crate) struct Meeting {
     first: AtomicU64,
     second: AtomicU64,
 }
 
 impl Meeting {
-    pub fn new() -> Self {
+    pub(crate) fn new() -> Self {
         Meeting {
             first: AtomicU64::new(0),
             second: AtomicU64::new(0),

@@ -12,7 +12,7 @@ use words::{Addr, Entry, HartId};
 
 /// Adds 1 to the word at 0x2000 in a transaction, and exits with 0. After each abort a hart waits before it tries again, longer than the time
 /// before, and each for a time of its own.
-pub const WAITS: [u32; 20] = [
+pub(crate) const WAITS: [u32; 20] = [
     0x0010_0413,
     0x0000_24b7,
     0x0015_0993,
@@ -36,7 +36,7 @@ pub const WAITS: [u32; 20] = [
 ];
 
 /// Adds 1 to t0 ten times, and exits with 0.
-pub const TEN: [u32; 13] = [
+pub(crate) const TEN: [u32; 13] = [
     0x0012_8293,
     0x0012_8293,
     0x0012_8293,
@@ -53,7 +53,7 @@ pub const TEN: [u32; 13] = [
 ];
 
 /// That a step was made, whatever its entry.
-pub fn made<T: Drop>(answer: Result<T, AllocError>) -> Result<(), AllocError> {
+pub(crate) fn made<T: Drop>(answer: Result<T, AllocError>) -> Result<(), AllocError> {
     let _entry = answer?;
     Ok(())
 }
@@ -84,7 +84,7 @@ fn again<const SETS: usize, const WAYS: usize, A: Allocator>(
 const WORDS: u32 = 2048;
 
 /// That the history of a board, made again, gives its entries, and its machine's registers and memory.
-pub fn check_again<const SETS: usize, const WAYS: usize, A: Allocator>(
+pub(crate) fn check_again<const SETS: usize, const WAYS: usize, A: Allocator>(
     rt: &(impl Abort + AllocGlobal),
     end: &Finished<'_, SETS, WAYS, A>,
 ) -> Result<(), Fail>

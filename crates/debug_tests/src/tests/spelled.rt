@@ -106,7 +106,7 @@ fn faults_and_help_are_told(rt: HostRuntime) -> Result<(), AllocError> {
     );
     assert_eq!(rt; DebugFault::from(AllocError).text(), "6 NoMemory");
     assert!(rt; help().starts_with("Words are parted by one space."));
-    assert_eq!(rt; help().split('\n').count(), 27);
+    assert_eq!(rt; help().split('\n').count(), 29);
     assert!(rt; help().ends_with("begins a comment\n"));
     Ok(())
 }

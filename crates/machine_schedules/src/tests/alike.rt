@@ -60,7 +60,7 @@ fn check_harts<const SETS: usize, const WAYS: usize>(
 
 /// That the coherent machine shows what the plain one does: the size, the harts, and the words of memory, one of each block and all of
 /// those at 0x2000 and 0x2040.
-pub fn check_alike<const SETS: usize, const WAYS: usize>(
+pub(crate) fn check_alike<const SETS: usize, const WAYS: usize>(
     rt: &impl Abort,
     machine: &Machine<SETS, WAYS>,
     checker: &Checker,

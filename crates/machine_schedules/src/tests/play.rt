@@ -14,7 +14,7 @@ const FIRST_BLOCK: u32 = 256;
 
 /// Which step comes next.
 #[derive(Clone, Copy, Debug, PartialEq, Eq)]
-pub enum Schedule {
+pub(crate) enum Schedule {
     /// The machine's own turns.
     Turns,
     /// The same, and after each step of a core every hart gives up every line that it holds of so many blocks from 0x2000 on.
@@ -26,7 +26,7 @@ pub enum Schedule {
 }
 
 /// The plain machine after these entries, where it accepts them all.
-pub fn checked(
+pub(crate) fn checked(
     alloc: Global,
     text: &[u32],
     harts: u32,
@@ -161,7 +161,7 @@ fn try_keys<const SETS: usize, const WAYS: usize>(
 }
 
 /// Goes on by a schedule until it ends, the entries pushed; by so many turns or rounds at most.
-pub fn play<const SETS: usize, const WAYS: usize>(
+pub(crate) fn play<const SETS: usize, const WAYS: usize>(
     machine: &mut Machine<SETS, WAYS>,
     schedule: Schedule,
     most: u32,

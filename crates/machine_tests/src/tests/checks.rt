@@ -8,17 +8,17 @@ use std::process::Abort;
 use words::{AbortCause, Addr, Entry, HartId, LineState, Marks, Message, Status};
 
 /// That there are so many of what is counted.
-pub fn check_count(rt: &impl Abort, found: usize, want: usize) {
+pub(crate) fn check_count(rt: &impl Abort, found: usize, want: usize) {
     assert_eq!(rt; found, want);
 }
 
 /// That the last entry is this one.
-pub fn check_last(rt: &impl Abort, entries: &[Entry], want: Entry) {
+pub(crate) fn check_last(rt: &impl Abort, entries: &[Entry], want: Entry) {
     assert_eq!(rt; entries.last().copied(), Some(want));
 }
 
 /// That this is the entry with an index.
-pub fn check_entry(rt: &impl Abort, entries: &[Entry], index: usize, want: Entry) {
+pub(crate) fn check_entry(rt: &impl Abort, entries: &[Entry], index: usize, want: Entry) {
     assert_eq!(rt; entries.get(index).copied(), Some(want));
 }
 
@@ -31,7 +31,7 @@ fn event(entry: &Entry) -> Option<Entry> {
 }
 
 /// That the entries are these, `None` for a word that was retired.
-pub fn check_events(rt: &impl Abort, entries: &[Entry], want: &[Option<Entry>]) {
+pub(crate) fn check_events(rt: &impl Abort, entries: &[Entry], want: &[Option<Entry>]) {
     assert_eq!(rt; entries.len(), want.len());
     for (entry, want) in entries.iter().zip(want) {
         assert_eq!(rt; event(entry), *want);
@@ -39,7 +39,7 @@ pub fn check_events(rt: &impl Abort, entries: &[Entry], want: &[Option<Entry>]) 
 }
 
 /// That the word at 0x2000 is this one in place, and this one once all running transactions are rolled back.
-pub fn check_place<const SETS: usize, const WAYS: usize>(
+pub(crate) fn check_place<const SETS: usize, const WAYS: usize>(
     rt: &impl Abort,
     machine: &Machine<SETS, WAYS>,
     in_place: u32,
@@ -50,7 +50,7 @@ pub fn check_place<const SETS: usize, const WAYS: usize>(
 }
 
 /// That a hart sees this word at 0x2000.
-pub fn check_view<const SETS: usize, const WAYS: usize>(
+pub(crate) fn check_view<const SETS: usize, const WAYS: usize>(
     rt: &impl Abort,
     machine: &Machine<SETS, WAYS>,
     hart: HartId,
@@ -60,7 +60,7 @@ pub fn check_view<const SETS: usize, const WAYS: usize>(
 }
 
 /// That this word stands at an address once all running transactions are rolled back, `None` where nothing is read.
-pub fn check_word<const SETS: usize, const WAYS: usize>(
+pub(crate) fn check_word<const SETS: usize, const WAYS: usize>(
     rt: &impl Abort,
     machine: &Machine<SETS, WAYS>,
     addr: u32,
@@ -70,7 +70,7 @@ pub fn check_word<const SETS: usize, const WAYS: usize>(
 }
 
 /// That this word of the undo logs stands at an address, `None` where there is no log.
-pub fn check_log<const SETS: usize, const WAYS: usize>(
+pub(crate) fn check_log<const SETS: usize, const WAYS: usize>(
     rt: &impl Abort,
     machine: &Machine<SETS, WAYS>,
     addr: u32,
@@ -80,7 +80,7 @@ pub fn check_log<const SETS: usize, const WAYS: usize>(
 }
 
 /// That a hart's line of 0x2000 is in this state, with these marks; `None` where there is none.
-pub fn check_line<const SETS: usize, const WAYS: usize>(
+pub(crate) fn check_line<const SETS: usize, const WAYS: usize>(
     rt: &impl Abort,
     machine: &Machine<SETS, WAYS>,
     hart: HartId,
@@ -99,7 +99,7 @@ fn state_of<const SETS: usize, const WAYS: usize>(
 }
 
 /// That a hart's line of 0x2000 is in this state; `None` where there is none.
-pub fn check_state<const SETS: usize, const WAYS: usize>(
+pub(crate) fn check_state<const SETS: usize, const WAYS: usize>(
     rt: &impl Abort,
     machine: &Machine<SETS, WAYS>,
     hart: HartId,
@@ -109,7 +109,7 @@ pub fn check_state<const SETS: usize, const WAYS: usize>(
 }
 
 /// That this is the directory's entry of 0x2000.
-pub fn check_directory<const SETS: usize, const WAYS: usize>(
+pub(crate) fn check_directory<const SETS: usize, const WAYS: usize>(
     rt: &impl Abort,
     machine: &Machine<SETS, WAYS>,
     want: DirEntry,
@@ -118,7 +118,7 @@ pub fn check_directory<const SETS: usize, const WAYS: usize>(
 }
 
 /// That so many entries of the directory are in use.
-pub fn check_used<const SETS: usize, const WAYS: usize>(
+pub(crate) fn check_used<const SETS: usize, const WAYS: usize>(
     rt: &impl Abort,
     machine: &Machine<SETS, WAYS>,
     want: usize,
@@ -127,7 +127,7 @@ pub fn check_used<const SETS: usize, const WAYS: usize>(
 }
 
 /// That a hart runs this transaction.
-pub fn check_tx<const SETS: usize, const WAYS: usize>(
+pub(crate) fn check_tx<const SETS: usize, const WAYS: usize>(
     rt: &impl Abort,
     machine: &Machine<SETS, WAYS>,
     hart: HartId,
@@ -147,7 +147,7 @@ fn register_of<const SETS: usize, const WAYS: usize>(
 }
 
 /// That a hart's register holds this word.
-pub fn check_register<const SETS: usize, const WAYS: usize>(
+pub(crate) fn check_register<const SETS: usize, const WAYS: usize>(
     rt: &impl Abort,
     machine: &Machine<SETS, WAYS>,
     hart: HartId,
@@ -167,7 +167,7 @@ fn pc_and_status<const SETS: usize, const WAYS: usize>(
 }
 
 /// Where a hart stands, and whether it runs or how it ended.
-pub fn check_hart<const SETS: usize, const WAYS: usize>(
+pub(crate) fn check_hart<const SETS: usize, const WAYS: usize>(
     rt: &impl Abort,
     machine: &Machine<SETS, WAYS>,
     hart: HartId,
@@ -195,7 +195,7 @@ fn carried<const SETS: usize, const WAYS: usize>(
 }
 
 /// That the oldest message of this name, which is in flight, carries this word first, `None` where it carries no content.
-pub fn check_carried<const SETS: usize, const WAYS: usize>(
+pub(crate) fn check_carried<const SETS: usize, const WAYS: usize>(
     rt: &impl Abort,
     machine: &Machine<SETS, WAYS>,
     name: Name,
@@ -206,7 +206,7 @@ pub fn check_carried<const SETS: usize, const WAYS: usize>(
 }
 
 /// How many entries there are of a word that was retired, of a line given up, and others.
-pub fn counts(entries: &[Entry]) -> (usize, usize, usize) {
+pub(crate) fn counts(entries: &[Entry]) -> (usize, usize, usize) {
     let (mut retired, mut spilled, mut others): (usize, usize, usize) = (0, 0, 0);
     for entry in entries {
         match entry {
@@ -219,18 +219,18 @@ pub fn counts(entries: &[Entry]) -> (usize, usize, usize) {
 }
 
 /// That there are so many of each.
-pub fn check_counts(rt: &impl Abort, entries: &[Entry], want: (usize, usize, usize)) {
+pub(crate) fn check_counts(rt: &impl Abort, entries: &[Entry], want: (usize, usize, usize)) {
     assert_eq!(rt; counts(entries), want);
 }
 
 /// That so many words were retired.
-pub fn check_retired(rt: &impl Abort, entries: &[Entry], want: usize) {
+pub(crate) fn check_retired(rt: &impl Abort, entries: &[Entry], want: usize) {
     let (retired, _, _) = counts(entries);
     check_count(rt, retired, want);
 }
 
 /// That the first words of 113 blocks from 0x2000 on are 113, 112 and so on, once all running transactions are rolled back.
-pub fn check_logged_words<const SETS: usize, const WAYS: usize>(
+pub(crate) fn check_logged_words<const SETS: usize, const WAYS: usize>(
     rt: &impl Abort,
     machine: &Machine<SETS, WAYS>,
 ) {
@@ -240,7 +240,7 @@ pub fn check_logged_words<const SETS: usize, const WAYS: usize>(
 }
 
 /// That those of 114 blocks are 0.
-pub fn check_undone_words<const SETS: usize, const WAYS: usize>(
+pub(crate) fn check_undone_words<const SETS: usize, const WAYS: usize>(
     rt: &impl Abort,
     machine: &Machine<SETS, WAYS>,
 ) {
@@ -250,7 +250,7 @@ pub fn check_undone_words<const SETS: usize, const WAYS: usize>(
 }
 
 /// That the log of hart 0 in a megabyte begins with the record of the block at 0x2000, whose words were 0.
-pub fn check_first_record<const SETS: usize, const WAYS: usize>(
+pub(crate) fn check_first_record<const SETS: usize, const WAYS: usize>(
     rt: &impl Abort,
     machine: &Machine<SETS, WAYS>,
 ) {
@@ -270,7 +270,7 @@ fn flags<const SETS: usize, const WAYS: usize>(
 }
 
 /// That a hart's transaction has refused an earlier one or not, and that it is being aborted for this cause or goes on.
-pub fn check_flags<const SETS: usize, const WAYS: usize>(
+pub(crate) fn check_flags<const SETS: usize, const WAYS: usize>(
     rt: &impl Abort,
     machine: &Machine<SETS, WAYS>,
     hart: HartId,
@@ -281,7 +281,7 @@ pub fn check_flags<const SETS: usize, const WAYS: usize>(
 }
 
 /// That this is the oldest message of its name.
-pub fn check_oldest<const SETS: usize, const WAYS: usize>(
+pub(crate) fn check_oldest<const SETS: usize, const WAYS: usize>(
     rt: &impl Abort,
     machine: &Machine<SETS, WAYS>,
     message: Message,

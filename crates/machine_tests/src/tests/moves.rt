@@ -11,7 +11,7 @@ use words::{Entry, HartId, Message, Step};
 
 /// What a message is.
 #[derive(Clone, Copy, Debug, PartialEq, Eq)]
-pub enum Name {
+pub(crate) enum Name {
     Get,
     Put,
     Done,
@@ -22,7 +22,7 @@ pub enum Name {
     Nack,
 }
 
-pub fn name_of(message: &Message) -> Name {
+pub(crate) fn name_of(message: &Message) -> Name {
     match message {
         Message::Get { .. } => Name::Get,
         Message::Put { .. } => Name::Put,
@@ -36,7 +36,7 @@ pub fn name_of(message: &Message) -> Name {
 }
 
 /// The message of this name that was sent first, of the oldest thousand in flight, and its key.
-pub fn find<const SETS: usize, const WAYS: usize>(
+pub(crate) fn find<const SETS: usize, const WAYS: usize>(
     machine: &Machine<SETS, WAYS>,
     name: Name,
 ) -> Option<(usize, Message)> {
@@ -53,7 +53,7 @@ pub fn find<const SETS: usize, const WAYS: usize>(
 }
 
 /// The oldest message of this name arrives.
-pub fn deliver<const SETS: usize, const WAYS: usize>(
+pub(crate) fn deliver<const SETS: usize, const WAYS: usize>(
     machine: &mut Machine<SETS, WAYS>,
     name: Name,
     entries: &mut Vec<Entry>,
@@ -64,7 +64,7 @@ pub fn deliver<const SETS: usize, const WAYS: usize>(
 }
 
 /// The newest message of this name arrives.
-pub fn deliver_newest<const SETS: usize, const WAYS: usize>(
+pub(crate) fn deliver_newest<const SETS: usize, const WAYS: usize>(
     machine: &mut Machine<SETS, WAYS>,
     name: Name,
     entries: &mut Vec<Entry>,
@@ -90,7 +90,7 @@ pub fn deliver_newest<const SETS: usize, const WAYS: usize>(
 }
 
 /// How many messages are in flight, a thousand at most.
-pub fn count<const SETS: usize, const WAYS: usize>(machine: &Machine<SETS, WAYS>) -> usize {
+pub(crate) fn count<const SETS: usize, const WAYS: usize>(machine: &Machine<SETS, WAYS>) -> usize {
     let mut last = None;
     for made in 0..1000 {
         last = next_message(machine, last);
@@ -103,7 +103,7 @@ pub fn count<const SETS: usize, const WAYS: usize>(machine: &Machine<SETS, WAYS>
 
 /// Goes on by the machine's turns, with this hart for each turn of a hart, until so many entries are given or no turn is left, by ten
 /// thousand steps at most: how many steps were made.
-pub fn go<const SETS: usize, const WAYS: usize>(
+pub(crate) fn go<const SETS: usize, const WAYS: usize>(
     machine: &mut Machine<SETS, WAYS>,
     hart: HartId,
     wanted: usize,
@@ -127,7 +127,7 @@ pub fn go<const SETS: usize, const WAYS: usize>(
 }
 
 /// All messages arrive that come to be in flight, the oldest first; no core goes on.
-pub fn settle<const SETS: usize, const WAYS: usize>(
+pub(crate) fn settle<const SETS: usize, const WAYS: usize>(
     machine: &mut Machine<SETS, WAYS>,
     entries: &mut Vec<Entry>,
 ) -> Result<(), AllocError> {
@@ -141,7 +141,7 @@ pub fn settle<const SETS: usize, const WAYS: usize>(
 }
 
 /// Goes on by the machine's turns, the first after the highest hart's, so many at most.
-pub fn take_turns<const SETS: usize, const WAYS: usize>(
+pub(crate) fn take_turns<const SETS: usize, const WAYS: usize>(
     machine: &mut Machine<SETS, WAYS>,
     most: u32,
     entries: &mut Vec<Entry>,
@@ -160,7 +160,7 @@ pub fn take_turns<const SETS: usize, const WAYS: usize>(
 }
 
 /// A core goes on, and all messages arrive.
-pub fn ask<const SETS: usize, const WAYS: usize>(
+pub(crate) fn ask<const SETS: usize, const WAYS: usize>(
     machine: &mut Machine<SETS, WAYS>,
     hart: HartId,
     entries: &mut Vec<Entry>,
@@ -171,7 +171,7 @@ pub fn ask<const SETS: usize, const WAYS: usize>(
 }
 
 /// A machine goes on until hart 0 aborts, or a thousand entries are given.
-pub fn go_to_an_abort<const SETS: usize, const WAYS: usize>(
+pub(crate) fn go_to_an_abort<const SETS: usize, const WAYS: usize>(
     machine: &mut Machine<SETS, WAYS>,
     entries: &mut Vec<Entry>,
 ) -> Result<(), AllocError> {

@@ -20,7 +20,7 @@ use words::{AbortCause, Addr, Entry, HartId, LineState, Marks, Message, Status, 
 
 /// What is done to a machine, or is to be seen of it.
 #[derive(Clone, Copy)]
-pub enum Act {
+pub(crate) enum Act {
     /// Turns, with this hart for each turn of a hart, until so many more entries are given or no turn is left.
     Go(HartId, usize),
     /// The same, by so many steps.
@@ -48,7 +48,7 @@ pub enum Act {
 
 /// What is to be seen of a machine and of its entries.
 #[derive(Clone, Copy)]
-pub enum Fact {
+pub(crate) enum Fact {
     /// How many entries were given.
     Entries(usize),
     /// How many of them tell of a retired word, of a line given up, and of others.
@@ -244,7 +244,7 @@ fn play<const SETS: usize, const WAYS: usize>(
 }
 
 /// Plays a script, and another after it, with caches of 16 sets of 4 ways.
-pub fn play_on(
+pub(crate) fn play_on(
     rt: &(impl Abort + AllocGlobal),
     text: &[u32],
     harts: u32,
@@ -257,7 +257,7 @@ pub fn play_on(
 }
 
 /// The same for one script.
-pub fn play_all(
+pub(crate) fn play_all(
     rt: &(impl Abort + AllocGlobal),
     text: &[u32],
     harts: u32,
@@ -268,7 +268,7 @@ pub fn play_all(
 }
 
 /// The same with caches of two lines, one a set.
-pub fn play_small(
+pub(crate) fn play_small(
     rt: &(impl Abort + AllocGlobal),
     text: &[u32],
     harts: u32,

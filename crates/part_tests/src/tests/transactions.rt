@@ -1,6 +1,7 @@
 //! A transaction through its depths, its commits and its aborts.
 
 use std::process::Abort;
+use std::test::Fail;
 use transaction::{Tx, TxFault};
 use words::{AbortCause, Addr, BlockNo, Cause, HartId, Regs, Stamp};
 
@@ -100,4 +101,13 @@ fn gives_way_to_an_earlier_one(rt: HostRuntime) {
     assert!(rt; !tx.cycle() && !tx.must_abort(true));
     tx.note_refusal(Some(stamp(4)));
     assert!(rt; tx.cycle() && tx.must_abort(true) && !tx.must_abort(false));
+}
+
+#[test]
+fn faults_have_texts(rt: HostRuntime) -> Result<(), Fail> {
+    let deep = TxFault::TooDeep.to_string(rt.alloc())?;
+    let outside = TxFault::Outside.to_string(rt.alloc())?;
+    assert_eq!(rt; deep.as_str(), "1 TooDeep");
+    assert_eq!(rt; outside.as_str(), "2 Outside");
+    Ok(())
 }

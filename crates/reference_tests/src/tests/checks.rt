@@ -8,22 +8,22 @@ use std::test::Fail;
 use words::{Addr, Entry, HartId, Status};
 
 /// That there are so many of what is counted.
-pub fn check_count(rt: &impl Abort, found: usize, want: usize) {
+pub(crate) fn check_count(rt: &impl Abort, found: usize, want: usize) {
     assert_eq!(rt; found, want);
 }
 
 /// That this is the entry with an index.
-pub fn check_entry(rt: &impl Abort, entries: &[Entry], index: usize, want: Entry) {
+pub(crate) fn check_entry(rt: &impl Abort, entries: &[Entry], index: usize, want: Entry) {
     assert_eq!(rt; entries.get(index).copied(), Some(want));
 }
 
 /// That a step retires a word.
-pub fn check_retired(rt: &impl Abort, entry: Option<Entry>) {
+pub(crate) fn check_retired(rt: &impl Abort, entry: Option<Entry>) {
     assert!(rt; matches!(entry, Some(Entry::Retire { .. })));
 }
 
 /// That each entry tells of a word that was retired.
-pub fn check_all_retired(rt: &impl Abort, entries: &[Entry]) {
+pub(crate) fn check_all_retired(rt: &impl Abort, entries: &[Entry]) {
     for entry in entries {
         check_retired(rt, Some(*entry));
     }
@@ -31,7 +31,7 @@ pub fn check_all_retired(rt: &impl Abort, entries: &[Entry]) {
 
 /// That the word at 0x2000 is this one in place, this one once all running transactions are rolled back, and these as harts 0 and 1
 /// see it.
-pub fn check_place(
+pub(crate) fn check_place(
     rt: &impl Abort,
     machine: &Machine,
     in_place: u32,
@@ -47,27 +47,33 @@ pub fn check_place(
 }
 
 /// That this word stands at 0x2000 once all running transactions are rolled back.
-pub fn check_committed(rt: &impl Abort, machine: &Machine, want: u32) {
+pub(crate) fn check_committed(rt: &impl Abort, machine: &Machine, want: u32) {
     assert_eq!(rt; machine.peek(place()), Some(want));
 }
 
 /// Whether a hart runs, or how it ended.
-pub fn check_status(rt: &impl Abort, machine: &Machine, hart: HartId, want: Status) {
+pub(crate) fn check_status(rt: &impl Abort, machine: &Machine, hart: HartId, want: Status) {
     assert_eq!(rt; status(machine, hart), Some(want));
 }
 
 /// Where a hart stands.
-pub fn check_pc(rt: &impl Abort, machine: &Machine, hart: HartId, want: u32) {
+pub(crate) fn check_pc(rt: &impl Abort, machine: &Machine, hart: HartId, want: u32) {
     assert_eq!(rt; pc(machine, hart), Some(Addr::new(want)));
 }
 
 /// That a hart's register holds this word.
-pub fn check_register(rt: &impl Abort, machine: &Machine, hart: HartId, index: usize, want: u32) {
+pub(crate) fn check_register(
+    rt: &impl Abort,
+    machine: &Machine,
+    hart: HartId,
+    index: usize,
+    want: u32,
+) {
     assert_eq!(rt; register(machine, hart, index), Some(want), "x{index}");
 }
 
 /// That the entries are those of a run of the program.
-pub fn check_run(
+pub(crate) fn check_run(
     rt: &(impl Abort + AllocGlobal),
     text: &[u32],
     harts: u32,

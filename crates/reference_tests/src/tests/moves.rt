@@ -7,21 +7,21 @@ use std::alloc::{AllocError, Global};
 use std::test::Fail;
 use words::{Access, Addr, Entry, HartId, Status, Step, Width};
 
-pub fn zero() -> HartId {
+pub(crate) fn zero() -> HartId {
     HartId::new(0)
 }
 
-pub fn one() -> HartId {
+pub(crate) fn one() -> HartId {
     HartId::new(1)
 }
 
 /// The word that the programs access.
-pub fn place() -> Addr {
+pub(crate) fn place() -> Addr {
     Addr::new(0x2000)
 }
 
 /// An access to it.
-pub fn access(value: u32) -> Access {
+pub(crate) fn access(value: u32) -> Access {
     Access {
         addr: place(),
         width: Width::Word,
@@ -30,12 +30,12 @@ pub fn access(value: u32) -> Access {
 }
 
 /// A program as it begins, with 64 KiB of memory.
-pub fn booted(alloc: Global, text: &[u32], harts: u32) -> Result<Machine, Fail> {
+pub(crate) fn booted(alloc: Global, text: &[u32], harts: u32) -> Result<Machine, Fail> {
     Ok(Machine::boot(alloc, program(alloc, text)?, harts, 65_536)?)
 }
 
 /// Makes turns until none is left, so many at most, the first after this hart's. Their entries are pushed.
-pub fn go(
+pub(crate) fn go(
     alloc: Global,
     machine: &mut Machine,
     first_after: HartId,
@@ -56,7 +56,7 @@ pub fn go(
 }
 
 /// Makes these steps. Their entries are pushed.
-pub fn make(
+pub(crate) fn make(
     alloc: Global,
     machine: &mut Machine,
     steps: &[Step],
@@ -69,12 +69,20 @@ pub fn make(
 }
 
 /// Makes a step of a hart, and gives its entry.
-pub fn step(alloc: Global, machine: &mut Machine, hart: HartId) -> Result<Option<Entry>, Fail> {
+pub(crate) fn step(
+    alloc: Global,
+    machine: &mut Machine,
+    hart: HartId,
+) -> Result<Option<Entry>, Fail> {
     Ok(machine.step(alloc, Step::Core(hart))?)
 }
 
 /// How many of these entries a machine accepts.
-pub fn accepted(alloc: Global, machine: &mut Machine, entries: &[Entry]) -> Result<usize, Fail> {
+pub(crate) fn accepted(
+    alloc: Global,
+    machine: &mut Machine,
+    entries: &[Entry],
+) -> Result<usize, Fail> {
     match machine.check_all(alloc, entries) {
         Ok(accepted) => Ok(accepted),
         Err((_, fault)) => Err(fault)?,
@@ -82,19 +90,19 @@ pub fn accepted(alloc: Global, machine: &mut Machine, entries: &[Entry]) -> Resu
 }
 
 /// Whether a hart runs, or how it ended.
-pub fn status(machine: &Machine, hart: HartId) -> Option<Status> {
+pub(crate) fn status(machine: &Machine, hart: HartId) -> Option<Status> {
     let (_, _, status) = machine.regs(hart)?;
     Some(status)
 }
 
 /// Where a hart stands.
-pub fn pc(machine: &Machine, hart: HartId) -> Option<Addr> {
+pub(crate) fn pc(machine: &Machine, hart: HartId) -> Option<Addr> {
     let (_, pc, _) = machine.regs(hart)?;
     Some(pc)
 }
 
 /// What a hart's register holds.
-pub fn register(machine: &Machine, hart: HartId, index: usize) -> Option<u32> {
+pub(crate) fn register(machine: &Machine, hart: HartId, index: usize) -> Option<u32> {
     let (regs, _, _) = machine.regs(hart)?;
     regs.get(index).copied()
 }

@@ -2,6 +2,7 @@
 use super::booted::booted;
 use elf_samples::COMMITS;
 use schedule::{Choice, Name, ScheduleFault, Sort, choice, follow, name_of, read};
+use std::alloc::Global;
 use std::test::Fail;
 use words::{Addr, BlockNo, HartId, Message, Status, Step};
 
@@ -52,44 +53,16 @@ fn lines_are_taken(rt: HostRuntime) {
     }
 }
 
+/// Lines that are no steps, with a | behind each.
+const REFUSED: &str =
+    "| |turn | turn|turn 1|Turn|core|core |core 8|core -1|core 1 |core  1|core 1 2|core x|core\t1|evict 1|evict 1 0x2001|\
+    evict 1 0x2002|evict 8 0x2000|evict 1 0x100000000|evict 1 0x2000 0|evict 1  0x2000|deliver|deliver get|deliver get 1|deliver 1 0x2000|\
+    deliver Get 1 0x2000|deliver gets 1 0x2000|deliver get 1 0x2000 read|deliver get 1 2|# turn|step";
+
 #[test]
 fn lines_are_refused(rt: HostRuntime) {
-    let cases = [
-        "",
-        " ",
-        "turn ",
-        " turn",
-        "turn 1",
-        "Turn",
-        "core",
-        "core ",
-        "core 8",
-        "core -1",
-        "core 1 ",
-        "core  1",
-        "core 1 2",
-        "core x",
-        "core\t1",
-        "evict 1",
-        "evict 1 0x2001",
-        "evict 1 0x2002",
-        "evict 8 0x2000",
-        "evict 1 0x100000000",
-        "evict 1 0x2000 0",
-        "evict 1  0x2000",
-        "deliver",
-        "deliver get",
-        "deliver get 1",
-        "deliver 1 0x2000",
-        "deliver Get 1 0x2000",
-        "deliver gets 1 0x2000",
-        "deliver get 1 0x2000 read",
-        "deliver get 1 2",
-        "# turn",
-        "step",
-    ];
-    for line in cases {
-        assert_eq!(rt; choice(line), None, "at {line}");
+    for line in REFUSED.split('|') {
+        assert!(rt; choice(line).is_none(), "at {line}");
     }
 }
 
@@ -140,45 +113,54 @@ fn answers_are_named_for_their_senders(rt: HostRuntime) {
     assert_eq!(rt; Sort::PutAck.name(), "putack");
 }
 
+/// The step that a choice is in the machine of a program, once its hart has gone on by so many of its first four steps. The fourth asks for
+/// the block at 0x2000.
+fn step_after(alloc: Global, steps: u32, choice: Choice) -> Result<Option<Step>, Fail> {
+    let mut machine = booted(alloc, &COMMITS, 1)?;
+    follow(&mut machine, &[Choice::Core(hart(0)); 4], steps.min(4))?;
+    Ok(choice.step(&machine, hart(0)))
+}
+
 #[test]
 fn a_message_is_found_by_its_name(rt: HostRuntime) -> Result<(), Fail> {
-    let mut machine = booted(rt.alloc(), &COMMITS, 1)?;
     let get = named(Sort::Get, 0, 256).ok_or("a choice")?;
-    assert_eq!(rt; get.step(&machine, hart(0)), None);
-    follow(&mut machine, &[Choice::Core(hart(0)); 4], 4)?;
-    let key = machine.next_message(None).ok_or("a message")?;
-    assert_eq!(rt; get.step(&machine, hart(0)), Some(Step::Deliver(key)));
-    for other in [
-        named(Sort::Put, 0, 256),
-        named(Sort::Get, 1, 256),
-        named(Sort::Get, 0, 257),
+    assert_eq!(rt; step_after(rt.alloc(), 0, get)?, None);
+    let found = step_after(rt.alloc(), 4, get)?;
+    assert!(rt; matches!(found, Some(Step::Deliver(_))));
+    assert_eq!(rt; step_after(rt.alloc(), 4, Choice::Turn)?, found);
+    for (sort, number, block) in [
+        (Sort::Put, 0, 256),
+        (Sort::Get, 1, 256),
+        (Sort::Get, 0, 257),
     ] {
-        let other = other.ok_or("a choice")?;
-        assert_eq!(rt; other.step(&machine, hart(0)), None);
+        let other = named(sort, number, block).ok_or("a choice")?;
+        assert_eq!(rt; step_after(rt.alloc(), 4, other)?, None);
     }
-    assert_eq!(rt;
-        Choice::Turn.step(&machine, hart(0)),
-        Some(Step::Deliver(key))
-    );
     Ok(())
+}
+
+/// How a program's hart stands, and what stands at 0x2000, once these choices and turns were followed, by so many steps in all.
+fn followed(alloc: Global, choices: &[Choice], steps: u32) -> Result<(Status, Option<u32>), Fail> {
+    let mut machine = booted(alloc, &COMMITS, 1)?;
+    follow(&mut machine, choices, steps)?;
+    let (_, _, status) = machine.regs(hart(0)).ok_or("a hart")?;
+    Ok((status, machine.peek(Addr::new(0x2000))))
 }
 
 #[test]
 fn choices_and_turns_are_followed(rt: HostRuntime) -> Result<(), Fail> {
+    let choices = [
+        Choice::Core(hart(0)),
+        Choice::Core(hart(1)),
+        Choice::Evict(hart(0), BlockNo::new(256)),
+    ];
     // Twelve steps to the end, and two more that change nothing.
-    for (steps, status) in [(13, Status::Running), (14, Status::Exited(0))] {
-        let mut machine = booted(rt.alloc(), &COMMITS, 1)?;
-        let choices = [
-            Choice::Core(hart(0)),
-            Choice::Core(hart(1)),
-            Choice::Evict(hart(0), BlockNo::new(256)),
-        ];
-        follow(&mut machine, &choices, steps)?;
-        let (_, _, now) = machine.regs(hart(0)).ok_or("a hart")?;
-        assert_eq!(rt; now, status);
+    for (choices, steps, status) in [
+        (&choices[..], 13, Status::Running),
+        (&choices[..], 14, Status::Exited(0)),
+        (&[], 100, Status::Exited(0)),
+    ] {
+        assert_eq!(rt; followed(rt.alloc(), choices, steps)?, (status, Some(7)));
     }
-    let mut machine = booted(rt.alloc(), &COMMITS, 1)?;
-    follow(&mut machine, &[], 100)?;
-    assert_eq!(rt; machine.peek(Addr::new(0x2000)), Some(7));
     Ok(())
 }

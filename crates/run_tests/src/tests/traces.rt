@@ -3,6 +3,7 @@ use super::booted::booted;
 use elf_samples::COMMITS;
 use recorder::put_trace;
 use schedule::Choice;
+use std::alloc::Global;
 use std::test::Fail;
 use watch::Halt;
 use words::{HartId, Sink, SinkFault, Taken};
@@ -16,16 +17,21 @@ const TRACE: &str = "0 0x00001000 00000a0b tbegin 20\n\
     0 0x00001018 00000513 addi a0, zero, 0 | a0=0x00000000\n\
     0 0x0000101c 00000073 ecall\n";
 
+/// Traces the program, of whose steps so many are chosen, into a sink.
+fn traced<S: Sink>(alloc: Global, chosen: usize, sink: &mut S) -> Result<Result<(), Halt>, Fail> {
+    let mut machine = booted(alloc, &COMMITS, 1)?;
+    let choices = [Choice::Core(HartId::new(0)); 3];
+    Ok(put_trace(&mut machine, &choices[..chosen.min(3)], 100, sink))
+}
+
 #[test]
 fn each_entry_has_its_line(rt: HostRuntime) -> Result<(), Fail> {
-    for choices in [0, 3] {
-        let mut machine = booted(rt.alloc(), &COMMITS, 1)?;
+    for chosen in [0, 3] {
         let mut sink = Taken {
             bytes: Vec::new(rt.alloc()),
             failed: 0,
         };
-        let choices = &[Choice::Core(HartId::new(0)); 3][..choices];
-        match put_trace(&mut machine, choices, 100, &mut sink) {
+        match traced(rt.alloc(), chosen, &mut sink)? {
             Ok(()) => assert_eq!(rt; &sink.bytes[..], TRACE.as_bytes()),
             Err(Halt::NoMemory) => {}
             Err(Halt::Untold) => assert_eq!(rt; sink.failed, 1),
@@ -61,9 +67,8 @@ impl Sink for Refusing {
 #[test]
 fn each_put_that_is_refused_is_told(rt: HostRuntime) -> Result<(), Fail> {
     for left in 0..90 {
-        let mut machine = booted(rt.alloc(), &COMMITS, 1)?;
         let mut sink = Refusing { left, failed: 0 };
-        let put = put_trace(&mut machine, &[], 100, &mut sink);
+        let put = traced(rt.alloc(), 0, &mut sink)?;
         // A line of a retired word is put in eleven pieces.
         let want = if left < 88 { Err(Halt::Untold) } else { Ok(()) };
         if put != Err(Halt::NoMemory) {

@@ -37,25 +37,42 @@ impl Watcher<Words> for Collector {
     }
 }
 
-fn room_for(alloc: Global, most: usize) -> Words {
-    Words {
+/// How a watched run of the program ended, and what it left.
+#[derive(Drop)]
+struct Watched {
+    ended: Result<(), Halt>,
+    retired: Vec<u32>,
+    word: Option<u32>,
+    pc: Addr,
+}
+
+/// Watches the program, of whose steps so many are chosen, for so many steps, with room for so many words.
+fn watch_run(alloc: Global, chosen: usize, steps: u32, most: usize) -> Result<Watched, Fail> {
+    let mut machine = booted(alloc, &COMMITS, 1)?;
+    let mut words = Words {
         retired: Vec::new(alloc),
         most,
-    }
+    };
+    let choices = [Choice::Core(HartId::new(0)); 3];
+    let choices = &choices[..chosen.min(3)];
+    let ended = follow_watched(&mut machine, choices, steps, &Collector, &mut words);
+    let (_, pc, _) = machine.regs(HartId::new(0)).ok_or("a hart")?;
+    Ok(Watched {
+        ended,
+        retired: words.retired,
+        word: machine.peek(Addr::new(0x2000)),
+        pc,
+    })
 }
 
 #[test]
 fn each_retired_word_is_noted(rt: HostRuntime) -> Result<(), Fail> {
-    for choices in [0, 3] {
-        let mut machine = booted(rt.alloc(), &COMMITS, 1)?;
-        let mut words = room_for(rt.alloc(), 100);
-        let choices = &[Choice::Core(HartId::new(0)); 3][..choices];
-        match follow_watched(&mut machine, choices, 100, &Collector, &mut words) {
-            Ok(()) => {
-                assert_eq!(rt; &words.retired[..], COMMITS.as_slice());
-                assert_eq!(rt; machine.peek(Addr::new(0x2000)), Some(7));
-            }
-            Err(halt) => assert_eq!(rt; halt, Halt::NoMemory),
+    for chosen in [0, 3] {
+        let run = watch_run(rt.alloc(), chosen, 100, 100)?;
+        if run.ended != Err(Halt::NoMemory) {
+            assert_eq!(rt; run.ended, Ok(()));
+            assert_eq!(rt; &run.retired[..], COMMITS.as_slice());
+            assert_eq!(rt; run.word, Some(7));
         }
     }
     Ok(())
@@ -63,27 +80,21 @@ fn each_retired_word_is_noted(rt: HostRuntime) -> Result<(), Fail> {
 
 #[test]
 fn the_step_of_a_missed_entry_is_made(rt: HostRuntime) -> Result<(), Fail> {
-    for choices in [0, 3] {
-        let mut machine = booted(rt.alloc(), &COMMITS, 1)?;
-        let mut words = room_for(rt.alloc(), 2);
-        let choices = &[Choice::Core(HartId::new(0)); 3][..choices];
-        let halted = follow_watched(&mut machine, choices, 100, &Collector, &mut words);
-        if halted == Err(Halt::NoMemory) {
-            continue;
+    for chosen in [0, 3] {
+        let run = watch_run(rt.alloc(), chosen, 100, 2)?;
+        if run.ended != Err(Halt::NoMemory) {
+            assert_eq!(rt; run.ended, Err(Halt::Untold));
+            assert_eq!(rt; &run.retired[..], &COMMITS[..2]);
+            assert_eq!(rt; run.pc, Addr::new(0x100c));
         }
-        assert_eq!(rt; halted, Err(Halt::Untold));
-        assert_eq!(rt; &words.retired[..], &COMMITS[..2]);
-        let (_, pc, _) = machine.regs(HartId::new(0)).ok_or("a hart")?;
-        assert_eq!(rt; pc, Addr::new(0x100c));
     }
     Ok(())
 }
 
 #[test]
 fn so_many_steps_are_made(rt: HostRuntime) -> Result<(), Fail> {
-    let mut machine = booted(rt.alloc(), &COMMITS, 1)?;
-    let mut words = room_for(rt.alloc(), 100);
-    follow_watched(&mut machine, &[], 2, &Collector, &mut words)?;
-    assert_eq!(rt; &words.retired[..], &COMMITS[..2]);
+    let run = watch_run(rt.alloc(), 0, 2, 100)?;
+    assert_eq!(rt; run.ended, Ok(()));
+    assert_eq!(rt; &run.retired[..], &COMMITS[..2]);
     Ok(())
 }

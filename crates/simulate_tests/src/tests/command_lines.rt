@@ -293,6 +293,7 @@ fn gives(alloc: Global, words: &'static [&'static str], count: usize) -> bool {
         Err(fault) => match fault {
             OrderFault::NoMemory => true,
             OrderFault::Value(_value) => false,
+            OrderFault::TracedAndCounted => false,
             OrderFault::Refused(_text) => false,
         },
     }
@@ -306,6 +307,7 @@ fn assembles(alloc: Global, words: &'static [&'static str], from: &str, to: &str
         Err(fault) => match fault {
             OrderFault::NoMemory => true,
             OrderFault::Value(_value) => false,
+            OrderFault::TracedAndCounted => false,
             OrderFault::Refused(_text) => false,
         },
     }
@@ -318,6 +320,7 @@ fn fails(alloc: Global, words: &'static [&'static str], part: &str) -> bool {
         Ok(_request) => false,
         Err(fault) => match fault {
             OrderFault::NoMemory => true,
+            OrderFault::TracedAndCounted => false,
             OrderFault::Value(value) => value == part,
             OrderFault::Refused(text) => text.contains(part),
         },

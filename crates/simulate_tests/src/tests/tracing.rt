@@ -11,11 +11,11 @@ use words::{Sink, SinkFault};
 
 /// Takes so many puts, and refuses the others; and may refuse to write out what it took.
 #[derive(Drop)]
-struct Paper {
-    bytes: Vec<u8>,
+pub(crate) struct Paper {
+    pub(crate) bytes: Vec<u8>,
     left: u32,
     flushes: bool,
-    failed: u64,
+    pub(crate) failed: u64,
 }
 
 impl Sink for Paper {
@@ -43,7 +43,7 @@ impl Page for Paper {
     }
 }
 
-fn blank(alloc: Global, left: u32) -> Paper {
+pub(crate) fn blank(alloc: Global, left: u32) -> Paper {
     Paper {
         bytes: Vec::new(alloc),
         left,

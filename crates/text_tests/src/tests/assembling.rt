@@ -1,86 +1,101 @@
 //! Sources and the programs that they make, or their faults.
 
-use super::vectors::{OTHERS, PSEUDO, STANDARD};
-use assembler::{AsmFault, SourceFault, assemble};
+use super::vectors::{OTHERS, PSEUDO, STANDARD, parts};
+use assembler::{AsmFault, assemble};
 use loader::{Program, write_elf};
 use std::alloc::{AllocError, Global};
 use std::process::Abort;
 use std::test::Fail;
+use table::Segment;
+use words::Addr;
 
-/// Checks that the source is assembled to these words of text, and these bytes of data.
-pub fn check(
+/// Whether a segment is text where text begins.
+fn is_text(segment: &Segment) -> bool {
+    segment.exec && segment.addr == 0x1000
+}
+
+/// Whether a program has text, and these bytes of data or no data.
+fn has_parts(program: &Program, data: &[u8]) -> bool {
+    match program.segments() {
+        [text] => is_text(text) && data.is_empty(),
+        [text, other] => is_text(text) && !other.exec && other.bytes.as_slice() == data,
+        _ => false,
+    }
+}
+
+/// The words of a program's text, of a thousand at most: eight digits each, with blanks between them.
+fn words_of(alloc: Global, program: &Program) -> Result<String, AllocError> {
+    let mut words = String::new(alloc);
+    for k in 0..1000 {
+        let Some(word) = program.text().word(Addr::new(0x1000 + 4 * k)) else {
+            break;
+        };
+        if k > 0 {
+            words.push(' ')?;
+        }
+        words.push_str(format!(in alloc; "{word:08x}")?.as_str())?;
+    }
+    Ok(words)
+}
+
+/// Checks that a source is assembled to these words of text and these bytes of data.
+pub(crate) fn check(
     rt: &(impl Abort + AllocGlobal),
     source: &str,
-    text: &[u32],
+    words: &str,
     data: &[u8],
 ) -> Result<(), Fail> {
-    let program = match assemble(rt.alloc(), source) {
-        Ok(program) => program,
-        Err(fault) => {
-            assert!(rt; false, "line {}: {}", fault.line, fault.fault);
-            return Ok(());
-        }
-    };
-    let mut bytes = Vec::new(rt.alloc());
-    for word in text {
-        bytes.extend_from_slice(&word.to_le_bytes())?;
+    let program = assemble(rt.alloc(), source).ok().ok_or("a program")?;
+    assert!(rt; has_parts(&program, data), "{source}");
+    assert_eq!(rt; words_of(rt.alloc(), &program)?.as_str(), words);
+    Ok(())
+}
+
+/// What becomes of a source: the words of its text, or the line and the name of its fault.
+pub(crate) fn outcome(alloc: Global, source: &str) -> Result<String, AllocError> {
+    match assemble(alloc, source) {
+        Ok(program) => words_of(alloc, &program),
+        Err(fault) => format!(in alloc; "line {}: {}", fault.line, fault.fault.name()),
     }
-    match program.segments() {
-        [segment] => {
-            assert_eq!(rt; segment.bytes.as_slice(), bytes.as_slice(), "{source}");
-            assert!(rt;
-                segment.exec && segment.addr == 0x1000 && data.is_empty(),
-                "{source}"
-            );
+}
+
+pub(crate) fn check_outcome(
+    rt: &(impl Abort + AllocGlobal),
+    source: &str,
+    want: &str,
+) -> Result<(), Fail> {
+    assert_eq!(rt; outcome(rt.alloc(), source)?.as_str(), want, "{source}");
+    Ok(())
+}
+
+/// Checks what becomes of sources: each begins after a line with a % and its outcome.
+pub(crate) fn check_outcomes(rt: &(impl Abort + AllocGlobal), cases: &str) -> Result<(), Fail> {
+    for case in cases.split('%') {
+        if let Some((want, source)) = case.split_once('\n') {
+            check_outcome(rt, source, want.strip_prefix(' ').ok_or("an outcome")?)?;
         }
-        [segment, other] => {
-            assert_eq!(rt; segment.bytes.as_slice(), bytes.as_slice(), "{source}");
-            assert_eq!(rt; other.bytes.as_slice(), data, "{source}");
-            assert!(rt;
-                segment.exec && !other.exec && segment.addr == 0x1000,
-                "{source}"
-            );
-        }
-        _ => assert!(rt; false, "{source}"),
     }
     Ok(())
 }
 
-pub fn check_text(rt: &(impl Abort + AllocGlobal), source: &str, text: &[u32]) -> Result<(), Fail> {
-    check(rt, source, text, &[])
-}
-
-pub fn fault(alloc: Global, source: &str) -> Option<(usize, AsmFault)> {
-    match assemble(alloc, source) {
-        Ok(_) => None,
-        Err(SourceFault { line, fault }) => Some((line, fault)),
+/// Checks that each text is assembled to the words before it.
+fn check_vectors(rt: &(impl Abort + AllocGlobal), vectors: &str) -> Result<(), Fail> {
+    for line in vectors.lines() {
+        let (words, text) = parts(line).ok_or("words and their text")?;
+        check(rt, text, words, &[])?;
     }
-}
-
-pub fn check_fault(rt: &(impl Abort + AllocGlobal), source: &str, line: usize, want: AsmFault) {
-    assert_eq!(rt; fault(rt.alloc(), source), Some((line, want)), "{source}");
+    Ok(())
 }
 
 #[test]
 fn texts_are_read_back(rt: HostRuntime) -> Result<(), Fail> {
-    for (word, text) in STANDARD {
-        check_text(&rt, text, &[word])?;
-    }
-    for (word, text) in OTHERS {
-        check_text(&rt, text, &[word])?;
-    }
-    Ok(())
+    check_vectors(&rt, STANDARD)?;
+    check_vectors(&rt, OTHERS)
 }
 
 #[test]
 fn pseudo_instructions_are_the_assemblers(rt: HostRuntime) -> Result<(), Fail> {
-    for (text, words) in PSEUDO {
-        match words {
-            [word, 0] => check_text(&rt, text, &[word])?,
-            [first, second] => check_text(&rt, text, &[first, second])?,
-        }
-    }
-    Ok(())
+    check_vectors(&rt, PSEUDO)
 }
 
 const EXIT: &str = "li a7, 93\nli a0, 0\necall\n";
@@ -103,143 +118,226 @@ fn the_exit_program_is_its_file(rt: HostRuntime) -> Result<(), Fail> {
 
 #[test]
 fn sources_are_as_editors_write_them(rt: HostRuntime) -> Result<(), Fail> {
-    let words = [0x05d0_0893, 0x0000_0513, 0x0000_0073];
-    check_text(&rt, EXIT, &words)?;
-    check_text(
-        &rt,
+    let sources = [
+        EXIT,
         "li a7,93\r\n\tli\ta0 ,\t0\r\n\r\n  ecall  # calls\r\n",
-        &words,
-    )?;
-    check_text(
-        &rt,
         "\n# exits\n_start:li a7, 0x5D\nx: li a0,-0\n\ty:ecall",
-        &words,
-    )?;
-    check_text(
-        &rt,
         ".globl _start\n.text\n_start: # here\nli a7, 93\nli a0, 0\nlast: ecall\r",
-        &words,
-    )?;
+    ];
+    for source in sources {
+        check(&rt, source, "05d00893 00000513 00000073", &[])?;
+    }
     Ok(())
 }
+
+const DATA: &str = "\
+la a0, x+4
+la a0, x-4
+.data
+.word x, x-8192, -1
+x: .half 1, 0xffff, -32768
+.balign 4
+.byte -128, 255, 0
+.space 2
+.balign 1
+.byte 7";
+
+const DATA_BYTES: [u8; 26] =
+    *b"\x0c\x20\0\0\x0c\0\0\0\xff\xff\xff\xff\x01\0\xff\xff\0\x80\0\0\x80\xff\0\0\0\x07";
+
+const LABELS: &str = "\
+% 00b50063
+again: beq a0, a1, again
+% 00000a0b 000022b7 00700313 0062a023 0000100b 00000073
+tbegin out
+lui t0, 2
+li t1, 7
+sw t1, 0(t0)
+tcommit
+out: ecall
+% 0000006f ff9ff0ef
+a0: j a0
+x1: jal x1, a0-4
+% 0000006f 00001008 00001004
+j x+-4
+x: .word x--4
+.word x
+";
 
 #[test]
 fn labels_are_addresses(rt: HostRuntime) -> Result<(), Fail> {
     check(
         &rt,
         "la a0, x\n.data\nx: .word 5",
-        &[0x0000_2537, 0x0005_0513],
-        &[5, 0, 0, 0],
+        "00002537 00050513",
+        b"\x05\0\0\0",
     )?;
     check(
         &rt,
-        "la a0, x+4\nla a0, x-4\n.data\n.word x, x-8192, -1\nx: .half 1, 0xffff, -32768\n.balign 4\n.byte -128, 255, 0\n.space 2\n.balign 1\n.byte 7",
-        &[0x0000_2537, 0x0105_0513, 0x0000_2537, 0x0085_0513],
-        &[
-            0x0c, 0x20, 0, 0, 0x0c, 0, 0, 0, 0xff, 0xff, 0xff, 0xff, 1, 0, 0xff, 0xff, 0, 0x80, 0,
-            0, 0x80, 0xff, 0, 0, 0, 7,
-        ],
+        DATA,
+        "00002537 01050513 00002537 00850513",
+        &DATA_BYTES,
     )?;
-    check_text(&rt, "again: beq a0, a1, again", &[0x00b5_0063])?;
-    check_text(
-        &rt,
-        "tbegin out\nlui t0, 2\nli t1, 7\nsw t1, 0(t0)\ntcommit\nout: ecall",
-        &[
-            0x0000_0a0b,
-            0x0000_22b7,
-            0x0070_0313,
-            0x0062_a023,
-            0x0000_100b,
-            0x0000_0073,
-        ],
-    )?;
-    check_text(
-        &rt,
-        "a0: j a0\nx1: jal x1, a0-4",
-        &[0x0000_006f, 0xff9f_f0ef],
-    )?;
-    check_text(
-        &rt,
-        "j x+-4\nx: .word x--4\n.word x",
-        &[0x0000_006f, 0x0000_1008, 0x0000_1004],
-    )?;
-    Ok(())
+    check_outcomes(&rt, LABELS)
 }
+
+/// Faults with their sources, the first check that fails of each.
+const FAULTS: &str = "\
+% line 1: Range
+addi a0, a0, 2048
+% line 1: Range
+addi a0, a0, -2049
+% line 1: Register
+lw a0, 4(q1)
+% line 1: Register
+lw a0, 9999(q1)
+% line 1: Range
+lw a0, 99999999999999999999999(a1)
+% line 1: Operand
+lw a0, x(a1)
+% line 1: Operand
+lw a0, 4(5)
+% line 1: Operand
+lw a0, 4(a1) x
+% line 1: Operand
+lw a0, 4(a1
+% line 1: Label
+beq a0, a1, nowhere
+% line 1: Unknown
+foo a0
+% line 1: Unknown
+ADDI a0, a0, 1
+% line 1: Directive
+.foo
+% line 3: Alignment
+.data
+.byte 1
+.half 1
+% line 3: Range
+.data
+.byte 1
+.word 70000000000
+% line 3: TwiceDefined
+a:
+nop
+a:
+% line 2: TwiceDefined
+a: nop
+a: foo
+% line 3: Directive
+nop
+.data
+nop
+% line 2: Directive
+nop
+.byte 1
+% line 1: Operand
+.text 1
+% line 1: Operand
+nop 1
+% line 1: Operand
+add a0, a1
+% line 1: Operand
+add q1, a1
+% line 1: Operand
+add q1, a1, a1, a1
+% line 1: Register
+add q1, 5, a1
+% line 1: Operand
+add a0, 5, q1
+% line 1: Range
+slli a0, a0, 32
+% line 1: Range
+lui a0, 0x100000
+% line 1: Range
+lui a0, -1
+% line 1: Range
+li a0, 4294967296
+% line 1: Range
+li a0, -2147483649
+% line 1: Operand
+li a0, x
+% line 1: Operand
+li a0, 0x
+% line 1: Operand
+li a0, -
+% line 1: Operand
+li a0, +1
+% line 1: Operand
+li a0, 1 2
+% line 1: Alignment
+beq a0, a1, 3
+% line 1: Range
+beq a0, a1, 4096
+% line 1: Range
+beq a0, a1, 4095
+% line 1: Range
+beq a0, a1, -4098
+% line 1: Alignment
+x: beq a0, a1, x+1
+% line 1: Range
+x: beq a0, a1, x+4096
+% line 1: Alignment
+tbegin 2
+% line 1: Alignment
+x: tbegin x+2
+% line 1: Range
+jal ra, 1048576
+% line 1: Range
+la a0, x+4294967295
+x:
+% line 1: Operand
+.word 1,,2
+% line 1: Operand
+.word
+% line 1: Range
+.word 99999999999, !
+% line 1: Label
+x: .word x+99999999999, y
+% line 2: Range
+.data
+.balign 3
+% line 2: Range
+.data
+.balign 0
+% line 2: Range
+.data
+.balign 8192
+% line 2: Range
+.data
+.space 4294967296
+% line 2: Range
+.data
+.space -1
+% line 2: TooLarge
+.data
+.space 2000000
+% line 3: TooLarge
+nop
+.data
+.space 1048573
+% line 1: Operand
+.globl 1
+% line 1: Unknown
+1a: nop
+% line 2: Unknown
+j nowhere
+foo
+% line 0: TooLarge
+.data
+.word 1
+% line 0: TooLarge
+x: # no text
+% line 1: Operand
+amoadd.w a0, a1, 0(a2)
+";
 
 #[test]
 fn the_first_fault_is_told(rt: HostRuntime) -> Result<(), Fail> {
-    let cases = [
-        ("addi a0, a0, 2048", 1, AsmFault::Range),
-        ("addi a0, a0, -2049", 1, AsmFault::Range),
-        ("lw a0, 4(q1)", 1, AsmFault::Register),
-        ("lw a0, 9999(q1)", 1, AsmFault::Register),
-        ("lw a0, 99999999999999999999999(a1)", 1, AsmFault::Range),
-        ("lw a0, x(a1)", 1, AsmFault::Operand),
-        ("lw a0, 4(5)", 1, AsmFault::Operand),
-        ("lw a0, 4(a1) x", 1, AsmFault::Operand),
-        ("lw a0, 4(a1", 1, AsmFault::Operand),
-        ("beq a0, a1, nowhere", 1, AsmFault::Label),
-        ("foo a0", 1, AsmFault::Unknown),
-        ("ADDI a0, a0, 1", 1, AsmFault::Unknown),
-        (".foo", 1, AsmFault::Directive),
-        (".data\n.byte 1\n.half 1", 3, AsmFault::Alignment),
-        (".data\n.byte 1\n.word 70000000000", 3, AsmFault::Range),
-        ("a:\nnop\na:", 3, AsmFault::TwiceDefined),
-        ("a: nop\na: foo", 2, AsmFault::TwiceDefined),
-        ("nop\n.data\nnop", 3, AsmFault::Directive),
-        ("nop\n.byte 1", 2, AsmFault::Directive),
-        (".text 1", 1, AsmFault::Operand),
-        ("nop 1", 1, AsmFault::Operand),
-        ("add a0, a1", 1, AsmFault::Operand),
-        ("add q1, a1", 1, AsmFault::Operand),
-        ("add q1, a1, a1, a1", 1, AsmFault::Operand),
-        ("add q1, 5, a1", 1, AsmFault::Register),
-        ("add a0, 5, q1", 1, AsmFault::Operand),
-        ("slli a0, a0, 32", 1, AsmFault::Range),
-        ("lui a0, 0x100000", 1, AsmFault::Range),
-        ("lui a0, -1", 1, AsmFault::Range),
-        ("li a0, 4294967296", 1, AsmFault::Range),
-        ("li a0, -2147483649", 1, AsmFault::Range),
-        ("li a0, x", 1, AsmFault::Operand),
-        ("li a0, 0x", 1, AsmFault::Operand),
-        ("li a0, -", 1, AsmFault::Operand),
-        ("li a0, +1", 1, AsmFault::Operand),
-        ("li a0, 1 2", 1, AsmFault::Operand),
-        ("beq a0, a1, 3", 1, AsmFault::Alignment),
-        ("beq a0, a1, 4096", 1, AsmFault::Range),
-        ("beq a0, a1, 4095", 1, AsmFault::Range),
-        ("beq a0, a1, -4098", 1, AsmFault::Range),
-        ("x: beq a0, a1, x+1", 1, AsmFault::Alignment),
-        ("x: beq a0, a1, x+4096", 1, AsmFault::Range),
-        ("tbegin 2", 1, AsmFault::Alignment),
-        ("x: tbegin x+2", 1, AsmFault::Alignment),
-        ("jal ra, 1048576", 1, AsmFault::Range),
-        ("la a0, x+4294967295\nx:", 1, AsmFault::Range),
-        (".word 1,,2", 1, AsmFault::Operand),
-        (".word", 1, AsmFault::Operand),
-        (".word 99999999999, !", 1, AsmFault::Range),
-        ("x: .word x+99999999999, y", 1, AsmFault::Label),
-        (".data\n.balign 3", 2, AsmFault::Range),
-        (".data\n.balign 0", 2, AsmFault::Range),
-        (".data\n.balign 8192", 2, AsmFault::Range),
-        (".data\n.space 4294967296", 2, AsmFault::Range),
-        (".data\n.space -1", 2, AsmFault::Range),
-        (".data\n.space 2000000", 2, AsmFault::TooLarge),
-        ("nop\n.data\n.space 1048573", 3, AsmFault::TooLarge),
-        (".globl 1", 1, AsmFault::Operand),
-        ("1a: nop", 1, AsmFault::Unknown),
-        ("nop\rnop", 1, AsmFault::Unknown),
-        ("nop\0", 1, AsmFault::Unknown),
-        ("j nowhere\nfoo", 2, AsmFault::Unknown),
-        ("", 0, AsmFault::TooLarge),
-        (".data\n.word 1", 0, AsmFault::TooLarge),
-        ("x: # no text\n", 0, AsmFault::TooLarge),
-        ("amoadd.w a0, a1, 0(a2)", 1, AsmFault::Operand),
-    ];
-    for (source, line, want) in cases {
-        check_fault(&rt, source, line, want);
-    }
-    Ok(())
+    check_outcomes(&rt, FAULTS)?;
+    check_outcome(&rt, "nop\rnop", "line 1: Unknown")?;
+    check_outcome(&rt, "nop\0", "line 1: Unknown")?;
+    check_outcome(&rt, "", "line 0: TooLarge")
 }
 
 fn line_of(alloc: Global, len: usize) -> Result<String, AllocError> {
@@ -253,26 +351,18 @@ fn line_of(alloc: Global, len: usize) -> Result<String, AllocError> {
 
 #[test]
 fn a_line_has_255_bytes(rt: HostRuntime) -> Result<(), Fail> {
-    assert_eq!(rt; fault(rt.alloc(), line_of(rt.alloc(), 255)?.as_str()), None);
-    check_fault(
-        &rt,
-        line_of(rt.alloc(), 256)?.as_str(),
-        1,
-        AsmFault::TooLarge,
-    );
-    Ok(())
+    check_outcome(&rt, line_of(rt.alloc(), 255)?.as_str(), "00000013")?;
+    check_outcome(&rt, line_of(rt.alloc(), 256)?.as_str(), "line 1: TooLarge")
 }
 
 #[test]
 fn text_and_data_have_a_mebibyte(rt: HostRuntime) -> Result<(), Fail> {
-    assert_eq!(rt; fault(rt.alloc(), "nop\n.data\n.space 1048572"), None);
-    check_fault(
+    check_outcome(&rt, "nop\n.data\n.space 1048572", "00000013")?;
+    check_outcome(
         &rt,
         "nop\n.data\n.space 1048572\n.byte 0",
-        4,
-        AsmFault::TooLarge,
-    );
-    Ok(())
+        "line 4: TooLarge",
+    )
 }
 
 #[test]
@@ -290,11 +380,47 @@ fn programs_begin_at_start(rt: HostRuntime) -> Result<(), Fail> {
     Ok(())
 }
 
+/// Labels for a map of several nodes, and text that grows.
+const MANY_LABELS: &str = "\
+a: la a0, a
+b: la a0, h
+c: la a0, o
+d: la a0, v
+e: la a0, c
+f: la a0, j
+g: la a0, q
+h: la a0, x
+i: la a0, e
+j: la a0, l
+k: la a0, s
+l: la a0, z
+m: la a0, g
+n: la a0, n
+o: la a0, u
+p: la a0, b
+q: la a0, i
+r: la a0, p
+s: la a0, w
+t: la a0, d
+u: la a0, k
+v: la a0, r
+w: la a0, y
+x: la a0, f
+y: la a0, m
+z: la a0, t
+.data
+numbers: .word 1, 2, 3
+.space 100
+";
+
 // For `rt try --test --fail-alloc N`: a source is assembled whole, or memory ran out.
 #[test]
 fn assembles_or_wants_memory(rt: HostRuntime) -> Result<(), Fail> {
-    match assemble(rt.alloc(), "x: la a0, x\n.data\ny: .word 1") {
-        Ok(program) => assert_eq!(rt; program.segments().len(), 2),
+    match assemble(rt.alloc(), MANY_LABELS) {
+        Ok(program) => match program.segments() {
+            [text, data] => assert_eq!(rt; (text.bytes.len(), data.bytes.len()), (208, 112)),
+            others => assert_eq!(rt; others.len(), 2),
+        },
         Err(fault) => assert_eq!(rt; fault.fault, AsmFault::NoMemory),
     }
     Ok(())

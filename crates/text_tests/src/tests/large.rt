@@ -1,7 +1,7 @@
 //! Sources as large as they may be, and one line past it.
 
-use super::assembling::check_fault;
-use assembler::{AsmFault, assemble};
+use super::assembling::check_outcome;
+use assembler::assemble;
 use std::alloc::{AllocError, Global};
 use std::test::Fail;
 
@@ -36,8 +36,7 @@ fn a_mebibyte_is_assembled(rt: HostRuntime) -> Result<(), Fail> {
     assert_eq!(rt; text.bytes[1_048_572..], [0x13, 0, 0, 0][..]);
     // A word more is too much.
     source.push_str("nop")?;
-    check_fault(&rt, source.as_str(), 4097, AsmFault::TooLarge);
-    Ok(())
+    check_outcome(&rt, source.as_str(), "line 4097: TooLarge")
 }
 
 // The last lines jump back over 100,000 instructions, each with a label of its own, and over one.

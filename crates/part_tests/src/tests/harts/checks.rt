@@ -10,30 +10,36 @@ use words::{
     AbortCause, Addr, Block, BlockNo, Entry, HartSet, Kind, LineState, Message, Stamp, Status,
 };
 
-pub fn check_gives(rt: &impl Abort, hart: &mut Small, text: &Text, want: Entry) {
+pub(crate) fn check_gives(rt: &impl Abort, hart: &mut Small, text: &Text, want: Entry) {
     let step = step(rt, hart, text);
     assert_eq!(rt; (step.message, step.entry), (None, Some(want)));
 }
 
-pub fn check_steps_quietly(rt: &impl Abort, hart: &mut Small, text: &Text) {
+pub(crate) fn check_steps_quietly(rt: &impl Abort, hart: &mut Small, text: &Text) {
     let step = step(rt, hart, text);
     assert_eq!(rt; (step.message, step.entry), (None, None));
 }
 
-pub fn check_call(rt: &impl Abort, hart: &mut Small, text: &Text, want: Option<u8>) {
+pub(crate) fn check_call(rt: &impl Abort, hart: &mut Small, text: &Text, want: Option<u8>) {
     let step = step(rt, hart, text);
     assert!(rt; matches!(step.entry, Some(Entry::Retire { .. })));
     assert_eq!(rt; step.output, want);
 }
 
-pub fn check_begins(rt: &impl Abort, hart: &mut Small, text: &Text, taken: u64, stamped: bool) {
+pub(crate) fn check_begins(
+    rt: &impl Abort,
+    hart: &mut Small,
+    text: &Text,
+    taken: u64,
+    stamped: bool,
+) {
     let step = step_at(rt, hart, text, taken);
     assert!(rt; matches!(step.entry, Some(Entry::Retire { .. })));
     assert_eq!(rt; step.stamped, stamped);
     assert_eq!(rt; stamp(hart), own_stamp());
 }
 
-pub fn check_stands(rt: &impl Abort, hart: &mut Small, text: &Text) {
+pub(crate) fn check_stands(rt: &impl Abort, hart: &mut Small, text: &Text) {
     assert_eq!(rt; hart.core_step(text, 9), None);
 }
 
@@ -70,7 +76,13 @@ fn check_same(rt: &impl Abort, hart: &Small, other: &Small, want: bool) {
     assert_eq!(rt; hart.same(other), want);
 }
 
-pub fn check_taken(rt: &impl Abort, hart: &mut Small, text: &Text, kind: Kind, give: LineState) {
+pub(crate) fn check_taken(
+    rt: &impl Abort,
+    hart: &mut Small,
+    text: &Text,
+    kind: Kind,
+    give: LineState,
+) {
     let before = *hart;
     check_asks(rt, hart, text, kind);
     check_stands(rt, hart, text);
@@ -78,7 +90,7 @@ pub fn check_taken(rt: &impl Abort, hart: &mut Small, text: &Text, kind: Kind, g
     check_same(rt, hart, &before, false);
 }
 
-pub fn check_spills(rt: &impl Abort, hart: &mut Small, text: &Text) {
+pub(crate) fn check_spills(rt: &impl Abort, hart: &mut Small, text: &Text) {
     let put = Message::Put {
         from: one(),
         block: block(),
@@ -98,12 +110,12 @@ fn check_waiting(rt: &impl Abort, hart: &Small, want: bool) {
     assert_eq!(rt; hart.is_waiting(), want);
 }
 
-pub fn check_waits(rt: &impl Abort, hart: &mut Small, block: BlockNo) {
+pub(crate) fn check_waits(rt: &impl Abort, hart: &mut Small, block: BlockNo) {
     assert_eq!(rt; grant_but_for_one(hart, block).message, None);
     check_waiting(rt, hart, true);
 }
 
-pub fn check_ends_refused(rt: &impl Abort, hart: &mut Small, block: BlockNo) {
+pub(crate) fn check_ends_refused(rt: &impl Abort, hart: &mut Small, block: BlockNo) {
     let done = Message::Done {
         from: one(),
         block,
@@ -114,7 +126,7 @@ pub fn check_ends_refused(rt: &impl Abort, hart: &mut Small, block: BlockNo) {
     check_waiting(rt, hart, false);
 }
 
-pub fn check_shared(rt: &impl Abort, hart: &mut Small, content: Block) {
+pub(crate) fn check_shared(rt: &impl Abort, hart: &mut Small, content: Block) {
     let ack = Message::Ack {
         from: one(),
         to: zero(),
@@ -125,13 +137,13 @@ pub fn check_shared(rt: &impl Abort, hart: &mut Small, content: Block) {
     assert_eq!(rt; (reply.message, reply.entry), (Some(ack), None));
 }
 
-pub fn check_given(rt: &impl Abort, hart: &mut Small, kind: Kind, stamp: Option<u64>) {
+pub(crate) fn check_given(rt: &impl Abort, hart: &mut Small, kind: Kind, stamp: Option<u64>) {
     let reply = forward(hart, kind, stamp);
     assert!(rt; matches!(reply.message, Some(Message::Ack { .. })));
     assert_eq!(rt; reply.entry, None);
 }
 
-pub fn check_refused(rt: &impl Abort, hart: &mut Small, kind: Kind, stamp: Option<u64>) {
+pub(crate) fn check_refused(rt: &impl Abort, hart: &mut Small, kind: Kind, stamp: Option<u64>) {
     let nack = Message::Nack {
         from: one(),
         to: zero(),
@@ -143,21 +155,21 @@ pub fn check_refused(rt: &impl Abort, hart: &mut Small, kind: Kind, stamp: Optio
     assert!(rt; matches!(reply.entry, Some(Entry::Refuse { .. })));
 }
 
-pub fn check_retires_alone(rt: &impl Abort, hart: &mut Small, text: &Text) {
+pub(crate) fn check_retires_alone(rt: &impl Abort, hart: &mut Small, text: &Text) {
     assert!(rt; matches!(hart.local(text), Local::Retired(Entry::Retire { .. })));
 }
 
-pub fn check_gives_alone(rt: &impl Abort, hart: &mut Small, text: &Text, want: Entry) {
+pub(crate) fn check_gives_alone(rt: &impl Abort, hart: &mut Small, text: &Text, want: Entry) {
     assert_eq!(rt; hart.local(text), Local::Retired(want));
 }
 
-pub fn check_needs_hub(rt: &impl Abort, hart: &mut Small, text: &Text) {
+pub(crate) fn check_needs_hub(rt: &impl Abort, hart: &mut Small, text: &Text) {
     let before = *hart;
     assert_eq!(rt; hart.local(text), Local::NeedsHub);
     check_same(rt, hart, &before, true);
 }
 
-pub fn check_register(rt: &impl Abort, hart: &Small, index: usize, want: u32) {
+pub(crate) fn check_register(rt: &impl Abort, hart: &Small, index: usize, want: u32) {
     assert_eq!(rt;
         hart.registers().get(index).copied(),
         Some(want),
@@ -165,11 +177,11 @@ pub fn check_register(rt: &impl Abort, hart: &Small, index: usize, want: u32) {
     );
 }
 
-pub fn check_pc(rt: &impl Abort, hart: &Small, want: u32) {
+pub(crate) fn check_pc(rt: &impl Abort, hart: &Small, want: u32) {
     assert_eq!(rt; hart.pc(), Addr::new(want));
 }
 
-pub fn check_status(rt: &impl Abort, hart: &Small, want: Status) {
+pub(crate) fn check_status(rt: &impl Abort, hart: &Small, want: Status) {
     assert_eq!(rt; hart.status(), want);
 }
 
@@ -178,39 +190,39 @@ fn state(hart: &Small) -> Option<LineState> {
     Some(line.state)
 }
 
-pub fn check_state(rt: &impl Abort, hart: &Small, want: Option<LineState>) {
+pub(crate) fn check_state(rt: &impl Abort, hart: &Small, want: Option<LineState>) {
     assert_eq!(rt; state(hart), want);
 }
 
-pub fn check_owned(rt: &impl Abort, hart: &Small, want: Block) {
+pub(crate) fn check_owned(rt: &impl Abort, hart: &Small, want: Block) {
     assert_eq!(rt; hart.owned_content(block()), Some(want));
 }
 
-pub fn check_logged(rt: &impl Abort, hart: &Small, want: Block) {
+pub(crate) fn check_logged(rt: &impl Abort, hart: &Small, want: Block) {
     assert!(rt; hart.is_logged(block()));
     assert_eq!(rt; hart.restored(block(), [0; 8]), want);
 }
 
-pub fn check_fresh(rt: &impl Abort, hart: &Small, want: bool) {
+pub(crate) fn check_fresh(rt: &impl Abort, hart: &Small, want: bool) {
     assert_eq!(rt; hart.is_fresh(), want);
 }
 
-pub fn check_put_out(rt: &impl Abort, hart: &Small, want: bool) {
+pub(crate) fn check_put_out(rt: &impl Abort, hart: &Small, want: bool) {
     assert_eq!(rt; hart.put().is_some(), want);
 }
 
-pub fn check_depth(rt: &impl Abort, hart: &Small, want: u8) {
+pub(crate) fn check_depth(rt: &impl Abort, hart: &Small, want: u8) {
     assert_eq!(rt; hart.transaction().depth(), want);
 }
 
-pub fn check_cycle(rt: &impl Abort, hart: &Small, want: bool) {
+pub(crate) fn check_cycle(rt: &impl Abort, hart: &Small, want: bool) {
     assert_eq!(rt; hart.transaction().cycle(), want);
 }
 
-pub fn check_aborting(rt: &impl Abort, hart: &Small, want: Option<AbortCause>) {
+pub(crate) fn check_aborting(rt: &impl Abort, hart: &Small, want: Option<AbortCause>) {
     assert_eq!(rt; hart.transaction().aborting(), want);
 }
 
-pub fn check_kept_stamp(rt: &impl Abort, hart: &Small) {
+pub(crate) fn check_kept_stamp(rt: &impl Abort, hart: &Small) {
     assert_eq!(rt; hart.kept_stamp(), own_stamp());
 }

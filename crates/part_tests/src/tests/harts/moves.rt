@@ -6,23 +6,23 @@ use std::process::Abort;
 use table::{Segment, Text};
 use words::{Addr, Block, BlockNo, Entry, HartId, HartSet, Kind, LineState, Message, Stamp};
 
-pub type Small = Hart<2, 1>;
+pub(crate) type Small = Hart<2, 1>;
 
 /// What a block holds when it is given.
-pub const ONES: Block = [1; 8];
+pub(crate) const ONES: Block = [1; 8];
 
 /// The hart that asks, and has to answer.
-pub fn zero() -> HartId {
+pub(crate) fn zero() -> HartId {
     HartId::new(0)
 }
 
 /// The hart of these tests.
-pub fn one() -> HartId {
+pub(crate) fn one() -> HartId {
     HartId::new(1)
 }
 
 /// The block at 0x3000, which the programs access.
-pub fn block() -> BlockNo {
+pub(crate) fn block() -> BlockNo {
     BlockNo::new(0x180)
 }
 
@@ -35,7 +35,7 @@ fn stamp_of_zero(count: u64) -> Stamp {
 }
 
 /// The stamp that hart 1 takes.
-pub fn own_stamp() -> Option<Stamp> {
+pub(crate) fn own_stamp() -> Option<Stamp> {
     Some(Stamp {
         count: 9,
         hart: one(),
@@ -43,7 +43,7 @@ pub fn own_stamp() -> Option<Stamp> {
 }
 
 /// A program of these words, at 0x1000, and zeros behind them.
-pub fn program(alloc: Global, words: &[u32]) -> Result<Vec<Segment>, AllocError> {
+pub(crate) fn program(alloc: Global, words: &[u32]) -> Result<Vec<Segment>, AllocError> {
     let mut bytes = Vec::new(alloc);
     for word in words {
         bytes.extend_from_slice(&word.to_le_bytes())?;
@@ -58,22 +58,22 @@ pub fn program(alloc: Global, words: &[u32]) -> Result<Vec<Segment>, AllocError>
 }
 
 /// The hart as it begins, with 64 KiB of memory.
-pub fn booted() -> Small {
+pub(crate) fn booted() -> Small {
     Hart::new(HartId::new(1), 2, 65_536, Addr::new(0x1000))
 }
 
 /// A step of its core, which there is, where so many stamps were taken in the machine.
-pub fn step_at(rt: &impl Abort, hart: &mut Small, text: &Text, taken: u64) -> CoreStep {
+pub(crate) fn step_at(rt: &impl Abort, hart: &mut Small, text: &Text, taken: u64) -> CoreStep {
     hart.core_step(text, taken).expect(rt, "a step")
 }
 
 /// A step of its core, which there is.
-pub fn step(rt: &impl Abort, hart: &mut Small, text: &Text) -> CoreStep {
+pub(crate) fn step(rt: &impl Abort, hart: &mut Small, text: &Text) -> CoreStep {
     step_at(rt, hart, text, 9)
 }
 
 /// So many steps, each of which retires a word and sends nothing.
-pub fn retire(rt: &impl Abort, hart: &mut Small, text: &Text, steps: u32) {
+pub(crate) fn retire(rt: &impl Abort, hart: &mut Small, text: &Text, steps: u32) {
     for _ in 0..steps {
         let pc = hart.pc();
         let step = step(rt, hart, text);
@@ -83,14 +83,14 @@ pub fn retire(rt: &impl Abort, hart: &mut Small, text: &Text, steps: u32) {
 }
 
 /// A step that asks for a block.
-pub fn ask(rt: &impl Abort, hart: &mut Small, text: &Text) {
+pub(crate) fn ask(rt: &impl Abort, hart: &mut Small, text: &Text) {
     let step = step(rt, hart, text);
     assert!(rt; matches!(step.message, Some(Message::Get { .. })));
     assert_eq!(rt; step.entry, None);
 }
 
 /// The grant of a request, which these harts have to answer.
-pub fn grant(hart: &mut Small, block: BlockNo, give: LineState, expect: HartSet) -> Reply {
+pub(crate) fn grant(hart: &mut Small, block: BlockNo, give: LineState, expect: HartSet) -> Reply {
     hart.on_message(&Message::Grant {
         to: one(),
         block,
@@ -101,14 +101,14 @@ pub fn grant(hart: &mut Small, block: BlockNo, give: LineState, expect: HartSet)
 }
 
 /// The grant of a request that hart 0 has to answer.
-pub fn grant_but_for_one(hart: &mut Small, block: BlockNo) -> Reply {
+pub(crate) fn grant_but_for_one(hart: &mut Small, block: BlockNo) -> Reply {
     let mut expect = HartSet::empty();
     expect.insert(zero());
     grant(hart, block, LineState::Shared, expect)
 }
 
 /// Hart 0 asks for the block.
-pub fn forward(hart: &mut Small, kind: Kind, stamp: Option<u64>) -> Reply {
+pub(crate) fn forward(hart: &mut Small, kind: Kind, stamp: Option<u64>) -> Reply {
     hart.on_message(&Message::Forward {
         to: one(),
         block: block(),
@@ -119,7 +119,7 @@ pub fn forward(hart: &mut Small, kind: Kind, stamp: Option<u64>) -> Reply {
 }
 
 /// Hart 0 refuses a request.
-pub fn nack(hart: &mut Small, block: BlockNo, stamp: u64) {
+pub(crate) fn nack(hart: &mut Small, block: BlockNo, stamp: u64) {
     hart.on_message(&Message::Nack {
         from: zero(),
         to: one(),
@@ -129,7 +129,7 @@ pub fn nack(hart: &mut Small, block: BlockNo, stamp: u64) {
 }
 
 /// The Put of the block is over.
-pub fn put_over(hart: &mut Small) {
+pub(crate) fn put_over(hart: &mut Small) {
     hart.on_message(&Message::PutAck {
         to: one(),
         block: block(),

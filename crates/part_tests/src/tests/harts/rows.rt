@@ -16,7 +16,7 @@ use words::{AbortCause, Block, BlockNo, Entry, Kind, LineState, Status};
 /// A row of a test on hart 1. "The block" is that at 0x3000; hart 0 asks for it, and answers requests. A stamp is told by its number, hart 0's
 /// or that which hart 1 takes, 9.
 #[derive(Clone, Copy)]
-pub enum Row {
+pub(crate) enum Row {
     /// So many steps each retire a word, and send nothing.
     Retires(u32),
     /// A step retires a call, which puts out this byte.
@@ -132,7 +132,11 @@ fn check_read(rt: &impl Abort, hart: &Small, row: &Row) {
 }
 
 /// That each row comes true in order, from the beginning of a program on.
-pub fn check(rt: &(impl Abort + AllocGlobal), words: &[u32], rows: &[Row]) -> Result<(), Fail> {
+pub(crate) fn check(
+    rt: &(impl Abort + AllocGlobal),
+    words: &[u32],
+    rows: &[Row],
+) -> Result<(), Fail> {
     let segments = program(rt.alloc(), words)?;
     let text = Text::new(&segments);
     let mut hart = booted();

@@ -1,0 +1,9 @@
+//! The counts of a run as text: a table for people, and lines for scripts.
+#![tactic(auto)]
+
+mod listed;
+mod names;
+mod rows;
+
+pub use listed::put_csv;
+pub use rows::put_table;
