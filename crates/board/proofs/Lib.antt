@@ -1,3 +1,3 @@
-mod Replays
+pub mod Replays
 mod Locals
 mod Payments

@@ -23,7 +23,7 @@ use Rattle.board.specs.Leases.{Lent, IsSound}
 use Rattle.board.specs.Boards.{first_flat, IsReplay, IsFirst}
 
 -- a run changes neither text, size nor the number of harts
-run_settings : (g : Geometry) (v w : Machine) (ss : List Step) (es : List Entry) → Runs g v ss es w → w.setting ≡ v.setting
+pub run_settings : (g : Geometry) (v w : Machine) (ss : List Step) (es : List Entry) → Runs g v ss es w → w.setting ≡ v.setting
 run_settings g v w [] es r = ap (λ m. m.setting) r.1
 run_settings g v w (s ∷ ss) es r = run_settings g r.0 w ss r.2 r.4 ∙ setting_stays g v r.0 s r.1 r.3
 

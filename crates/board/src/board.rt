@@ -11,18 +11,19 @@ ghost use Rattle.hart.specs.Parts.{Parts};
 ghost use Rattle.machine.specs.States.{State, shown, geometry};
 ghost use Rattle.machine.specs.Lent.{hart_if, with_hart};
 ghost use Rattle.protocol.specs.Machine.{Runs};
-ghost use Rattle.board.specs.Leases.{most_steps};
+ghost use Rattle.board.specs.Leases.{most_steps, IsSound};
 ghost use Rattle.board.specs.Boards.{first_flat, IsReplay, IsFirst, IsRunning, IsLent, FitsIn, Fits, settled, IsRefusedFor, IsTurn};
 
 use crate::lease::{Lease, Retired};
 use crate::refusal::Refusal;
+use crate::status::{is_running, running};
 use flat::BootFault;
 use hart::Hart;
 use loader::Program;
 use machine::Machine;
 use std::alloc::{AllocError, Allocator, Global};
 use std::marker::Model;
-use words::{Entry, HartId, Status, Step};
+use words::{Entry, HartId, Step};
 
 /// A machine, with all steps that were made since its boot, and their entries.
 #[derive(Drop)]
@@ -139,24 +140,14 @@ impl<'p, const SETS: usize, const WAYS: usize, A: Allocator + Copy> Board<'p, SE
         ensures some { IfSome result (λ h. (hart_if self.now.machine id ≡ Some h) × (h.status ≡ Running)) }
         ensures none { IfNone result (IsRunning self.now.machine id → ⊥) }
     {
-        let hart = self.machine.hart(id)?;
-        match hart.status() {
-            Status::Running => Some(hart),
-            Status::Exited(_) | Status::Stopped(..) => None,
-        }
+        running(&self.machine, id)
     }
 
     /// Whether a hart is one that runs.
     pub(crate) fn is_running(&self, id: HartId) -> bool
         ensures { IsTrue result ↔ IsRunning self.now.machine id }
     {
-        match self.machine.hart(id) {
-            Some(hart) => match hart.status() {
-                Status::Running => true,
-                Status::Exited(_) | Status::Stopped(..) => false,
-            },
-            None => false,
-        }
+        is_running(&self.machine, id)
     }
 
     /// Lends a hart. `None` where there is no such hart, or it doesn't run.
@@ -227,7 +218,7 @@ impl<'p, const SETS: usize, const WAYS: usize, A: Allocator + Copy> Board<'p, SE
 }
 
 /// Whether a lease is of this program, number of harts and size of memory, and its hart is as it was lent.
-fn fits<const SETS: usize, const WAYS: usize>(
+pub fn fits<const SETS: usize, const WAYS: usize>(
     program: &Program,
     harts: u32,
     size: u32,
@@ -262,8 +253,8 @@ fn reserve<A: Allocator>(
     entries.reserve(more)
 }
 
-/// Puts the hart of a lease back in its place.
-fn take_back<const SETS: usize, const WAYS: usize>(
+/// Puts the hart of a lease back in its place. What it is now it has become by itself.
+pub fn take_back<const SETS: usize, const WAYS: usize>(
     machine: &mut Machine<SETS, WAYS>,
     lease: &Lease<'_, SETS, WAYS>,
 )
@@ -272,6 +263,7 @@ fn take_back<const SETS: usize, const WAYS: usize>(
     requires text { machine.old.program.segments ≡ lease.now.program.segments }
     ensures hart { machine.new ≡ with_hart machine.old lease.now.id lease.now.after }
     ensures runs { Runs (geometry SETS WAYS) (shown SETS machine.old) (replicate (length lease.now.entries) (Core lease.now.id)) lease.now.entries (shown SETS machine.new) }
+    ensures alone { IsSound SETS lease.now }
 {
     machine.adopt(lease.hart(), lease.after(), lease.len());
 }

@@ -77,7 +77,7 @@ impl<'p, const SETS: usize, const WAYS: usize> Model for Lease<'p, SETS, WAYS> {
 
 impl<'p, const SETS: usize, const WAYS: usize> Lease<'p, SETS, WAYS> {
     /// A hart as it is lent.
-    pub(crate) fn new(
+    pub fn new(
         program: &'p Program,
         harts: u32,
         size: u32,

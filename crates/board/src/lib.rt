@@ -4,8 +4,10 @@
 mod board;
 mod lease;
 mod refusal;
+mod status;
 mod visit;
 
-pub use board::{Board, Finished};
+pub use board::{Board, Finished, fits, take_back};
 pub use lease::Lease;
 pub use refusal::Refusal;
+pub use status::{is_running, running};

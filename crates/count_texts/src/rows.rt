@@ -108,7 +108,7 @@ fn put_cell<S: Sink>(
     }
 }
 
-fn put_count<S: Sink>(count: u64, sink: &mut S) -> Result<(), SinkFault>
+pub(crate) fn put_count<S: Sink>(count: u64, sink: &mut S) -> Result<(), SinkFault>
     ensures { Puts (S.taken sink.old) (S.taken sink.new) (S.failed sink.old) (S.failed sink.new) (count_cell count) result }
 {
     let mut buffer = Buffer::new();

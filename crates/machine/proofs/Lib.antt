@@ -21,7 +21,7 @@ mod Turning
 mod Oldest
 mod Playing
 mod Naming
-mod Returning
+pub mod Returning
 pub mod Calm
 mod Enabled
 mod Ending

@@ -14,7 +14,14 @@ use words::HartId;
 
 /// Harts that are lent out, as to a thread, and come back.
 impl<const SETS: usize, const WAYS: usize> Machine<SETS, WAYS> {
-    ghost use Rattle.machine.specs.States.{shown, geometry};
+    ghost use Rattle.machine.specs.States.{shown, geometry, IsSound};
+
+    /// What a machine keeps in all that is done with it, such as that each hart sits at its place. It does nothing.
+    pub fn keeps(&self)
+        ensures { IsSound SETS WAYS self.now }
+    {
+        let _seats = &self.seats;
+    }
 
     /// A copy of a hart. `None` where there is no such hart.
     pub fn hart(&self, id: HartId) -> Option<Hart<SETS, WAYS>>

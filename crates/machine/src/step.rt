@@ -29,6 +29,7 @@ impl<const SETS: usize, const WAYS: usize> Machine<SETS, WAYS> {
     ghost use Rattle.machine.specs.States.{shown, geometry};
 
     /// One step of a hart's core.
+    #[inline(always)]
     pub(crate) fn core(&mut self, id: HartId) -> Result<Option<Entry>, AllocError>
         ensures steps { IfOk result (λ e. Steps (geometry SETS WAYS) (shown SETS self.old) (Core id) e (shown SETS self.new)) }
         ensures numbers { NumbersOn self.old.flights self.old.sent self.new.flights self.new.sent }
@@ -51,7 +52,7 @@ impl<const SETS: usize, const WAYS: usize> Machine<SETS, WAYS> {
 
     /// A hart gives up its line of a block.
     #[inline(never)]
-    fn evict(&mut self, id: HartId, block: BlockNo) -> Result<Option<Entry>, AllocError>
+    pub(crate) fn evict(&mut self, id: HartId, block: BlockNo) -> Result<Option<Entry>, AllocError>
         ensures steps { IfOk result (λ e. Steps (geometry SETS WAYS) (shown SETS self.old) (Evict id block) e (shown SETS self.new)) }
         ensures numbers { NumbersOn self.old.flights self.old.sent self.new.flights self.new.sent }
         ensures err { OnErr result (self.new ≡ self.old) }
@@ -71,8 +72,8 @@ impl<const SETS: usize, const WAYS: usize> Machine<SETS, WAYS> {
     }
 
     /// The message under a key arrives. A message that is held stays in flight.
-    #[inline(never)]
-    fn deliver(&mut self, key: usize) -> Result<Option<Entry>, AllocError>
+    #[inline(always)]
+    pub(crate) fn deliver(&mut self, key: usize) -> Result<Option<Entry>, AllocError>
         ensures steps { IfOk result (λ e. Steps (geometry SETS WAYS) (shown SETS self.old) (Deliver key) e (shown SETS self.new)) }
         ensures numbers { NumbersOn self.old.flights self.old.sent self.new.flights self.new.sent }
         ensures err { OnErr result (self.new ≡ self.old) }
@@ -110,6 +111,7 @@ impl<const SETS: usize, const WAYS: usize> Machine<SETS, WAYS> {
     }
 
     /// The message under a key arrives at the directory.
+    #[inline(always)]
     fn deliver_to_directory(
         &mut self,
         key: usize,

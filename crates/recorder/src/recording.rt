@@ -2,25 +2,34 @@ ghost use Rattle.std.specs.Prelude.{◌≡◌, MatchResult, Ok, Err};
 ghost use Rattle.words.specs.declared.sink.SinkFault.{SinkFault};
 ghost use Rattle.texts.specs.Puts.{Puts};
 ghost use Rattle.machine.specs.States.{geometry};
-ghost use Rattle.lines.specs.Entries.{entry_line};
-ghost use Rattle.recorder.specs.Traces.{IsTraced, IsCut};
+ghost use Rattle.recorder.specs.Traces.{line_if, IsTraced, IsCut};
 
 use lines::put_entry;
 use machine::Machine;
 use schedule::Choice;
 use watch::{Halt, WatchFault, Watcher, follow_watched};
-use words::{Entry, Sink};
+use words::{Entry, Sink, Step};
 
-/// Notes entries in a sink, as lines.
+/// Notes the entries of steps in a sink, as lines.
 #[derive(Clone, Copy, Debug)]
 pub struct Recorder;
 
-impl<S: Sink> Watcher<S> for Recorder {
-    ghost notes = { λ _ before e after. Puts (S.taken before) (S.taken after) (S.failed before) (S.failed after) (entry_line e) (Ok tt) };
+impl<M, S: Sink> Watcher<M, S> for Recorder {
+    ghost notes = { λ _ before _ _ entry _ after. Puts (S.taken before) (S.taken after) (S.failed before) (S.failed after) (line_if entry) (Ok tt) };
 
-    ghost misses = { λ _ before e after. (fault : SinkFault) × Puts (S.taken before) (S.taken after) (S.failed before) (S.failed after) (entry_line e) (Err fault) };
+    ghost misses = { λ _ before _ _ entry _ after. (fault : SinkFault) × Puts (S.taken before) (S.taken after) (S.failed before) (S.failed after) (line_if entry) (Err fault) };
 
-    fn note(&self, entry: &Entry, log: &mut S) -> Result<(), WatchFault> {
+    fn note(
+        &self,
+        _sent: u64,
+        _step: &Step,
+        entry: &Option<Entry>,
+        _machine: &M,
+        log: &mut S,
+    ) -> Result<(), WatchFault> {
+        let Some(entry) = entry else {
+            return Ok(());
+        };
         match put_entry(entry, log) {
             Ok(()) => Ok(()),
             Err(_) => Err(WatchFault),

@@ -5,11 +5,11 @@ use Rattle.flat.specs.Boots.{booted}
 use Rattle.flat.specs.State.{Flat}
 use Rattle.flat.proofs.Runs.{run_setting}
 use Rattle.command_line.specs.declared.request.Run.{Run}
-use Rattle.words.specs.declared.entry.Entry.{Entry}
 use Rattle.isolation.specs.Belongs.{Belongs}
 use Rattle.isolation.proofs.Belongs.Belonging.{inv_of}
 use Rattle.machine.specs.States.{State, setting_of, shown}
 use Rattle.schedule.specs.declared.choices.Choice.{Choice}
+use Rattle.watch.specs.Moments.{Moment, entries_of}
 use Rattle.watch.specs.Watched.{PlaysWith}
 use Rattle.simulate.specs.Orders.{geometry_of}
 use Rattle.simulate.specs.Reports.{AllReadable, report_of}
@@ -25,49 +25,49 @@ pub same_setting : (g : Geometry) (f : Flat) (m : State) → Belongs g f (shown 
 same_setting g f m b = (inv_of g f (shown g.sets m) b).1.same
 
 -- a machine that was booted from a file and then played for so many steps has an end: a flat state belongs to it to which its entries lead
-pub record HasEnd (g : Geometry) (path file list : List ℕ) (harts memory steps : ℕ) (entries : List Entry) (v w : State) : Type 0 where
+pub record HasEnd (g : Geometry) (path file list : List ℕ) (harts memory steps : ℕ) (moments : List Moment) (v w : State) : Type 0 where
   pub end : Flat
-  pub comes : ComesBy path file list g harts memory steps entries end
+  pub comes : ComesBy path file list g harts memory steps moments end
   pub belongs : Belongs g end (shown g.sets w)
   pub same : end.setting ≡ setting_of v
 
-end_of : (g : Geometry) (path file list : List ℕ) (choices : List Choice) (harts memory steps : ℕ) (entries : List Entry) (v w : State) → IsStartOf g path file harts memory v → AreChosenBy list choices → PlaysWith g choices steps v entries w
-    → HasEnd g path file list harts memory steps entries v w
-end_of g path file list choices harts memory steps entries v w (program, holds, first) chosen (made, carry) =
+end_of : (g : Geometry) (path file list : List ℕ) (choices : List Choice) (harts memory steps : ℕ) (moments : List Moment) (v w : State) → IsStartOf g path file harts memory v → AreChosenBy list choices → PlaysWith g choices steps v moments w
+    → HasEnd g path file list harts memory steps moments v w
+end_of g path file list choices harts memory steps moments v w (program, holds, first) chosen (made, carry) =
     let booting : Flat = booted program.segments program.entry harts memory in
     let carried = carry booting first.belongs in
     record {
       end = carried.0;
       comes = record { program = program; holds = holds; boots = first.boots; first = v; begins = first.begins; choices = choices; chosen = chosen; last = w; made = made; run = carried.1 };
       belongs = carried.2;
-      same = run_setting booting carried.0 entries carried.1 ∙ same_setting g booting v first.belongs;
+      same = run_setting booting carried.0 (entries_of moments) carried.1 ∙ same_setting g booting v first.belongs;
     }
 
 -- the same of a run that has begun, by as many of its steps
-pub begun_end : (run : Run) (file list : List ℕ) (choices followed : List Choice) (g : Geometry) (steps : ℕ) (entries : List Entry) (v w : State) (addrs : List ℕ) → followed ≡ choices → IsBegunBy g run file list v addrs choices
-    → PlaysWith g followed steps v entries w → HasEnd g run.file.now file list run.harts run.memory steps entries v w
-begun_end run file list choices followed g steps entries v w addrs same begun plays =
-    end_of g run.file.now file list choices run.harts run.memory steps entries v w begun.starts begun.chosen (subst (λ (cs : List Choice). PlaysWith g cs steps v entries w) same plays)
+pub begun_end : (run : Run) (file list : List ℕ) (choices followed : List Choice) (g : Geometry) (steps : ℕ) (moments : List Moment) (v w : State) (addrs : List ℕ) → followed ≡ choices → IsBegunBy g run file list v addrs choices
+    → PlaysWith g followed steps v moments w → HasEnd g run.file.now file list run.harts run.memory steps moments v w
+begun_end run file list choices followed g steps moments v w addrs same begun plays =
+    end_of g run.file.now file list choices run.harts run.memory steps moments v w begun.starts begun.chosen (subst (λ (cs : List Choice). PlaysWith g cs steps v moments w) same plays)
 
 -- and on the caches that the run asks for
-pub with_caches : (run : Run) (file list : List ℕ) (g : Geometry) (steps : ℕ) (entries : List Entry) (f : Flat) → geometry_of run.cache ≡ g → ComesBy run.file.now file list g run.harts run.memory steps entries f
-    → ComesBy run.file.now file list (geometry_of run.cache) run.harts run.memory steps entries f
-with_caches run file list g steps entries f caches comes = subst (λ (c : Geometry). ComesBy run.file.now file list c run.harts run.memory steps entries f) (sym caches) comes
+pub with_caches : (run : Run) (file list : List ℕ) (g : Geometry) (steps : ℕ) (moments : List Moment) (f : Flat) → geometry_of run.cache ≡ g → ComesBy run.file.now file list g run.harts run.memory steps moments f
+    → ComesBy run.file.now file list (geometry_of run.cache) run.harts run.memory steps moments f
+with_caches run file list g steps moments f caches comes = subst (λ (c : Geometry). ComesBy run.file.now file list c run.harts run.memory steps moments f) (sym caches) comes
 
 -- the report on the run is that of a flat state which belongs to the machine at the end, where the words can be read still
-pub record HasReport (run : Run) (file list : List ℕ) (g : Geometry) (w : State) (words : List ℕ) (status : ℕ) (entries : List Entry) : Type 0 where
+pub record HasReport (run : Run) (file list : List ℕ) (g : Geometry) (w : State) (words : List ℕ) (status : ℕ) (moments : List Moment) : Type 0 where
   pub end : Flat
   pub belongs : Belongs g end (shown g.sets w)
-  pub comes : ComesBy run.file.now file list (geometry_of run.cache) run.harts run.memory run.steps entries end
+  pub comes : ComesBy run.file.now file list (geometry_of run.cache) run.harts run.memory run.steps moments end
   pub is : IsReport end run.words.items (report_of end words) status
   pub readable : AllReadable (setting_of w) words
 
-of_end : (run : Run) (file list : List ℕ) (g : Geometry) (entries : List Entry) (v w : State) (status : ℕ) → geometry_of run.cache ≡ g → HasEnd g run.file.now file list run.harts run.memory run.steps entries v w
-    → AllReadable (setting_of v) (addresses run.words.items) → ((f : Flat) → Belongs g f (shown g.sets w) → IsStatusOf f status) → HasReport run file list g w (addresses run.words.items) status entries
-of_end run file list g entries v w status caches e readable given =
+of_end : (run : Run) (file list : List ℕ) (g : Geometry) (moments : List Moment) (v w : State) (status : ℕ) → geometry_of run.cache ≡ g → HasEnd g run.file.now file list run.harts run.memory run.steps moments v w
+    → AllReadable (setting_of v) (addresses run.words.items) → ((f : Flat) → Belongs g f (shown g.sets w) → IsStatusOf f status) → HasReport run file list g w (addresses run.words.items) status moments
+of_end run file list g moments v w status caches e readable given =
     let words : List ℕ = addresses run.words.items in
     let end_readable : AllReadable e.end.setting words = readable-stays (setting_of v) e.end.setting words e.same readable in
-    let comes = with_caches run file list g run.steps entries e.end caches e.comes in
+    let comes = with_caches run file list g run.steps moments e.end caches e.comes in
     let is : IsReport e.end run.words.items (report_of e.end words) status = record { readable = end_readable; text = refl; status = given e.end e.belongs } in
     record {
       end = e.end;
@@ -78,7 +78,7 @@ of_end run file list g entries v w status caches e readable given =
     }
 
 -- the same of what the program's parts answered
-pub made_report : (run : Run) (file list : List ℕ) (choices followed : List Choice) (g : Geometry) (v w : State) (status : ℕ) (addrs words : List ℕ) (entries : List Entry) → followed ≡ choices → words ≡ addrs → geometry_of run.cache ≡ g
-    → IsBegunBy g run file list v addrs choices → PlaysWith g followed run.steps v entries w → ((f : Flat) → Belongs g f (shown g.sets w) → IsStatusOf f status) → HasReport run file list g w words status entries
-made_report run file list choices followed g v w status addrs words entries same as_given caches begun plays given =
-    rw (as_given ∙ begun.same) (of_end run file list g entries v w status caches (begun_end run file list choices followed g run.steps entries v w addrs same begun plays) begun.readable given)
+pub made_report : (run : Run) (file list : List ℕ) (choices followed : List Choice) (g : Geometry) (v w : State) (status : ℕ) (addrs words : List ℕ) (moments : List Moment) → followed ≡ choices → words ≡ addrs → geometry_of run.cache ≡ g
+    → IsBegunBy g run file list v addrs choices → PlaysWith g followed run.steps v moments w → ((f : Flat) → Belongs g f (shown g.sets w) → IsStatusOf f status) → HasReport run file list g w words status moments
+made_report run file list choices followed g v w status addrs words moments same as_given caches begun plays given =
+    rw (as_given ∙ begun.same) (of_end run file list g moments v w status caches (begun_end run file list choices followed g run.steps moments v w addrs same begun plays) begun.readable given)

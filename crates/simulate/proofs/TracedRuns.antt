@@ -1,11 +1,11 @@
 -- A run with a trace, from what its parts came to.
 use Rattle.std.proofs.Common.{◌≡◌, ◌≢◌, ◌≤◌, ◌+◌, ◌++◌, ℕ, List, [], Option, Result, Ok, Err, inl, inr, refl, arith, append-nil}
-use Rattle.words.specs.declared.entry.Entry.{Entry}
 use Rattle.words.specs.declared.sink.SinkFault.{SinkFault}
 use Rattle.protocol.specs.Caches.{Geometry}
 use Rattle.machine.specs.States.{State}
 use Rattle.command_line.specs.declared.request.Run.{Run}
 use Rattle.schedule.specs.declared.choices.Choice.{Choice}
+use Rattle.watch.specs.Moments.{Moment}
 use Rattle.watch.specs.Watched.{PlaysWith}
 use Rattle.watch.specs.declared.halt.Halt.{Halt}
 use Rattle.watch.specs.declared.halt.Halt.TheVariants as halt
@@ -43,35 +43,35 @@ written a b c fa fb fc text r took flushed = puts-same (append-nil text) (puts-b
 
 module _ (g : Geometry) (choices : List Choice) (n : ℕ) (v w : State) (a b c : Option (List ℕ)) (fa fb fc : ℕ) where
   pub flushed : IsTraced g choices n v w a b fa fb → Puts b c fb fc [] (Ok tt) → IsTraced g choices n v w a c fa fc
-  flushed (es, plays, took) out = let puts = written a b c fa fb fc (trace_of es) (Ok tt) took out in (es, plays, (puts.whole, puts.clean))
+  flushed (ms, plays, took) out = let puts = written a b c fa fb fc (trace_of ms) (Ok tt) took out in (ms, plays, (puts.whole, puts.clean))
 
   pub unflushed : (e : SinkFault) → IsTraced g choices n v w a b fa fb → Puts b c fb fc [] (Err e)
-      → (m : ℕ) × (m ≤ n) × ((es : List Entry) × PlaysWith g choices m v es w × TookPart a c fa fc (trace_of es))
-  unflushed e (es, plays, took) out =
-      let puts = written a b c fa fb fc (trace_of es) (Err e) took out in
+      → (m : ℕ) × (m ≤ n) × ((ms : List Moment) × PlaysWith g choices m v ms w × TookPart a c fa fc (trace_of ms))
+  unflushed e (ms, plays, took) out =
+      let puts = written a b c fa fb fc (trace_of ms) (Err e) took out in
       let all : n ≤ n = omega arith in
-      (n, all, (es, plays, took_part a c fa fc (trace_of es) e puts))
+      (n, all, (ms, plays, took_part a c fa fc (trace_of ms) e puts))
 
 pub unput : (g : Geometry) (choices : List Choice) (n : ℕ) (v w : State) (a b : Option (List ℕ)) (fa fb : ℕ) → IsCut g choices n v w a b fa fb halt.Untold
-    → (m : ℕ) × (m ≤ n) × ((es : List Entry) × PlaysWith g choices m v es w × TookPart a b fa fb (trace_of es))
-unput g choices n v w a b fa fb (m, less, es, plays, took) =
+    → (m : ℕ) × (m ≤ n) × ((ms : List Moment) × PlaysWith g choices m v ms w × TookPart a b fa fb (trace_of ms))
+unput g choices n v w a b fa fb (m, less, ms, plays, took) =
     let within : m + 1 ≤ n = omega (arith, less) in
-    (m + 1, within, (es, plays, record { part = took.0; fault = took.1 }))
+    (m + 1, within, (ms, plays, record { part = took.0; fault = took.1 }))
 
 -- ---- the run that was traced
 
 module _ (run : Run) (file list : List ℕ) (g : Geometry) (v w : State) (addrs : List ℕ) (choices followed : List Choice) (caches : geometry_of run.cache ≡ g) (same : followed ≡ choices)
     (begun : IsBegunBy g run file list v addrs choices) where
-  part_of : (m : ℕ) (es : List Entry) → PlaysWith g followed m v es w → IsTraceOf run file list m (trace_of es)
-  part_of m es plays =
-      let e : HasEnd g run.file.now file list run.harts run.memory m es v w = begun_end run file list choices followed g m es v w addrs same begun plays in
-      (es, e.end, with_caches run file list g m es e.end caches e.comes, refl)
+  part_of : (m : ℕ) (ms : List Moment) → PlaysWith g followed m v ms w → IsTraceOf run file list m (trace_of ms)
+  part_of m ms plays =
+      let e : HasEnd g run.file.now file list run.harts run.memory m ms v w = begun_end run file list choices followed g m ms v w addrs same begun plays in
+      (ms, e.end, with_caches run file list g m ms e.end caches e.comes, refl)
 
   -- the trace was not put whole
   pub lost_apart : (path : List ℕ) (a b o : Option (List ℕ)) (fa fb fo : ℕ) (e : Fault) → IsPutFault g followed run.steps path v w a b fa fb e → IsApartFault run file list path a b fa fb o o fo fo e
-  lost_apart path a b o fa fb fo (Unmade at) (is, (m, within, (es, plays, took))) = (is, (m, within, (trace_of es, part_of m es plays, took)), untouched o fo)
-  lost_apart path a b o fa fb fo NoMemory (m, less, (es, plays, took)) =
-      (inr (m, less, (trace_of es, part_of m es plays, record { whole = took.0; clean = took.1 })), untouched o fo)
+  lost_apart path a b o fa fb fo (Unmade at) (is, (m, within, (ms, plays, took))) = (is, (m, within, (trace_of ms, part_of m ms plays, took)), untouched o fo)
+  lost_apart path a b o fa fb fo NoMemory (m, less, (ms, plays, took)) =
+      (inr (m, less, (trace_of ms, part_of m ms plays, record { whole = took.0; clean = took.1 })), untouched o fo)
   lost_apart path a b o fa fb fo NotText h = absurd h
   lost_apart path a b o fa fb fo (Refused text) h = absurd h
   lost_apart path a b o fa fb fo (Value text) h = absurd h
@@ -87,7 +87,7 @@ module _ (run : Run) (file list : List ℕ) (g : Geometry) (v w : State) (addrs 
   lost_apart path a b o fa fb fo Unwritten h = absurd h
 
   pub lost_before : (a b : Option (List ℕ)) (fa fb : ℕ) (h : Halt) → IsCut g followed run.steps v w a b fa fb h → IsBeforeFault run file list a b fa fb (of_halt h)
-  lost_before a b fa fb halt.NoMemory (m, less, (es, plays, took)) = inr (m, less, (trace_of es, part_of m es plays, record { whole = took.0; clean = took.1 }))
+  lost_before a b fa fb halt.NoMemory (m, less, (ms, plays, took)) = inr (m, less, (trace_of ms, part_of m ms plays, record { whole = took.0; clean = took.1 }))
   lost_before a b fa fb halt.Untold cut =
       let c = unput g followed run.steps v w a b fa fb cut in
       inl (c.0, c.1, (trace_of c.2.0, part_of c.0 c.2.0 c.2.1, c.2.2))
@@ -130,24 +130,24 @@ module _ (run : Run) (file list : List ℕ) where
 
 -- ---- the report behind the trace
 
-module _ (run : Run) (file list : List ℕ) (g : Geometry) (w : State) (words : List ℕ) (status : ℕ) (es : List Entry) (has : HasReport run file list g w words status es) where
-  report : IsTracedReport run file list (trace_of es) (report_of has.end words) status
-  report = (es, has.end, has.comes, refl, has.is)
+module _ (run : Run) (file list : List ℕ) (g : Geometry) (w : State) (words : List ℕ) (status : ℕ) (ms : List Moment) (has : HasReport run file list g w words status ms) where
+  report : IsTracedReport run file list (trace_of ms) (report_of has.end words) status
+  report = (ms, has.end, has.comes, refl, has.is)
 
-  pub given_apart : (path : List ℕ) (a b o p : Option (List ℕ)) (fa fb fo fp : ℕ) → Took a b fa fb (trace_of es) → Puts o p fo fp (report_of has.end words) (Ok tt)
+  pub given_apart : (path : List ℕ) (a b o p : Option (List ℕ)) (fa fb fo fp : ℕ) → Took a b fa fb (trace_of ms) → Puts o p fo fp (report_of has.end words) (Ok tt)
       → IsGivenApart run file list path a b fa fb o p fo fp status
   given_apart path a b o p fa fb fo fp took puts =
-      (trace_of es, report_of has.end words, report, took_all a b fa fb (trace_of es) (took_puts a b fa fb (trace_of es) took), took_all o p fo fp (report_of has.end words) puts)
+      (trace_of ms, report_of has.end words, report, took_all a b fa fb (trace_of ms) (took_puts a b fa fb (trace_of ms) took), took_all o p fo fp (report_of has.end words) puts)
 
-  pub cut_apart : (path : List ℕ) (a b o p : Option (List ℕ)) (fa fb fo fp : ℕ) (e : SinkFault) → Took a b fa fb (trace_of es) → Puts o p fo fp (report_of has.end words) (Err e)
+  pub cut_apart : (path : List ℕ) (a b o p : Option (List ℕ)) (fa fb fo fp : ℕ) (e : SinkFault) → Took a b fa fb (trace_of ms) → Puts o p fo fp (report_of has.end words) (Err e)
       → IsApartFault run file list path a b fa fb o p fo fp Unwritten
   cut_apart path a b o p fa fb fo fp e took puts =
-      (trace_of es, report_of has.end words, status, report, took_all a b fa fb (trace_of es) (took_puts a b fa fb (trace_of es) took), took_part o p fo fp (report_of has.end words) e puts)
+      (trace_of ms, report_of has.end words, status, report, took_all a b fa fb (trace_of ms) (took_puts a b fa fb (trace_of ms) took), took_part o p fo fp (report_of has.end words) e puts)
 
-  pub given_before : (a b c : Option (List ℕ)) (fa fb fc : ℕ) → Took a b fa fb (trace_of es) → Puts b c fb fc (report_of has.end words) (Ok tt) → IsGivenBefore run file list a c fa fc status
+  pub given_before : (a b c : Option (List ℕ)) (fa fb fc : ℕ) → Took a b fa fb (trace_of ms) → Puts b c fb fc (report_of has.end words) (Ok tt) → IsGivenBefore run file list a c fa fc status
   given_before a b c fa fb fc took puts =
-      (trace_of es, report_of has.end words, report, took_all a c fa fc (trace_of es ++ report_of has.end words) (puts-both (took_puts a b fa fb (trace_of es) took) puts))
+      (trace_of ms, report_of has.end words, report, took_all a c fa fc (trace_of ms ++ report_of has.end words) (puts-both (took_puts a b fa fb (trace_of ms) took) puts))
 
-  pub cut_before : (a b c : Option (List ℕ)) (fa fb fc : ℕ) (e : SinkFault) → Took a b fa fb (trace_of es) → Puts b c fb fc (report_of has.end words) (Err e) → IsBeforeFault run file list a c fa fc Unwritten
+  pub cut_before : (a b c : Option (List ℕ)) (fa fb fc : ℕ) (e : SinkFault) → Took a b fa fb (trace_of ms) → Puts b c fb fc (report_of has.end words) (Err e) → IsBeforeFault run file list a c fa fc Unwritten
   cut_before a b c fa fb fc e took puts =
-      inr (trace_of es, report_of has.end words, status, report, took_part a c fa fc (trace_of es ++ report_of has.end words) e (puts-both (took_puts a b fa fb (trace_of es) took) puts))
+      inr (trace_of ms, report_of has.end words, status, report, took_part a c fa fc (trace_of ms ++ report_of has.end words) e (puts-both (took_puts a b fa fb (trace_of ms) took) puts))

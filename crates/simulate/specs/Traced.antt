@@ -1,11 +1,11 @@
 -- A run with a trace: what the sinks took.
 use Rattle.std.specs.Prelude.{ℕ, ◌≡◌, ◌<◌, ◌≤◌, ◌⊎◌, ◌++◌, List, Option}
-use Rattle.words.specs.declared.entry.Entry.{Entry}
 use Rattle.flat.specs.State.{Flat}
 use Rattle.command_line.specs.declared.request.Run.{Run}
 use Rattle.protocol.specs.Caches.{Geometry}
 use Rattle.machine.specs.States.{State}
 use Rattle.schedule.specs.declared.choices.Choice.{Choice}
+use Rattle.watch.specs.Moments.{Moment}
 use Rattle.watch.specs.Watched.{PlaysWith}
 use Rattle.recorder.specs.Traces.{trace_of, IsTraced}
 use Rattle.simulate.specs.Faults.{fault_status, fault_text}
@@ -19,18 +19,18 @@ use Rattle.simulate.specs.declared.fault.Fault.TheVariants.{Unmade, Unwritten, N
 -- the trace has the lines of the entries of so many of the run's steps, all of them and in order
 abbrev pub IsTraceOf : Run → List ℕ → List ℕ → ℕ → List ℕ → Type 0
 IsTraceOf run file list steps trace =
-    (entries : List Entry) × (f : Flat) × ComesBy run.file.now file list (geometry_of run.cache) run.harts run.memory steps entries f × (trace ≡ trace_of entries)
+    (moments : List Moment) × (f : Flat) × ComesBy run.file.now file list (geometry_of run.cache) run.harts run.memory steps moments f × (trace ≡ trace_of moments)
 
 -- the trace has those of all its steps; the text is the report on the state that these very entries lead to, and the status goes with it
 abbrev pub IsTracedReport : Run → List ℕ → List ℕ → List ℕ → List ℕ → ℕ → Type 0
 IsTracedReport run file list trace text status =
-    (entries : List Entry) × (f : Flat) × ComesBy run.file.now file list (geometry_of run.cache) run.harts run.memory run.steps entries f
-    × (trace ≡ trace_of entries) × IsReport f run.words.items text status
+    (moments : List Moment) × (f : Flat) × ComesBy run.file.now file list (geometry_of run.cache) run.harts run.memory run.steps moments f
+    × (trace ≡ trace_of moments) × IsReport f run.words.items text status
 
 -- why not all lines of so many steps were put and written out: memory ran out, and those of fewer steps were put; or putting failed, which is told by the trace's path
 abbrev pub IsPutFault : Geometry → List Choice → ℕ → List ℕ → State → State → Option (List ℕ) → Option (List ℕ) → ℕ → ℕ → Fault → Type 0
 IsPutFault g choices n path v w before after failed_before failed_after (Unmade at) = (at.now ≡ path)
-    × ((m : ℕ) × (m ≤ n) × ((entries : List Entry) × PlaysWith g choices m v entries w × TookPart before after failed_before failed_after (trace_of entries)))
+    × ((m : ℕ) × (m ≤ n) × ((moments : List Moment) × PlaysWith g choices m v moments w × TookPart before after failed_before failed_after (trace_of moments)))
 IsPutFault g choices n path v w before after failed_before failed_after NoMemory = (m : ℕ) × (m < n) × IsTraced g choices m v w before after failed_before failed_after
 IsPutFault g choices n path v w before after failed_before failed_after other = ⊥
 

@@ -4,30 +4,32 @@ ghost use Rattle.words.specs.Limits.{most_harts};
 ghost use Rattle.machine.specs.States.{geometry};
 ghost use Rattle.texts.specs.Puts.{Puts};
 ghost use Rattle.tally.specs.Kinds.{count_at};
-ghost use Rattle.simulate.specs.Counted.{counts_part, IsCountedIn};
+ghost use Rattle.tally.specs.Traffic.{figure_at};
+ghost use Rattle.command_line.specs.declared.request.Stats.TheVariants.{Table, Csv};
+ghost use Rattle.simulate.specs.Counted.{counts_part, counts_text, IsCountedIn};
 
 use command_line::Stats;
-use count_texts::{put_csv, put_table};
+use count_texts::{put_csv, put_machine_csv, put_machine_table, put_table};
 use machine::Machine;
 use schedule::{Choice, follow};
 use std::alloc::AllocError;
-use tally::{Counts, tally_run};
+use tally::{Tally, tally_run};
 use words::{Sink, SinkFault};
 
-/// Makes the steps of a run, and counts their entries if a form is asked for. It fails only if memory runs out.
+/// Makes the steps of a run, and counts what they do if a form is asked for. It fails only if memory runs out.
 pub(crate) fn play<const SETS: usize, const WAYS: usize>(
     machine: &mut Machine<SETS, WAYS>,
     choices: &[Choice],
     steps: u32,
     stats: Option<Stats>,
-) -> Result<Counts, AllocError>
+) -> Result<Tally, AllocError>
     ensures { IfOk result (IsCountedIn stats (geometry SETS WAYS) choices.now steps machine.old machine.new) }
 {
     match stats {
         Some(_) => tally_run(machine, choices, steps),
         None => {
             follow(machine, choices, steps)?;
-            Ok(Counts::new())
+            Ok(Tally::new())
         }
     }
 }
@@ -35,16 +37,49 @@ pub(crate) fn play<const SETS: usize, const WAYS: usize>(
 /// Puts the counts in the form that is asked for, if one is.
 pub(crate) fn put_counts<S: Sink>(
     stats: Option<Stats>,
-    counts: &Counts,
+    tally: &Tally,
     harts: usize,
     sink: &mut S,
 ) -> Result<(), SinkFault>
     requires { harts ≤ most_harts }
-    ensures { Puts (S.taken sink.old) (S.taken sink.new) (S.failed sink.old) (S.failed sink.new) (counts_part stats (count_at counts.now) harts) result }
+    ensures { Puts (S.taken sink.old) (S.taken sink.new) (S.failed sink.old) (S.failed sink.new) (counts_part stats tally.now harts) result }
 {
     match stats {
-        Some(Stats::Table) => put_table(counts, harts, sink),
-        Some(Stats::Csv) => put_csv(counts, harts, sink),
+        Some(form) => put_form(form, tally, harts, sink),
         None => Ok(()),
     }
+}
+
+/// Puts the counts in a form.
+fn put_form<S: Sink>(
+    form: Stats,
+    tally: &Tally,
+    harts: usize,
+    sink: &mut S,
+) -> Result<(), SinkFault>
+    requires { harts ≤ most_harts }
+    ensures { Puts (S.taken sink.old) (S.taken sink.new) (S.failed sink.old) (S.failed sink.new) (counts_text form (count_at tally.now.harts) harts (figure_at tally.now.machine)) result }
+{
+    match form {
+        Stats::Table => put_tables(tally, harts, sink),
+        Stats::Csv => put_lines(tally, harts, sink),
+    }
+}
+
+/// Puts the table of the harts, and behind it that of the machine.
+fn put_tables<S: Sink>(tally: &Tally, harts: usize, sink: &mut S) -> Result<(), SinkFault>
+    requires { harts ≤ most_harts }
+    ensures { Puts (S.taken sink.old) (S.taken sink.new) (S.failed sink.old) (S.failed sink.new) (counts_text Table (count_at tally.now.harts) harts (figure_at tally.now.machine)) result }
+{
+    put_table(&tally.harts, harts, sink)?;
+    put_machine_table(&tally.machine, sink)
+}
+
+/// The same as lines for scripts.
+fn put_lines<S: Sink>(tally: &Tally, harts: usize, sink: &mut S) -> Result<(), SinkFault>
+    requires { harts ≤ most_harts }
+    ensures { Puts (S.taken sink.old) (S.taken sink.new) (S.failed sink.old) (S.failed sink.new) (counts_text Csv (count_at tally.now.harts) harts (figure_at tally.now.machine)) result }
+{
+    put_csv(&tally.harts, harts, sink)?;
+    put_machine_csv(&tally.machine, sink)
 }

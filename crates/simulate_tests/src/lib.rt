@@ -1,4 +1,4 @@
-//! Command lines, and programs that are run, traced, listed and assembled, with the texts and statuses that they have to give.
+//! Programs that are run, traced, counted, played by hand, listed and assembled, with the texts and statuses that they have to give.
 #![tactic(auto)]
 
 #[cfg(test)]

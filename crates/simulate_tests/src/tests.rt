@@ -1,5 +1,5 @@
-mod command_lines;
 mod counting;
+mod debugging;
 mod memory;
 mod running;
 mod schedules;

@@ -1,4 +1,6 @@
 mod Adding
+mod Capping
 mod Few
+mod Sending
 mod Tallying
 mod Zeros

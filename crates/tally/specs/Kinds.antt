@@ -1,10 +1,11 @@
 -- What entries count as.
-use Rattle.std.specs.Prelude.{ℕ, ◌+◌, ◌*◌, ◌==◌, ◌&&◌, Bool, true, false, List, [], ◌∷◌, Option, Some, get_or}
+use Rattle.std.specs.Prelude.{ℕ, ◌+◌, ◌*◌, ◌==◌, ◌&&◌, Bool, true, false, List, [], ◌∷◌, Option, Some, None, get_or}
 use Rattle.std.specs.List.{flat_map}
 use Rattle.words.specs.declared.cause.AbortCause.{AbortCause}
 use Rattle.words.specs.declared.cause.AbortCause.TheVariants as abort
 use Rattle.words.specs.declared.entry.Entry.{Entry}
 use Rattle.words.specs.declared.entry.Entry.TheVariants.{Retire, Abort, Trap, Refuse, Spill}
+use Rattle.watch.specs.Moments.{Moment}
 use Rattle.table.specs.declared.instr.Instr.{Instr}
 use Rattle.table.specs.declared.instr.Instr.TheVariants.{TBegin, TCommit}
 use Rattle.table.specs.Table.{decoded}
@@ -58,9 +59,14 @@ abbrev pub number_in : ℕ → Kind → List (ℕ × Kind) → ℕ
 number_in h k [] = 0
 number_in h k (x ∷ xs) = one_if (is_count h k x) + number_in h k xs
 
--- the number of the entries that count for hart h as this kind
-abbrev pub number_of : ℕ → Kind → List Entry → ℕ
-number_of h k entries = number_in h k (flat_map counts_as entries)
+-- what a moment's entry counts as, if it gave one
+abbrev pub counts_if : Option Entry → List (ℕ × Kind)
+counts_if None = []
+counts_if (Some e) = counts_as e
+
+-- the number of the entries of some moments that count for hart h as this kind
+abbrev pub number_of : ℕ → Kind → List Moment → ℕ
+number_of h k ms = number_in h k (flat_map (λ m. counts_if m.entry) ms)
 
 -- the place of a count, ten a hart
 abbrev pub place_of : ℕ → Kind → ℕ

@@ -1,1 +1,2 @@
+pub mod Moments
 mod Watching

@@ -3,7 +3,7 @@ ghost use Rattle.words.specs.declared.entry.Step.{Step as StepValue};
 ghost use Rattle.machine.specs.States.{geometry};
 ghost use Rattle.schedule.specs.Follows.{last_after};
 ghost use Rattle.schedule.specs.Steps.{IsStepOf};
-ghost use Rattle.watch.specs.Watched.{MakesWatched, StopsAt, IsWatched, IsHalted};
+ghost use Rattle.watch.specs.Watched.{by_parts, MakesWatched, StopsAt, IsWatched, IsHalted};
 
 use crate::halt::Halt;
 use crate::watcher::Watcher;
@@ -11,24 +11,23 @@ use machine::{Machine, hart_after};
 use schedule::Choice;
 use words::{HartId, Step};
 
-/// Makes a step, and has a watcher note its entry, if it gives one.
-fn show<const SETS: usize, const WAYS: usize, L, W: Watcher<L>>(
+/// Makes a step, and has a watcher note what it did.
+fn show<const SETS: usize, const WAYS: usize, L, W: Watcher<Machine<SETS, WAYS>, L>>(
     machine: &mut Machine<SETS, WAYS>,
     step: Step,
     watcher: &W,
     log: &mut L,
 ) -> Result<(), Halt>
-    ensures { MatchResult result (λ _. MakesWatched (W.notes watcher.now) (geometry SETS WAYS) machine.old (Some step) machine.new log.old log.new)
-        (StopsAt (W.misses watcher.now) (geometry SETS WAYS) machine.old (Some step) machine.new log.old log.new) }
+    ensures { MatchResult result (λ _. MakesWatched (by_parts (W.notes watcher.now)) (geometry SETS WAYS) machine.old (Some step) machine.new log.old log.new)
+        (StopsAt (by_parts (W.misses watcher.now)) (geometry SETS WAYS) machine.old (Some step) machine.new log.old log.new) }
 {
-    if let Some(entry) = machine.step(step)? {
-        watcher.note(&entry, log)?;
-    }
-    Ok(())
+    let sent = machine.sent();
+    let entry = machine.step(step)?;
+    Ok(watcher.note(sent, &step, &entry, machine, log)?)
 }
 
 /// The same of the step that is chosen, where the last core step was a hart's. It answers whose the last core step was then.
-fn choose<const SETS: usize, const WAYS: usize, L, W: Watcher<L>>(
+fn choose<const SETS: usize, const WAYS: usize, L, W: Watcher<Machine<SETS, WAYS>, L>>(
     machine: &mut Machine<SETS, WAYS>,
     choice: &Choice,
     last: HartId,
@@ -37,9 +36,9 @@ fn choose<const SETS: usize, const WAYS: usize, L, W: Watcher<L>>(
 ) -> Result<HartId, Halt>
     ensures { MatchResult result
         (λ hart. (step : Option StepValue) × IsStepOf SETS machine.old last choice.now step
-        × MakesWatched (W.notes watcher.now) (geometry SETS WAYS) machine.old step machine.new log.old log.new × (hart ≡ last_after step last))
+        × MakesWatched (by_parts (W.notes watcher.now)) (geometry SETS WAYS) machine.old step machine.new log.old log.new × (hart ≡ last_after step last))
         (λ halt. (step : Option StepValue) × IsStepOf SETS machine.old last choice.now step
-        × StopsAt (W.misses watcher.now) (geometry SETS WAYS) machine.old step machine.new log.old log.new halt) }
+        × StopsAt (by_parts (W.misses watcher.now)) (geometry SETS WAYS) machine.old step machine.new log.old log.new halt) }
 {
     let Some(step) = choice.step(machine, last) else {
         return Ok(last);
@@ -48,19 +47,19 @@ fn choose<const SETS: usize, const WAYS: usize, L, W: Watcher<L>>(
     Ok(hart_after(&step, last))
 }
 
-/// The choices in order, so many at most, and turns behind the last of them, as [`schedule::follow`] makes them; and each step's entry, if it
-/// gives one, is noted by a watcher before the next step.
+/// The choices in order, so many at most, and turns behind the last of them, as [`schedule::follow`] makes them; and what each step did is
+/// noted by a watcher before the next step.
 ///
-/// If memory runs out, the machine and the log are left where the steps before led. If the watcher fails at an entry, its step was made.
-pub fn follow_watched<const SETS: usize, const WAYS: usize, L, W: Watcher<L>>(
+/// If memory runs out, the machine and the log are left where the steps before led. If the watcher fails at a moment, its step was made.
+pub fn follow_watched<const SETS: usize, const WAYS: usize, L, W: Watcher<Machine<SETS, WAYS>, L>>(
     machine: &mut Machine<SETS, WAYS>,
     choices: &[Choice],
     steps: u32,
     watcher: &W,
     log: &mut L,
 ) -> Result<(), Halt>
-    ensures { MatchResult result (λ _. IsWatched (W.notes watcher.now) (geometry SETS WAYS) choices.now steps machine.old machine.new log.old log.new)
-        (IsHalted (W.notes watcher.now) (W.misses watcher.now) (geometry SETS WAYS) choices.now steps machine.old machine.new log.old log.new) }
+    ensures { MatchResult result (λ _. IsWatched (by_parts (W.notes watcher.now)) (geometry SETS WAYS) choices.now steps machine.old machine.new log.old log.new)
+        (IsHalted (by_parts (W.notes watcher.now)) (by_parts (W.misses watcher.now)) (geometry SETS WAYS) choices.now steps machine.old machine.new log.old log.new) }
 {
     let mut last = machine.last_hart();
     let mut left = steps;

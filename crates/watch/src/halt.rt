@@ -8,7 +8,7 @@ use std::alloc::AllocError;
 #[derive(Clone, Copy, Debug, PartialEq, Eq)]
 pub enum Halt {
     NoMemory,
-    /// The watcher failed at an entry.
+    /// The watcher failed at a moment.
     Untold,
 }
 

@@ -1,41 +1,65 @@
 //! What programs of a few words count as.
 use super::booted::booted;
 use elf_samples::{ABORTS, COMMITS};
+use schedule::Sort;
 use std::alloc::Global;
 use std::process::Abort;
 use std::test::Fail;
-use tally::{Counts, Kind, count_run};
+use tally::{Figure, Kind, Sum, Tally, tally_run};
 use words::HartId;
 
-fn counted(alloc: Global, text: &[u32]) -> Result<Counts, Fail> {
-    let mut machine = booted(alloc, text, 2)?;
-    let mut counts = Counts::new();
-    count_run(&mut machine, &[], 1000, &mut counts)?;
-    Ok(counts)
+fn counted(alloc: Global, text: &[u32], harts: u32) -> Result<Tally, Fail> {
+    let mut machine = booted(alloc, text, harts)?;
+    Ok(tally_run(&mut machine, &[], 1000)?)
 }
 
 /// That each of the two harts has this count.
-fn check_both(rt: &impl Abort, counts: &Counts, kind: Kind, want: u64) {
+fn check_both(rt: &impl Abort, tally: &Tally, kind: Kind, want: u64) {
     for hart in [HartId::new(0), HartId::new(1)] {
-        assert_eq!(rt; counts.count(hart, kind), want);
+        assert_eq!(rt; tally.harts.count(hart, kind), want);
     }
 }
 
 #[test]
 fn a_commit_is_counted(rt: HostRuntime) -> Result<(), Fail> {
-    let counts = counted(rt.alloc(), &COMMITS)?;
-    check_both(&rt, &counts, Kind::Committed, 1);
-    check_both(&rt, &counts, Kind::Asked, 0);
-    check_both(&rt, &counts, Kind::Spilled, 0);
-    let given = counts.count(HartId::new(0), Kind::Refused);
-    assert_eq!(rt; counts.count(HartId::new(1), Kind::WasRefused), given);
+    let tally = counted(rt.alloc(), &COMMITS, 2)?;
+    check_both(&rt, &tally, Kind::Committed, 1);
+    check_both(&rt, &tally, Kind::Asked, 0);
+    check_both(&rt, &tally, Kind::Spilled, 0);
+    let given = tally.harts.count(HartId::new(0), Kind::Refused);
+    assert_eq!(rt; tally.harts.count(HartId::new(1), Kind::WasRefused), given);
     Ok(())
 }
 
 #[test]
 fn an_abort_is_counted_by_its_cause(rt: HostRuntime) -> Result<(), Fail> {
-    let counts = counted(rt.alloc(), &ABORTS)?;
-    check_both(&rt, &counts, Kind::Asked, 1);
-    check_both(&rt, &counts, Kind::Committed, 0);
+    let tally = counted(rt.alloc(), &ABORTS, 2)?;
+    check_both(&rt, &tally, Kind::Asked, 1);
+    check_both(&rt, &tally, Kind::Committed, 0);
+    Ok(())
+}
+
+#[test]
+fn the_machine_is_counted(rt: HostRuntime) -> Result<(), Fail> {
+    // One store misses: its hart asks, and goes on once the block is granted.
+    let told = counted(rt.alloc(), &COMMITS, 1)?.machine;
+    let wanted = [
+        (Sum::Cores, 9),
+        (Sum::Evictions, 0),
+        (Sum::Deliveries, 3),
+        (Sum::Sent(Sort::Get), 1),
+        (Sum::Sent(Sort::Put), 0),
+        (Sum::Sent(Sort::Done), 1),
+        (Sum::Sent(Sort::Grant), 1),
+        (Sum::Sent(Sort::Forward), 0),
+        (Sum::Sent(Sort::PutAck), 0),
+        (Sum::Sent(Sort::Ack), 0),
+        (Sum::Sent(Sort::Nack), 0),
+    ];
+    for (sum, count) in wanted {
+        assert_eq!(rt; told.figure(Figure::Sum(sum)), count);
+    }
+    assert_eq!(rt; told.figure(Figure::MostInFlight), 1);
+    assert_eq!(rt; told.figure(Figure::MostInUse), 1);
     Ok(())
 }

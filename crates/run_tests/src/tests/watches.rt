@@ -7,7 +7,7 @@ use schedule::Choice;
 use std::alloc::Global;
 use std::test::Fail;
 use watch::{Halt, WatchFault, Watcher, follow_watched};
-use words::{Addr, Entry, HartId};
+use words::{Addr, Entry, HartId, Step};
 
 /// The words that were retired, while there is room for them.
 #[derive(Drop)]
@@ -18,12 +18,22 @@ struct Words {
 
 struct Collector;
 
-impl Watcher<Words> for Collector {
-    ghost notes = { λ _ _ _ _. ⊤ };
+impl<M> Watcher<M, Words> for Collector {
+    ghost notes = { λ _ _ _ _ _ _ _. ⊤ };
 
-    ghost misses = { λ _ _ _ _. ⊤ };
+    ghost misses = { λ _ _ _ _ _ _ _. ⊤ };
 
-    fn note(&self, entry: &Entry, log: &mut Words) -> Result<(), WatchFault> {
+    fn note(
+        &self,
+        _sent: u64,
+        _step: &Step,
+        entry: &Option<Entry>,
+        _machine: &M,
+        log: &mut Words,
+    ) -> Result<(), WatchFault> {
+        let Some(entry) = entry else {
+            return Ok(());
+        };
         if log.retired.len() == log.most {
             return Err(WatchFault);
         }

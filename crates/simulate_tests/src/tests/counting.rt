@@ -30,16 +30,42 @@ const TABLE: &str = "                      hart 0     hart 1\n\
     was-refused                3          1\n\
     spilled                    0          0\n";
 
+// 168 words were retired, 12 requests sent, one record undone and one abort ended. Each request is a Get, a Grant and a Done, and each of the 10
+// Forwards has its answer: 4 were refused. (A script that reads a debugger's session counts the same messages, turn by turn.)
+const MACHINE_TABLE: &str = "                     machine\n\
+    core-steps               182\n\
+    evict-steps                0\n\
+    deliver-steps             56\n\
+    get                       12\n\
+    put                        0\n\
+    done                      12\n\
+    grant                     12\n\
+    forward                   10\n\
+    putack                     0\n\
+    ack                        6\n\
+    nack                       4\n\
+    most-in-flight             2\n\
+    most-entries               2\n";
+
 const LINES: &str = "hart,what,count\n\
     0,retired,17\n0,begun,1\n0,committed,1\n0,aborted-asked,0\n0,aborted-conflict,0\n0,aborted-logfull,0\n0,aborted-trap,0\n\
     0,refused,1\n0,was-refused,3\n0,spilled,0\n\
     1,retired,151\n1,begun,2\n1,committed,1\n1,aborted-asked,0\n1,aborted-conflict,1\n1,aborted-logfull,0\n1,aborted-trap,0\n\
     1,refused,3\n1,was-refused,1\n1,spilled,0\n";
 
+const MACHINE_LINES: &str =
+    "machine,core-steps,182\nmachine,evict-steps,0\nmachine,deliver-steps,56\n\
+    machine,get,12\nmachine,put,0\nmachine,done,12\nmachine,grant,12\n\
+    machine,forward,10\nmachine,putack,0\nmachine,ack,6\nmachine,nack,4\n\
+    machine,most-in-flight,2\nmachine,most-entries,2\n";
+
 #[test]
 fn counts_stand_behind_the_report(rt: HostRuntime) -> Result<(), Fail> {
     let words = ["logtm", "run", "f.s", "--harts", "2", "--stats", ""];
-    for (form, counts) in [("table", TABLE), ("csv", LINES)] {
+    for (form, counts, more) in [
+        ("table", TABLE, MACHINE_TABLE),
+        ("csv", LINES, MACHINE_LINES),
+    ] {
         let mut words = words;
         words[6] = form;
         let order = order_of(rt.alloc(), &words).ok_or("an order")?;
@@ -53,16 +79,18 @@ fn counts_stand_behind_the_report(rt: HostRuntime) -> Result<(), Fail> {
             &mut error,
         );
         assert_eq!(rt; (outcome.status, error.bytes.len()), (0, 0));
-        assert!(rt; out.bytes.as_slice().starts_with(REPORT.as_bytes()));
-        assert!(rt; out.bytes.as_slice().ends_with(counts.as_bytes()));
-        assert_eq!(rt; out.bytes.len(), REPORT.len() + counts.len());
+        let told = str::from_utf8(&out.bytes).ok().ok_or("a text")?;
+        let behind = told.strip_prefix(REPORT).ok_or("a report")?;
+        let machine = behind.strip_prefix(counts).ok_or("counts")?;
+        assert_eq!(rt; machine, more);
     }
     Ok(())
 }
 
 #[test]
 fn a_spill_and_an_abort_are_counted(rt: HostRuntime) -> Result<(), Fail> {
-    // A store spills the block of the one before it; a load that block; and undoing both spills each again.
+    // A store spills the block of the one before it; a load that block; and undoing both spills each again. Each of the five that miss is a step
+    // more, as is each spill; there are four steps of the abort. A request is a Get, a Grant and a Done.
     let source =
         b"li s1, 0x2000\nli t0, 7\ntbegin after\nsw t0, 0(s1)\nsw t0, 0x40(s1)\nlw a0, 0(s1)\ntabort\n\
         after: lw a0, 0(s1)\nli a7, 93\necall\n";
@@ -77,7 +105,11 @@ fn a_spill_and_an_abort_are_counted(rt: HostRuntime) -> Result<(), Fail> {
     ];
     let text = "hart 0: exit 0\nword 0x00002040 = 0x00000000\nhart,what,count\n\
         0,retired,9\n0,begun,1\n0,committed,0\n0,aborted-asked,1\n0,aborted-conflict,0\n0,aborted-logfull,0\n0,aborted-trap,0\n\
-        0,refused,0\n0,was-refused,0\n0,spilled,4\n";
+        0,refused,0\n0,was-refused,0\n0,spilled,4\n\
+        machine,core-steps,22\nmachine,evict-steps,0\nmachine,deliver-steps,23\n\
+        machine,get,5\nmachine,put,4\nmachine,done,5\nmachine,grant,5\n\
+        machine,forward,0\nmachine,putack,4\nmachine,ack,0\nmachine,nack,0\n\
+        machine,most-in-flight,1\nmachine,most-entries,2\n";
     check(&rt, &words, source, 0, text, "")
 }
 
@@ -87,7 +119,11 @@ fn counts_end_with_the_steps(rt: HostRuntime) -> Result<(), Fail> {
     let words = ["logtm", "run", "f", "--steps", "2", "--stats", "csv"];
     let text = "hart 0: running\nhart,what,count\n\
         0,retired,2\n0,begun,1\n0,committed,0\n0,aborted-asked,0\n0,aborted-conflict,0\n0,aborted-logfull,0\n0,aborted-trap,0\n\
-        0,refused,0\n0,was-refused,0\n0,spilled,0\n";
+        0,refused,0\n0,was-refused,0\n0,spilled,0\n\
+        machine,core-steps,2\nmachine,evict-steps,0\nmachine,deliver-steps,0\n\
+        machine,get,0\nmachine,put,0\nmachine,done,0\nmachine,grant,0\n\
+        machine,forward,0\nmachine,putack,0\nmachine,ack,0\nmachine,nack,0\n\
+        machine,most-in-flight,0\nmachine,most-entries,0\n";
     check(&rt, &words, &file, 5, text, "")?;
     // Chosen by hand, and one that isn't enabled.
     check_by(&rt, &words, &file, b"evict 0 0x2000\ncore 0\n", 5, TEXT, "")
@@ -96,7 +132,11 @@ fn counts_end_with_the_steps(rt: HostRuntime) -> Result<(), Fail> {
 // One word was retired, the begin.
 const TEXT: &str = "hart 0: running\nhart,what,count\n\
     0,retired,1\n0,begun,1\n0,committed,0\n0,aborted-asked,0\n0,aborted-conflict,0\n0,aborted-logfull,0\n0,aborted-trap,0\n\
-    0,refused,0\n0,was-refused,0\n0,spilled,0\n";
+    0,refused,0\n0,was-refused,0\n0,spilled,0\n\
+    machine,core-steps,1\nmachine,evict-steps,1\nmachine,deliver-steps,0\n\
+    machine,get,0\nmachine,put,0\nmachine,done,0\nmachine,grant,0\n\
+    machine,forward,0\nmachine,putack,0\nmachine,ack,0\nmachine,nack,0\n\
+    machine,most-in-flight,0\nmachine,most-entries,0\n";
 
 #[test]
 fn each_put_of_counts_is_refused(rt: HostRuntime) -> Result<(), Fail> {
@@ -106,7 +146,7 @@ fn each_put_of_counts_is_refused(rt: HostRuntime) -> Result<(), Fail> {
         let order = order_of(rt.alloc(), &words).ok_or("an order")?;
         let mut longest = 0;
         let mut whole = false;
-        for left in 0..72 {
+        for left in 0..150 {
             let mut out = blank(rt.alloc(), left);
             let mut error = taken(rt.alloc());
             let outcome = perform(rt.alloc(), &order, &file, &[], &mut out, &mut error);

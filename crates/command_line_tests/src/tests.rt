@@ -1,0 +1,468 @@
+//! What the words of a command line ask for, and how they are refused.
+use command_line::{Cache, Debug, Order, OrderFault, Request, Run, Target, number, parse};
+use simulate::Fault;
+use std::alloc::Global;
+use std::test::Fail;
+use words::Taken;
+
+#[test]
+fn reads_numbers(rt: HostRuntime) {
+    let cases = [
+        ("0", Some(0)),
+        ("0042", Some(42)),
+        ("4294967295", Some(4_294_967_295)),
+        ("4294967296", None),
+        ("0xdeadBEEF", Some(3_735_928_559)),
+        ("0x0000000010", Some(16)),
+        ("0x100000000", None),
+        ("", None),
+        ("0x", None),
+        ("0X10", None),
+        ("0x1g", None),
+        ("1a", None),
+        ("+1", None),
+        ("0x+1", None),
+        ("-1", None),
+        (" 1", None),
+        ("1 ", None),
+        ("1_000", None),
+        ("٣", None),
+    ];
+    for (text, value) in cases {
+        assert_eq!(rt; number(text), value, "at {text}");
+    }
+}
+
+// The run that the words ask for.
+fn run_of(
+    alloc: Global,
+    words: &'static [&'static str],
+) -> Result<Option<Run<'static>>, OrderFault<'static>> {
+    match parse(alloc, words)? {
+        Request::Order(Order::Run(run)) => Ok(Some(run)),
+        _ => Ok(None),
+    }
+}
+
+#[test]
+fn reads_a_run(rt: HostRuntime) -> Result<(), Fail> {
+    let run = run_of(rt.alloc(), &["logtm", "run", "first.elf"])?.ok_or("a run")?;
+    assert_eq!(rt; run.file, "first.elf");
+    assert_eq!(rt;
+        (run.harts, run.memory, run.steps),
+        (1, 1_048_576, 10_000_000)
+    );
+    assert_eq!(rt; run.cache, Cache::Normal);
+    assert_eq!(rt; run.words.len(), 0);
+    Ok(())
+}
+
+static LONG: [&str; 13] = [
+    "logtm",
+    "run",
+    "--harts",
+    "2",
+    "first.elf",
+    "--memory=0x20aBcD",
+    "--cache",
+    "small",
+    "0x2000",
+    "--steps",
+    "007",
+    "8196",
+    "0",
+];
+
+#[test]
+fn reads_options_and_words(rt: HostRuntime) -> Result<(), Fail> {
+    let run = run_of(rt.alloc(), LONG.as_slice())?.ok_or("a run")?;
+    assert_eq!(rt; run.file, "first.elf");
+    assert_eq!(rt; (run.harts, run.memory, run.steps), (2, 2_141_133, 7));
+    assert_eq!(rt; run.cache, Cache::Small);
+    let words = run.words;
+    assert_eq!(rt; words.len(), 3);
+    assert_eq!(rt; (words[0].text, words[0].addr), ("0x2000", 8192));
+    assert_eq!(rt; (words[1].text, words[1].addr), ("8196", 8196));
+    assert_eq!(rt; (words[2].text, words[2].addr), ("0", 0));
+    Ok(())
+}
+
+#[test]
+fn reads_the_name_of_a_cache(rt: HostRuntime) -> Result<(), Fail> {
+    let cases: [(&[&str], Cache); 4] = [
+        (&["logtm", "run", "f"], Cache::Normal),
+        (&["logtm", "run", "f", "--cache", "normal"], Cache::Normal),
+        (&["logtm", "run", "--cache", "small", "f"], Cache::Small),
+        (&["logtm", "run", "f", "--cache=small"], Cache::Small),
+    ];
+    for (words, cache) in cases {
+        let run = run_of(rt.alloc(), words)?.ok_or("a run")?;
+        assert_eq!(rt; run.cache, cache);
+    }
+    Ok(())
+}
+
+// The paths that an order to list or to assemble names.
+fn paths(alloc: Global, words: &'static [&'static str]) -> Option<(&'static str, &'static str)> {
+    match parse(alloc, words) {
+        Ok(Request::Order(Order::Dis { file })) => Some((file, "")),
+        Ok(Request::Order(Order::Asm { source, target })) => Some((source, target)),
+        _ => None,
+    }
+}
+
+#[test]
+fn reads_the_other_subcommands(rt: HostRuntime) {
+    let cases: [(&[&str], (&str, &str)); 5] = [
+        (&["logtm", "dis", "first.elf"], ("first.elf", "")),
+        (&["logtm", "dis", "--", "--help"], ("--help", "")),
+        (&["logtm", "dis", "run"], ("run", "")),
+        (&["logtm", "asm", "a.s", "a.elf"], ("a.s", "a.elf")),
+        (&["logtm", "asm", "dis", "asm"], ("dis", "asm")),
+    ];
+    for (words, named) in cases {
+        assert_eq!(rt; paths(rt.alloc(), words), Some(named));
+    }
+}
+
+// The text of a refusal.
+fn refusal(alloc: Global, words: &'static [&'static str]) -> Option<String> {
+    match parse(alloc, words) {
+        Err(OrderFault::Refused(text)) => Some(text),
+        _ => None,
+    }
+}
+
+#[test]
+fn refuses_as_clap_does(rt: HostRuntime) -> Result<(), Fail> {
+    let cases: [(&[&str], &str); 31] = [
+        (&["logtm", "debug"], "<FILE>"),
+        (
+            &["logtm", "debug", "--help"],
+            "Usage: logtm debug [OPTIONS] <FILE>",
+        ),
+        (&["logtm", "debug", "f", "g"], "unexpected argument 'g'"),
+        (
+            &["logtm", "debug", "f", "--steps", "3"],
+            "unexpected argument '--steps'",
+        ),
+        (
+            &["logtm", "debug", "f", "--cache=small", "--cache=small"],
+            "cannot be used multiple times",
+        ),
+        (
+            &["logtm", "run", "f", "--trace"],
+            "a value is required for '--trace <FILE>'",
+        ),
+        (
+            &["logtm", "run", "f", "--trace=a", "--trace=b"],
+            "cannot be used multiple times",
+        ),
+        (&[], "requires a subcommand"),
+        (&["logtm"], "requires a subcommand"),
+        (&["logtm", "--help"], "Usage: logtm <COMMAND>"),
+        (&["logtm", "walk"], "unrecognized subcommand 'walk'"),
+        (&["logtm", "dis"], "<FILE>"),
+        (&["logtm", "dis", "--help"], "Usage: logtm dis <FILE>"),
+        (&["logtm", "dis", "f", "g"], "unexpected argument 'g'"),
+        (
+            &["logtm", "dis", "f", "--harts", "2"],
+            "unexpected argument '--harts'",
+        ),
+        (&["logtm", "asm", "a.s"], "<OUT>"),
+        (&["logtm", "asm", "--help"], "Usage: logtm asm <IN> <OUT>"),
+        (
+            &["logtm", "asm", "a.s", "a.elf", "b"],
+            "unexpected argument 'b'",
+        ),
+        (&["logtm", "help"], "unrecognized subcommand 'help'"),
+        (
+            &["logtm", "--harts", "2", "run", "f"],
+            "unexpected argument '--harts'",
+        ),
+        (&["logtm", "run"], "<FILE>"),
+        (
+            &["logtm", "run", "--help"],
+            "Usage: logtm run [OPTIONS] <FILE> [WORD]...",
+        ),
+        (
+            &["logtm", "run", "f", "--cache"],
+            "a value is required for '--cache <NAME>'",
+        ),
+        (
+            &["logtm", "run", "f", "--cache=small", "--cache=small"],
+            "cannot be used multiple times",
+        ),
+        (
+            &["logtm", "run", "f", "--threads"],
+            "unexpected argument '--threads'",
+        ),
+        (
+            &["logtm", "run", "f", "--harts"],
+            "a value is required for '--harts <N>'",
+        ),
+        (
+            &["logtm", "run", "f", "--harts", "-1"],
+            "unexpected argument '-1'",
+        ),
+        (&["logtm", "run", "f", "-1"], "unexpected argument '-1'"),
+        (
+            &["logtm", "run", "f", "--steps=1", "--steps=1"],
+            "cannot be used multiple times",
+        ),
+        (
+            &["logtm", "run", "f", "x", "--nope"],
+            "unexpected argument '--nope'",
+        ),
+        (&["logtm", "run", "--harts", "x"], "<FILE>"),
+    ];
+    for (words, part) in cases {
+        let text = refusal(rt.alloc(), words).ok_or("a refusal")?;
+        assert!(rt; text.contains(part), "{text}");
+    }
+    Ok(())
+}
+
+// The malformed value.
+fn bad_value(alloc: Global, words: &'static [&'static str]) -> Option<&'static str> {
+    match parse(alloc, words) {
+        Err(OrderFault::Value(value)) => Some(value),
+        _ => None,
+    }
+}
+
+#[test]
+fn names_the_first_bad_value(rt: HostRuntime) {
+    let cases: [(&[&str], &str); 29] = [
+        (&["logtm", "debug", "f", "--harts", "x"], "x"),
+        (&["logtm", "debug", "f", "--memory", "0x1g"], "0x1g"),
+        (&["logtm", "debug", "f", "--cache", "tiny"], "tiny"),
+        (
+            &["logtm", "debug", "f", "--cache", "c", "--memory", "m"],
+            "m",
+        ),
+        (
+            &["logtm", "debug", "f", "--memory", "m", "--harts", "h"],
+            "h",
+        ),
+        // A trace that would go to a file which the run reads.
+        (&["logtm", "run", "f", "--trace", "f"], "f"),
+        (
+            &["logtm", "run", "f", "--trace", "l", "--schedule", "l"],
+            "l",
+        ),
+        (
+            &["logtm", "run", "f", "--trace", "f", "--schedule", "l"],
+            "f",
+        ),
+        (&["logtm", "run", "f", "--trace", "f", "w"], "w"),
+        (&["logtm", "run", "f", "--trace", "f", "--harts", "h"], "h"),
+        (&["logtm", "run", "", "--trace="], ""),
+        (&["logtm", "run", "f", "--harts", "x"], "x"),
+        (&["logtm", "run", "f", "--memory", "0x1g"], "0x1g"),
+        (
+            &["logtm", "run", "f", "--steps", "4294967296"],
+            "4294967296",
+        ),
+        (&["logtm", "run", "f", "--harts="], ""),
+        (&["logtm", "run", "f", "--harts", ""], ""),
+        (&["logtm", "run", "f", "0X10"], "0X10"),
+        (&["logtm", "run", "f", "1", "zz", "yy"], "zz"),
+        (&["logtm", "run", "f", "--steps", "y", "--harts", "x"], "x"),
+        (&["logtm", "run", "f", "--steps", "y", "--memory", "m"], "m"),
+        (&["logtm", "run", "f", "w", "--steps", "y"], "y"),
+        (&["logtm", "run", "f", "--cache", "tiny"], "tiny"),
+        (&["logtm", "run", "f", "--cache", "Small"], "Small"),
+        (&["logtm", "run", "f", "--cache="], ""),
+        (&["logtm", "run", "f", "--cache", "normal "], "normal "),
+        (&["logtm", "run", "f", "--cache", "2"], "2"),
+        (&["logtm", "run", "f", "--harts", "small"], "small"),
+        (&["logtm", "run", "f", "--cache", "c", "--steps", "y"], "y"),
+        (&["logtm", "run", "f", "w", "--cache", "c"], "c"),
+    ];
+    for (words, value) in cases {
+        assert_eq!(rt; bad_value(rt.alloc(), words), Some(value));
+    }
+}
+
+// Whether the words give an order with so many words, or memory ran out.
+fn gives(alloc: Global, words: &'static [&'static str], count: usize) -> bool {
+    match parse(alloc, words) {
+        Ok(Request::Order(Order::Run(run))) => run.words.len() == count,
+        Ok(_request) => false,
+        Err(fault) => match fault {
+            OrderFault::NoMemory => true,
+            OrderFault::Value(_value) => false,
+            OrderFault::TracedAndCounted => false,
+            OrderFault::Refused(_text) => false,
+        },
+    }
+}
+
+// Whether the words ask to assemble this source into this target, or memory ran out.
+fn assembles(alloc: Global, words: &'static [&'static str], from: &str, to: &str) -> bool {
+    match parse(alloc, words) {
+        Ok(Request::Order(Order::Asm { source, target })) => source == from && target == to,
+        Ok(_request) => false,
+        Err(fault) => match fault {
+            OrderFault::NoMemory => true,
+            OrderFault::Value(_value) => false,
+            OrderFault::TracedAndCounted => false,
+            OrderFault::Refused(_text) => false,
+        },
+    }
+}
+
+// Whether the words have this bad value, or clap refuses them with this in its text, or memory ran
+// out.
+fn fails(alloc: Global, words: &'static [&'static str], part: &str) -> bool {
+    match parse(alloc, words) {
+        Ok(_request) => false,
+        Err(fault) => match fault {
+            OrderFault::NoMemory => true,
+            OrderFault::TracedAndCounted => false,
+            OrderFault::Value(value) => value == part,
+            OrderFault::Refused(text) => text.contains(part),
+        },
+    }
+}
+
+// What the words ask to be played by hand.
+fn debug_of(alloc: Global, words: &'static [&'static str]) -> Option<Debug<'static>> {
+    match parse(alloc, words) {
+        Ok(Request::Debug(debug)) => Some(debug),
+        _ => None,
+    }
+}
+
+#[test]
+fn reads_what_is_played_by_hand(rt: HostRuntime) -> Result<(), Fail> {
+    let cases: [(&[&str], (u32, u32), Cache); 6] = [
+        (&["logtm", "debug", "f"], (1, 1_048_576), Cache::Normal),
+        (
+            &["logtm", "debug", "f", "--harts", "2"],
+            (2, 1_048_576),
+            Cache::Normal,
+        ),
+        (
+            &["logtm", "debug", "--memory=0x20000", "f"],
+            (1, 131_072),
+            Cache::Normal,
+        ),
+        (
+            &["logtm", "debug", "f", "--cache", "small"],
+            (1, 1_048_576),
+            Cache::Small,
+        ),
+        (
+            &["logtm", "debug", "f", "--cache=normal"],
+            (1, 1_048_576),
+            Cache::Normal,
+        ),
+        (
+            &[
+                "logtm",
+                "debug",
+                "--cache=small",
+                "--harts=0x8",
+                "f",
+                "--memory=65536",
+            ],
+            (8, 65_536),
+            Cache::Small,
+        ),
+    ];
+    for (words, sizes, cache) in cases {
+        let debug = debug_of(rt.alloc(), words).ok_or("a debug")?;
+        assert_eq!(rt; debug.file, "f");
+        assert_eq!(rt; (debug.harts, debug.memory), sizes);
+        assert_eq!(rt; debug.cache, cache);
+    }
+    Ok(())
+}
+
+// What the user is told of words that are refused, with the status.
+#[test]
+fn tells_of_refused_words(rt: HostRuntime) -> Result<(), Fail> {
+    let cases: [(&[&str], &str); 6] = [
+        (
+            &["logtm", "debug", "f", "--harts", "two"],
+            "logtm: value two\n",
+        ),
+        (
+            &["logtm", "debug", "f", "--memory", "-"],
+            "logtm: value -\n",
+        ),
+        (
+            &["logtm", "debug", "f", "--cache", "tiny"],
+            "logtm: value tiny\n",
+        ),
+        (&["logtm", "run", "f", "0X10"], "logtm: value 0X10\n"),
+        (&["logtm", "run", "f", "--trace", "f"], "logtm: value f\n"),
+        (
+            &["logtm", "run", "f", "--schedule=l", "--trace=l"],
+            "logtm: value l\n",
+        ),
+    ];
+    for (words, text) in cases {
+        let mut told = Taken {
+            bytes: Vec::new(rt.alloc()),
+            failed: 0,
+        };
+        match parse(rt.alloc(), words) {
+            Ok(_request) => return Err("no fault".into()),
+            Err(fault) => {
+                let fault = Fault::from(fault);
+                assert_eq!(rt; fault.tell(&mut told), 2);
+            }
+        }
+        assert_eq!(rt; told.bytes.as_slice(), text.as_bytes());
+    }
+    Ok(())
+}
+
+// Where the trace of a run of `f` goes: to standard output as a dash.
+fn target(alloc: Global, words: &'static [&'static str]) -> Option<&'static str> {
+    match parse(alloc, words) {
+        Ok(Request::Traced(traced)) => match traced.target {
+            Target::Output => Some("-"),
+            Target::File(path) => Some(path),
+        },
+        _ => None,
+    }
+}
+
+#[test]
+fn reads_where_a_trace_goes(rt: HostRuntime) {
+    let cases: [(&[&str], Option<&str>); 7] = [
+        (&["logtm", "run", "f"], None),
+        (&["logtm", "run", "f", "--trace", "t"], Some("t")),
+        (&["logtm", "run", "--trace=t", "f", "0"], Some("t")),
+        (&["logtm", "run", "f", "--trace", "-"], Some("-")),
+        (&["logtm", "run", "-", "--trace", "-"], Some("-")),
+        (
+            &["logtm", "run", "f", "--schedule=l", "--trace=ll"],
+            Some("ll"),
+        ),
+        (&["logtm", "debug", "f"], None),
+    ];
+    for (words, path) in cases {
+        assert_eq!(rt; target(rt.alloc(), words), path);
+    }
+}
+
+// To be run with each allocation failing in turn.
+#[test]
+fn answers_nothing_else_without_memory(rt: HostRuntime) {
+    assert!(rt; gives(rt.alloc(), LONG.as_slice(), 3));
+    assert!(rt; fails(rt.alloc(), &["logtm", "run", "f", "1", "2", "z"], "z"));
+    assert!(rt; fails(rt.alloc(), &["logtm", "run", "--nope"], "'--nope'"));
+    assert!(rt;
+        assembles(
+            rt.alloc(),
+            &["logtm", "asm", "a.s", "a.elf"],
+            "a.s",
+            "a.elf"
+        )
+    );
+}

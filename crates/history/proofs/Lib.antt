@@ -1,0 +1,5 @@
+mod Batches
+mod Words
+mod Spelled
+mod Texts
+mod Repeats

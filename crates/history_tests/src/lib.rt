@@ -1,0 +1,5 @@
+//! Histories of a few choices, as text, and read again.
+#![tactic(auto)]
+
+#[cfg(test)]
+mod tests;

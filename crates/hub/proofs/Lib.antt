@@ -1,0 +1,4 @@
+mod Courses
+mod Locals
+mod Names
+mod Payments

@@ -1,0 +1,139 @@
+use board::{Lease, Refusal};
+use elf_samples::program;
+use history::{History, Unkept, put_history};
+use hub::{Ended, Hub};
+use machine::Machine;
+use schedule::{follow, read};
+use std::process::Abort;
+use std::str;
+use std::sync::Mutex;
+use std::test::Fail;
+use words::{Addr, HartId, Taken};
+use workers::{End, Gate, serve};
+
+/// Adds 1 to the word at 0x2000 in a transaction, and exits with 0. After each abort a hart waits before it tries again, longer than the time
+/// before, and each for a time of its own.
+const WAITS: [u32; 20] = [
+    0x0010_0413,
+    0x0000_24b7,
+    0x0015_0993,
+    0x0059_9993,
+    0x0009_8913,
+    0x0200_040b,
+    0x0004_a283,
+    0x0012_8293,
+    0x0054_a023,
+    0x0000_100b,
+    0xfff4_0413,
+    0xfe04_12e3,
+    0x05d0_0893,
+    0x0000_0513,
+    0x0000_0073,
+    0x0139_0933,
+    0x0009_0313,
+    0xfff3_0313,
+    0xfe03_1ee3,
+    0xfc9f_f06f,
+];
+
+const SIZE: u32 = 131_072;
+
+/// The most turns of a hart.
+const TURNS: u64 = 100_000;
+
+/// More steps than a history here has.
+const STEPS: usize = 1_000_000_000;
+
+type Kept<'p> = Hub<'p, 2, 1, History>;
+
+type Plain<'p> = Hub<'p, 2, 1, Unkept>;
+
+/// Runs each lease as far as it goes.
+#[derive(Drop)]
+struct Whole;
+
+impl<'p, const SETS: usize, const WAYS: usize> Gate<Lease<'p, SETS, WAYS>> for Whole {
+    fn lent(&self, _hart: HartId, _turn: u64, lease: &mut Lease<'p, SETS, WAYS>) -> bool {
+        lease.run(64);
+        true
+    }
+
+    fn settled(&self, _hart: HartId, _turn: u64) {}
+}
+
+/// That the lines of what was noted, played from the start, lead to the same registers and memory.
+fn check_again(
+    rt: &(impl Abort + AllocGlobal),
+    end: &Ended<'_, 2, 1, History>,
+) -> Result<(), Fail> {
+    let mut sink = Taken {
+        bytes: Vec::new(rt.alloc()),
+        failed: 0,
+    };
+    assert!(rt; put_history(&mut sink, &end.journal).is_ok());
+    let choices = read(rt.alloc(), str::from_utf8(&sink.bytes)?)?;
+    let mut machine: Machine<2, 1> = Machine::boot(
+        rt.alloc(),
+        end.program.copy(rt.alloc())?,
+        end.harts,
+        end.size,
+    )?;
+    let steps = choices.len().min(STEPS) as u32;
+    follow(&mut machine, &choices, steps)?;
+    for number in 0..8 {
+        let hart = HartId::new(number);
+        assert_eq!(rt; machine.regs(hart), end.machine.regs(hart));
+    }
+    for word in 0..2048u32 {
+        let addr = Addr::new(0x1000 + 4 * word);
+        assert_eq!(rt; machine.peek(addr), end.machine.peek(addr));
+    }
+    Ok(())
+}
+
+#[test]
+fn history_of_threads_plays_again(rt: HostRuntime) -> Result<(), Fail> {
+    let program = program(rt.alloc(), &WAITS)?;
+    let hub: Kept = Hub::boot(rt.alloc(), &program, 4, SIZE, History::new(rt.alloc()))?;
+    let desk = Mutex::new(hub);
+    let ends = serve::<Kept, Whole, HostRuntime>(&rt, &desk, 4, &Whole, TURNS)?;
+    assert_eq!(rt; ends.as_slice(), [End::Stopped; 4].as_slice());
+    let end = desk.into_inner().finish();
+    assert_eq!(rt; end.machine.peek(Addr::new(0x2000)), Some(4));
+    check_again(&rt, &end)
+}
+
+#[test]
+fn threads_run_where_nothing_is_kept(rt: HostRuntime) -> Result<(), Fail> {
+    let program = program(rt.alloc(), &WAITS)?;
+    let hub: Plain = Hub::boot(rt.alloc(), &program, 2, SIZE, Unkept)?;
+    let desk = Mutex::new(hub);
+    let ends = serve::<Plain, Whole, HostRuntime>(&rt, &desk, 2, &Whole, TURNS)?;
+    assert_eq!(rt; ends.as_slice(), [End::Stopped; 2].as_slice());
+    assert_eq!(rt;
+        desk.into_inner().machine().peek(Addr::new(0x2000)),
+        Some(2)
+    );
+    Ok(())
+}
+
+#[test]
+fn stale_lease_comes_back(rt: HostRuntime) -> Result<(), Fail> {
+    let program = program(rt.alloc(), &WAITS)?;
+    let mut hub: Kept = Hub::boot(rt.alloc(), &program, 1, SIZE, History::new(rt.alloc()))?;
+    let zero = HartId::new(0);
+    let lent = hub.lend(zero);
+    let ran = hub.lend(zero);
+    assert!(rt; lent.is_some());
+    assert!(rt; hub.lend(HartId::new(1)).is_none());
+    if let (Some(late), Some(mut first)) = (lent, ran) {
+        first.run(3);
+        assert!(rt; hub.settle(first).is_ok());
+        match hub.settle(late) {
+            Ok(()) => assert!(rt; false),
+            Err((_, refusal)) => assert_eq!(rt; refusal, Refusal::Stale),
+        }
+    }
+    assert!(rt; hub.visit(zero)?);
+    check_again(&rt, &hub.finish())
+}

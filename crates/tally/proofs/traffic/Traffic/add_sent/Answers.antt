@@ -1,0 +1,65 @@
+use Rattle.std.proofs.Common.{◌≡◌, ◌+◌, take, refl, sym, ap, ◌∙◌, arith, subst}
+use Rattle.std.specs.Prelude.{count_by, is_some}
+use Rattle.tally.specs.Kinds.{one_if}
+use Rattle.tally.specs.Traffic.{capped, is_same, sum_at, was_sent}
+use Rattle.tally.proofs.Capping.{capped_low}
+use Rattle.tally.proofs.Sending.{counted_all, flies, flies_not, no_one, nothing_in, one_sent, one_unsent, rest_of}
+use Rattle.tally.proofs.traffic.Traffic.add_sent.Goals.{in-Some+then-flight-sent, in-Some+else-flight-sent, in_default}
+use Rattle.tally.proofs.traffic.Traffic.add_sent.Goals as goal
+
+pub loop-key-init : goal.loop-key-init
+loop-key-init g c = (
+  λ s low.
+      let same : sum_at c.args.self.now s + 0 ≡ sum_at c.args.self.now s = omega arith in
+      sym (ap capped same ∙ capped_low (sum_at c.args.self.now s) low),
+  refl,
+  refl,
+  omega arith,
+)
+
+pub loop-key-preserved : goal.loop-key-preserved
+loop-key-preserved g c =
+    let flights = c.args.machine.now.flights in
+    let key = c.loop-key.key in
+    let inv = c.loop-key.invariant in
+    elim c.match-flight.branch [
+      | in-Some+then-flight-sent w ↦
+          let is = sym c.flight.ensures ∙ w.in-Some.is in
+          let more = flies flights key w.in-Some.flight is in (
+            λ s low.
+                let added = w.add.ensures.added s in
+                let counted = subst (λ x. sum_at w.add.new.self s ≡ capped (sum_at c.loop-key.self s + one_if (is_same s x))) w.of_message.ensures added in
+                subst (λ t. sum_at t s ≡ capped (sum_at c.args.self.now s + count_by (was_sent c.args.sent s) (take (key + 1) flights))) (sym w.self-is)
+                (one_sent c.args.sent s flights key w.in-Some.flight (sum_at c.args.self.now s) (sum_at c.loop-key.self s) (sum_at w.add.new.self s) is w.if-flight-sent.true (inv.0 s low) counted),
+            rest_of c.args.self.now c.loop-key.self c.match-flight.self inv.1 (subst (λ t. t ≡ record c.loop-key.self { sums = t.sums }) (sym w.self-is) w.add.ensures.rest),
+            w.flying-is ∙ ap (λ n. n + 1) inv.2 ∙ sym more,
+            omega (arith, w.flying-is, inv.3),
+          )
+      | in-Some+else-flight-sent w ↦
+          let is = sym c.flight.ensures ∙ w.in-Some.is in
+          let more = flies flights key w.in-Some.flight is in (
+            λ s low. subst (λ t. sum_at t s ≡ capped (sum_at c.args.self.now s + count_by (was_sent c.args.sent s) (take (key + 1) flights))) (sym w.self-is)
+                (one_unsent c.args.sent s flights key w.in-Some.flight (sum_at c.args.self.now s) (sum_at c.loop-key.self s) is w.if-flight-sent.false (inv.0 s low)),
+            subst (λ t. t ≡ record c.args.self.now { sums = t.sums }) (sym w.self-is) inv.1,
+            w.flying-is ∙ ap (λ n. n + 1) inv.2 ∙ sym more,
+            omega (arith, w.flying-is, inv.3),
+          )
+      | in_default w ↦
+          let is = sym c.flight.ensures ∙ nothing_in c.flight.result w.in_default.not-Some in
+          let more = flies_not flights key is in (
+            λ s low. subst (λ t. sum_at t s ≡ capped (sum_at c.args.self.now s + count_by (was_sent c.args.sent s) (take (key + 1) flights))) (sym w.self-is)
+                (no_one c.args.sent s flights key (sum_at c.args.self.now s) (sum_at c.loop-key.self s) is (inv.0 s low)),
+            subst (λ t. t ≡ record c.args.self.now { sums = t.sums }) (sym w.self-is) inv.1,
+            w.flying-is ∙ inv.2 ∙ sym more,
+            omega (arith, w.flying-is, inv.3),
+          )
+    ]
+
+pub returns-clause-added : goal.returns-clause-added
+returns-clause-added g c s low =
+    let end = counted_all (was_sent c.args.sent s) refl c.args.machine.now.flights c.loop-key.key (λ key le. c.keys-key-end.ensures key (omega (arith, le, c.loop-key-test.false))) in
+    c.loop-key.invariant.0 s low ∙ ap (λ n. capped (sum_at c.args.self.now s + n)) end
+
+pub returns-clause-flying : goal.returns-clause-flying
+returns-clause-flying g c =
+    c.loop-key.invariant.2 ∙ counted_all is_some refl c.args.machine.now.flights c.loop-key.key (λ key le. c.keys-key-end.ensures key (omega (arith, le, c.loop-key-test.false)))
