@@ -4,3 +4,4 @@ mod gates;
 mod memory;
 mod play;
 mod rows;
+mod stale;

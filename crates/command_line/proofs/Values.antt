@@ -1,13 +1,19 @@
 -- Values that are read.
-use Rattle.std.proofs.Common.{◌≡◌, ◌∙◌, ◌++◌, List, [], ◌∷◌, Option, Some, None, Result, MatchResult, codes, is_some, refl, sym, ap, true≢false}
+use Rattle.std.proofs.Common.{◌≡◌, ◌∙◌, ◌++◌, inr, Bool, List, [], ◌∷◌, Option, Some, None, Result, Ok, Err, MatchResult, codes, is_some, refl, sym, ap, true≢false}
 use Rattle.std.specs.Borrow.{Bor}
 use Rattle.std.specs.Option.{IsSome, ok_or, option_map, option_map_or, option_to_list, unwrap_or}
-use Rattle.clap.specs.Words.{Text, first_value, matched_of, raw_values, rows_of}
+use Rattle.clap.specs.Words.{Row, Text, first_of, first_value, matched_of, raw_values, rows_of}
 use Rattle.clap.specs.declared.parser.matches.Found.{Found}
 use Rattle.clap.proofs.WalkLemmas.{first_value-rows, raw_values-rows}
-use Rattle.command_line.specs.Reading.{HasValue, NamesFirstOf, malformed, words_of}
+use Rattle.command_line.specs.Reading.{HasValue, HasTarget, IsReadingOf, IsRequestFor, IsRunOf, IsRunRequestOf, IsThreadsFault, NamesFirstInRun, NamesFirstOf, is_given, malformed, words_of}
+use Rattle.command_line.specs.declared.request.Order.{Order}
+use Rattle.command_line.specs.declared.request.Order.TheVariants as order
+use Rattle.command_line.specs.declared.request.Request.{Request}
+use Rattle.command_line.specs.declared.request.Request.TheVariants as request
+use Rattle.command_line.specs.declared.request.Run.{Run}
+use Rattle.command_line.specs.declared.request.Target.{Target}
 use Rattle.command_line.specs.declared.fault.OrderFault.{OrderFault}
-use Rattle.command_line.specs.declared.fault.OrderFault.TheVariants.{Refused, Value, TracedAndCounted, NoMemory}
+use Rattle.command_line.specs.declared.fault.OrderFault.TheVariants.{Refused, Value, TracedAndCounted, ThreadsAlone, NoMemory}
 
 module _ {T : Type 0} (read : Text → Option T) (default : T) where
   here : (text : Bor Text) (o : Option T) → o ≡ read text.now
@@ -29,6 +35,26 @@ pub value_is_there : (f : Found) (id : Text) (o : Option (Bor Text)) → option_
 value_is_there f id (Some text) is has = refl
 value_is_there f id None is has = absurd (true≢false (sym has ∙ ap is_some (sym (is ∙ first_value-rows f id))))
 
+-- the request for a run is what its values stand for
+run_order : (rows : List Row) (order : Order) → IsRunRequestOf rows (request.Order order) → IsReadingOf (codes "run") rows (request.Order order)
+run_order rows (order.Run run) is = (refl, is)
+run_order rows (order.Dis file) is = absurd is.2.2
+run_order rows (order.Asm source target) is = absurd is.2.2
+
+run_reading : (rows : List Row) (asked : Request) → IsRunRequestOf rows asked → IsReadingOf (codes "run") rows asked
+run_reading rows (request.Order order) is = run_order rows order is
+run_reading rows (request.Traced traced) is = (refl, is)
+run_reading rows (request.Threaded threaded) is = (refl, is)
+run_reading rows (request.Debug debug) is = absurd is.2.2
+
+-- what a run was found to ask for
+pub run_read : (rows : List Row) (run : Run) (target : Option Target) (threads : Bool) (history : Option (Bor Text)) (r : Result Request OrderFault)
+    → IsRunOf rows run → HasTarget run (first_of (codes "trace") rows) target → threads ≡ is_given (codes "threads") rows → option_map (λ path. path.now) history ≡ first_of (codes "history") rows
+    → MatchResult r (IsRequestFor run target threads (option_map (λ path. path.now) history)) (IsThreadsFault run target threads (option_map (λ path. path.now) history))
+    → MatchResult r (IsReadingOf (codes "run") rows) (NamesFirstInRun rows)
+run_read rows run target threads history (Ok asked) is has flag path given = run_reading rows asked (run, is, (target, has, rw (← flag, ← path) given))
+run_read rows run target threads history (Err fault) is has flag path why = inr (run, is, inr (target, has, rw (← flag, ← path) why))
+
 -- a value that is read is not malformed
 pub none_malformed : {T : Type 0} (read : Text → Option T) (default x : T) (given : Option Text) → option_map_or read given (Some default) ≡ Some x → malformed read (option_to_list given) ≡ []
 none_malformed read default x None is = refl
@@ -40,6 +66,7 @@ first_of_more xs ys (Refused text) first = absurd first
 first_of_more [] ys (Value value) first = absurd (cc)
 first_of_more (x ∷ xs) ys (Value value) first = first
 first_of_more xs ys TracedAndCounted first = absurd first
+first_of_more xs ys ThreadsAlone first = absurd first
 first_of_more xs ys NoMemory first = tt
 
 pub first_behind : (xs ys : List Text) (fault : OrderFault) → xs ≡ [] → NamesFirstOf ys fault → NamesFirstOf (xs ++ ys) fault

@@ -2,7 +2,7 @@
 use Rattle.std.specs.Prelude.{Some, [], ◌∷◌, true, false, codes}
 use Rattle.clap.specs.Words.{App, Rule, Shape, Text, new_rule}
 use Rattle.clap.specs.Simple.{new_shape}
-use Rattle.clap.specs.declared.builder.ArgAction.TheVariants.{Append}
+use Rattle.clap.specs.declared.builder.ArgAction.TheVariants.{Append, SetTrue}
 
 -- an argument that has to be there
 abbrev pub required_named : Text → Rule
@@ -11,6 +11,10 @@ required_named name = record (new_rule name) { required = true; value_names = 1 
 -- an option with one value
 abbrev pub option_named : Text → Rule
 option_named name = record (new_rule name) { long = Some name; value_names = 1 }
+
+-- an option without a value
+abbrev pub flag_named : Text → Rule
+flag_named name = record (new_rule name) { long = Some name; action = Some SetTrue }
 
 -- the arguments WORD, as many as the user likes
 abbrev pub words : Rule
@@ -21,7 +25,7 @@ abbrev pub run : Shape
 run = record (new_shape (codes "run")) {
   rules = required_named (codes "file") ∷ option_named (codes "harts") ∷ option_named (codes "memory")
       ∷ option_named (codes "steps") ∷ option_named (codes "cache") ∷ option_named (codes "schedule") ∷ option_named (codes "trace")
-      ∷ option_named (codes "stats") ∷ words ∷ [];
+      ∷ option_named (codes "stats") ∷ flag_named (codes "threads") ∷ option_named (codes "history") ∷ words ∷ [];
 }
 
 -- the subcommand `debug`

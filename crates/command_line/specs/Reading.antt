@@ -1,12 +1,12 @@
 -- What the values that clap found stand for.
-use Rattle.std.specs.Prelude.{◌≡◌, ◌≢◌, ◌⊎◌, ◌||◌, Bool, true, false, IsSome, ⊤, List, [], ◌++◌, Option, Some, None, codes, filter, if◌then◌else◌, is_some, map, not, slice_get, unwrap_or}
+use Rattle.std.specs.Prelude.{◌≡◌, ◌≢◌, ◌⊎◌, ◌||◌, Bool, true, false, IfSome, IsSome, ⊤, List, [], ◌++◌, Option, Some, None, codes, filter, if◌then◌else◌, is_some, map, not, slice_get, unwrap_or}
 use Rattle.std.specs.Option.{option_map, option_map_or, option_to_list}
 use Rattle.std.specs.Str.{bytes_eq}
 use Rattle.clap.specs.Words.{Row, Text, all_of, fault_of, first_of, subcommand_of}
 use Rattle.command_line.specs.Command.{logtm}
 use Rattle.command_line.specs.Numbers.{number_of}
 use Rattle.command_line.specs.declared.fault.OrderFault.{OrderFault}
-use Rattle.command_line.specs.declared.fault.OrderFault.TheVariants.{Refused, Value, TracedAndCounted, NoMemory}
+use Rattle.command_line.specs.declared.fault.OrderFault.TheVariants.{Refused, Value, TracedAndCounted, ThreadsAlone, NoMemory}
 use Rattle.command_line.specs.declared.request.Cache.{Cache}
 use Rattle.command_line.specs.declared.request.Cache.TheVariants.{Small, Normal}
 use Rattle.command_line.specs.declared.request.Debug.{Debug}
@@ -40,6 +40,10 @@ given id rows = option_to_list (first_of id rows)
 -- the texts of the WORDs, in the order in which they were given
 abbrev pub words_of : List Row → List Text
 words_of rows = unwrap_or (all_of (codes "words") rows) []
+
+-- whether a flag was given, for which clap has the value true then, and else false
+abbrev pub is_given : Text → List Row → Bool
+is_given id rows = option_map_or (λ text. bytes_eq text (codes "true")) (first_of id rows) false
 
 -- what the value given for an option is read as, or this default where it was not given
 abbrev pub read_or : {T : Type 0} → (Text → Option T) → T → Text → List Row → Option T
@@ -111,9 +115,52 @@ abbrev pub IsTraceFault : Run → Text → OrderFault → Type 0
 IsTraceFault run path TracedAndCounted = IsSome run.stats
 IsTraceFault run path other = (run.stats ≡ None) × IsClash run path other
 
+-- where the trace goes of a run that has one to a path, or has none; and why it can't
+abbrev pub HasTarget : Run → Option Text → Option Target → Type 0
+HasTarget run None target = target ≡ None
+HasTarget run (Some path) None = ⊥
+HasTarget run (Some path) (Some target) = IsTraceTarget run path target
+
+abbrev pub HasTraceFault : Run → Option Text → OrderFault → Type 0
+HasTraceFault run None fault = ⊥
+HasTraceFault run (Some path) fault = IsTraceFault run path fault
+
+-- the run has no schedule and no counts, and no trace goes anywhere
+abbrev pub stands_alone : Run → Option Target → Bool
+stands_alone run target = not (is_some run.schedule || is_some run.stats || is_some target)
+
+-- the history can go to this path, which is neither a dash nor that of a file that the run reads
+abbrev pub can_keep : Run → Text → Bool
+can_keep run path = not (bytes_eq path (codes "-") || is_read_by run path)
+
+-- what is asked for by a run whose trace goes there, in threads or not, and whose history goes to this path
+abbrev pub IsOrderFor : Run → Option Target → Bool → Option Text → Order → Type 0
+IsOrderFor run target threads history (order.Run it) = (it ≡ run) × (target ≡ None) × (threads ≡ false) × (history ≡ None)
+IsOrderFor run target threads history other = ⊥
+
+abbrev pub IsRequestFor : Run → Option Target → Bool → Option Text → Request → Type 0
+IsRequestFor run target threads history (request.Order order) = IsOrderFor run target threads history order
+IsRequestFor run target threads history (request.Traced traced) = (traced.run ≡ run) × (target ≡ Some traced.target) × (threads ≡ false) × (history ≡ None)
+IsRequestFor run target threads history (request.Threaded threaded) = (threaded.run ≡ run) × (threads ≡ true) × (stands_alone run target ≡ true)
+    × (option_map (λ path. path.now) threaded.history ≡ history) × IfSome history (λ path. can_keep run path ≡ true)
+IsRequestFor run target threads history (request.Debug debug) = ⊥
+
+-- why nothing is: threads don't stand alone, or a history is asked for without them; or it can't go to the path, which the fault names
+abbrev pub IsThreadsFault : Run → Option Target → Bool → Option Text → OrderFault → Type 0
+IsThreadsFault run target threads history ThreadsAlone = ((threads ≡ true) × (stands_alone run target ≡ false)) ⊎ ((threads ≡ false) × IsSome history)
+IsThreadsFault run target threads history (Value value) =
+    (threads ≡ true) × (stands_alone run target ≡ true) × (history ≡ Some value.now) × (can_keep run value.now ≡ false)
+IsThreadsFault run target threads history other = ⊥
+
+-- the request is that of the run which the values stand for
+abbrev pub IsRunRequestOf : List Row → Request → Type 0
+IsRunRequestOf rows request = (run : Run) × IsRunOf rows run
+    × ((target : Option Target) × HasTarget run (first_of (codes "trace") rows) target
+    × IsRequestFor run target (is_given (codes "threads") rows) (first_of (codes "history") rows) request)
+
 -- the order is what the values of the subcommand of this name stand for
 abbrev pub IsOrderIn : Text → List Row → Order → Type 0
-IsOrderIn name rows (order.Run run) = (name ≡ codes "run") × IsRunOf rows run × (first_of (codes "trace") rows ≡ None)
+IsOrderIn name rows (order.Run run) = (name ≡ codes "run") × IsRunRequestOf rows (request.Order (order.Run run))
 IsOrderIn name rows (order.Dis file) =
     (name ≡ codes "dis") × (first_of (codes "file") rows ≡ Some file.now)
 IsOrderIn name rows (order.Asm source target) = (name ≡ codes "asm")
@@ -123,8 +170,8 @@ IsOrderIn name rows (order.Asm source target) = (name ≡ codes "asm")
 -- and so is the request
 abbrev pub IsReadingOf : Text → List Row → Request → Type 0
 IsReadingOf name rows (request.Order order) = IsOrderIn name rows order
-IsReadingOf name rows (request.Traced traced) = (name ≡ codes "run") × IsRunOf rows traced.run
-    × ((path : Text) × (first_of (codes "trace") rows ≡ Some path) × IsTraceTarget traced.run path traced.target)
+IsReadingOf name rows (request.Traced traced) = (name ≡ codes "run") × IsRunRequestOf rows (request.Traced traced)
+IsReadingOf name rows (request.Threaded threaded) = (name ≡ codes "run") × IsRunRequestOf rows (request.Threaded threaded)
 IsReadingOf name rows (request.Debug debug) = (name ≡ codes "debug") × IsDebugOf rows debug
 
 -- the fault names the first of these texts, or memory ran out
@@ -132,19 +179,19 @@ abbrev pub NamesFirstOf : List Text → OrderFault → Type 0
 NamesFirstOf texts (Refused text) = ⊥
 NamesFirstOf texts (Value value) = slice_get texts 0 ≡ Some value.now
 NamesFirstOf texts TracedAndCounted = ⊥
+NamesFirstOf texts ThreadsAlone = ⊥
 NamesFirstOf texts NoMemory = ⊤
 
--- the run's values are read, and its trace can't go where it is to go
+-- the run's values are read, and its trace can't go where it is to go; or it can, and there is a fault of its threads
 abbrev pub Clashes : List Row → OrderFault → Type 0
-Clashes rows fault = (run : Run) × IsRunOf rows run × ((path : Text) × (first_of (codes "trace") rows ≡ Some path) × IsTraceFault run path fault)
+Clashes rows fault = (run : Run) × IsRunOf rows run
+    × (HasTraceFault run (first_of (codes "trace") rows) fault
+    ⊎ ((target : Option Target) × HasTarget run (first_of (codes "trace") rows) target
+    × IsThreadsFault run target (is_given (codes "threads") rows) (first_of (codes "history") rows) fault))
 
 -- the fault names the first malformed value of a run, or memory ran out
 abbrev pub NamesFirstInRun : List Row → OrderFault → Type 0
 NamesFirstInRun rows fault = NamesFirstOf (malformed_of rows) fault ⊎ Clashes rows fault
-
--- the request is a run that the values stand for
-abbrev pub IsRunRequestOf : List Row → Request → Type 0
-IsRunRequestOf rows request = IsReadingOf (codes "run") rows request
 
 -- the fault names the first malformed value of the subcommand of this name, or memory ran out
 abbrev pub NamesFirstIn : Text → List Row → OrderFault → Type 0
@@ -172,11 +219,12 @@ abbrev pub IsRequestOf : List Text → Request → Type 0
 IsRequestOf words request =
     (name : Text) × (rows : List Row) × AsksFor name words rows × IsReadingOf name rows request
 
--- why the words ask for nothing: clap refuses them, a value is malformed, a run is to be traced and counted, or memory ran out
+-- why the words ask for nothing: clap refuses them, a value is malformed, what is asked for doesn't go together, or memory ran out
 abbrev pub IsFaultOf : List Text → OrderFault → Type 0
 IsFaultOf words (Refused text) = fault_of logtm words ≢ []
 IsFaultOf words (Value value) = (name : Text) × (rows : List Row) × AsksFor name words rows × NamesFirstIn name rows (Value value)
 IsFaultOf words TracedAndCounted = (name : Text) × (rows : List Row) × AsksFor name words rows × NamesFirstIn name rows TracedAndCounted
+IsFaultOf words ThreadsAlone = (name : Text) × (rows : List Row) × AsksFor name words rows × NamesFirstIn name rows ThreadsAlone
 IsFaultOf words NoMemory = ⊤
 
 -- clap's refusal, or that memory ran out for its text
@@ -184,4 +232,5 @@ abbrev pub IsRefusal : OrderFault → Type 0
 IsRefusal (Refused text) = ⊤
 IsRefusal (Value value) = ⊥
 IsRefusal TracedAndCounted = ⊥
+IsRefusal ThreadsAlone = ⊥
 IsRefusal NoMemory = ⊤

@@ -9,11 +9,13 @@ pub enum OrderFault<'a> {
     /// clap refused the words, or was asked for help: the text that it has for the user. clap has no contract on its
     /// texts, so none says which text this is.
     Refused(String),
-    /// The first malformed value, as the user wrote it: no number below 2^32, or for `--cache` and `--stats` the
-    /// name of no cache and no form.
+    /// The first malformed value, as the user wrote it: no number below 2^32, for `--cache` and `--stats` the
+    /// name of no cache and no form, or for `--trace` and `--history` a path where nothing can be written.
     Value(&'a str),
     /// A run is to be traced and counted.
     TracedAndCounted,
+    /// A run in threads is given a schedule, or is to be traced or counted; or the history is asked for of a run that isn't in threads.
+    ThreadsAlone,
     /// Memory ran out.
     NoMemory,
 }

@@ -3,6 +3,7 @@
 //! The subcommands are:
 //!
 //! - `logtm run FILE [--harts N] [--memory S] [--steps N] [--cache small|normal] [--schedule LIST] [--trace FILE | --stats table|csv] [WORD..]`
+//! - `logtm run FILE [--harts N] [--memory S] [--steps N] [--cache small|normal] --threads [--history FILE] [WORD..]`
 //! - `logtm debug FILE [--harts N] [--memory S] [--cache small|normal]`
 //! - `logtm dis FILE`
 //! - `logtm asm IN OUT`
@@ -19,4 +20,4 @@ mod request;
 pub use fault::OrderFault;
 pub use numbers::number;
 pub use parser::parse;
-pub use request::{Cache, Debug, Order, Request, Run, Stats, Target, Traced, Word};
+pub use request::{Cache, Debug, Order, Request, Run, Stats, Target, Threaded, Traced, Word};

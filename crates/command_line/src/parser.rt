@@ -27,7 +27,9 @@ const CACHE_HELP: &str = "The cache of each hart, small or normal, normal if not
 /// clap says what it refuses, and answers `--help` in the same way. Where it takes the words of a
 /// run, the values of `--harts`, `--memory`, `--steps`, `--cache` and `--stats` and then the WORDs are read, in
 /// this order, up to the first malformed one, and then that of `--trace`, which is malformed where it is the path of a file
-/// that the run reads, and is refused beside `--stats`; those of `debug` likewise. Memory may run out at any time: no clause says when.
+/// that the run reads, and is refused beside `--stats`; those of `debug` likewise. Then `--threads` is refused beside
+/// `--schedule`, `--trace` and `--stats`, and `--history` without it; and last the value of `--history` is malformed where it is
+/// a dash or the path of a file that the run reads. Memory may run out at any time: no clause says when.
 pub fn parse<'a>(alloc: Global, words: &'a [&'a str]) -> Result<Request<'a>, OrderFault<'a>>
     ensures { MatchResult result (IsRequestOf (map (λ w. w.now) words.entry.now))
         (IsFaultOf (map (λ w. w.now) words.entry.now)) }
@@ -63,6 +65,8 @@ fn run_command<'a>(alloc: Global) -> Result<Command<'a>, AllocError>
     let schedule = "A file whose lines choose the first steps";
     let trace = "A file for the trace, a line for each entry; - for standard output";
     let stats = "Counts behind the report, as a table or as csv; not with a trace";
+    let threads = "Runs each hart in a thread of its own, with no schedule, trace and counts";
+    let history = "A file for the steps that threads made, as a schedule that plays them again";
     bare(alloc, "run", about)
         .arg(program(alloc))?
         .arg(option(alloc, "harts", "N", HARTS_HELP))?
@@ -72,6 +76,8 @@ fn run_command<'a>(alloc: Global) -> Result<Command<'a>, AllocError>
         .arg(option(alloc, "schedule", "LIST", schedule))?
         .arg(option(alloc, "trace", "FILE", trace))?
         .arg(option(alloc, "stats", "NAME", stats))?
+        .arg(flag(alloc, "threads", threads))?
+        .arg(option(alloc, "history", "FILE", history))?
         .arg(words(alloc))
 }
 
@@ -139,6 +145,16 @@ fn option<'a>(alloc: Global, name: &'a str, value: &'a str, help: &'a str) -> Ar
     Arg::new(alloc, name)
         .long(name)
         .value_name(value)
+        .help(help)
+}
+
+fn flag<'a>(alloc: Global, name: &'a str, help: &'a str) -> Arg<'a>
+    ensures rule { rule_of result ≡ spec.flag_named name.entry.now }
+    ensures local { result.global ≡ false }
+{
+    Arg::new(alloc, name)
+        .long(name)
+        .action(ArgAction::SetTrue)
         .help(help)
 }
 

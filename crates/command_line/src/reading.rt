@@ -1,14 +1,15 @@
-ghost use Rattle.std.specs.Prelude.{◌≡◌, MatchResult, None, Some, codes, map, option_map};
+ghost use Rattle.std.specs.Prelude.{◌≡◌, IfSome, MatchResult, None, Some, codes, map, option_map, true};
 ghost use Rattle.clap.specs.Words.{first_of, found_of, rows_of};
 ghost use Rattle.command_line.specs.Numbers.{number_of};
 ghost use Rattle.command_line.specs.Reading.{HasValue, IsComplete, IsReadingOf, IsReadingOfWords, IsRunOf, IsDebugOf};
 ghost use Rattle.command_line.specs.Reading.{NamesFirstIn, NamesFirstOf, cache_of, given, malformed};
-ghost use Rattle.command_line.specs.Reading.{IsRunRequestOf, NamesFirstInRun, IsTargetOf, IsClash, IsTraceTarget, IsTraceFault, is_read_by};
+ghost use Rattle.command_line.specs.Reading.{NamesFirstInRun, IsTargetOf, IsClash, IsTraceTarget, IsTraceFault, is_read_by};
+ghost use Rattle.command_line.specs.Reading.{HasTarget, HasTraceFault, IsRequestFor, IsThreadsFault, stands_alone, can_keep, is_given};
 ghost use Rattle.command_line.specs.Reading.{malformed_of, malformed_of_machine, read_or, stats_of, words_of};
 
 use crate::fault::OrderFault;
 use crate::numbers::number;
-use crate::request::{Cache, Debug, Order, Request, Run, Stats, Target, Traced, Word};
+use crate::request::{Cache, Debug, Order, Request, Run, Stats, Target, Threaded, Traced, Word};
 use clap::ArgMatches;
 use std::alloc::Global;
 
@@ -54,22 +55,81 @@ fn argument<'a>(matches: &ArgMatches<'a>, id: &str) -> &'a str
     matches.get_str(id).unwrap()
 }
 
-/// A run, with its trace where one is asked for.
+/// A run, with its trace where one is asked for, or in threads.
 fn read_run_request<'a>(
     alloc: Global,
     matches: &ArgMatches<'a>,
 ) -> Result<Request<'a>, OrderFault<'a>>
     requires { HasValue (codes "file") (rows_of (found_of matches.now)) }
-    ensures { MatchResult result (IsRunRequestOf (rows_of (found_of matches.now)))
+    ensures { MatchResult result (IsReadingOf (codes "run") (rows_of (found_of matches.now)))
         (NamesFirstInRun (rows_of (found_of matches.now))) }
 {
     let run = read_run(alloc, matches)?;
-    match path_given(matches, "trace") {
-        Some(path) => {
-            let target = trace_target(path, &run)?;
-            Ok(Request::Traced(Traced { run, target }))
-        }
+    let target = target_given(path_given(matches, "trace"), &run)?;
+    let threads = flag_given(matches, "threads");
+    let history = path_given(matches, "history");
+    request_for(run, target, threads, history)
+}
+
+/// What is asked for by a run whose trace goes to a target, in threads or not, and whose history goes to a path.
+fn request_for<'a>(
+    run: Run<'a>,
+    target: Option<Target<'a>>,
+    threads: bool,
+    history: Option<&'a str>,
+) -> Result<Request<'a>, OrderFault<'a>>
+    ensures { MatchResult result (IsRequestFor run.entry target.entry threads (option_map (λ path. path.now) history.entry))
+        (IsThreadsFault run.entry target.entry threads (option_map (λ path. path.now) history.entry)) }
+{
+    if threads {
+        let history = history_in_threads(&run, target, history)?;
+        return Ok(Request::Threaded(Threaded { run, history }));
+    }
+    if history.is_some() {
+        return Err(OrderFault::ThreadsAlone);
+    }
+    match target {
+        Some(target) => Ok(Request::Traced(Traced { run, target })),
         None => Ok(Request::Order(Order::Run(run))),
+    }
+}
+
+/// Where the history of a run in threads goes, which has no schedule, trace and counts.
+fn history_in_threads<'a>(
+    run: &Run<'_>,
+    target: Option<Target<'_>>,
+    history: Option<&'a str>,
+) -> Result<Option<&'a str>, OrderFault<'a>>
+    ensures { MatchResult result
+        (λ kept. (stands_alone run.now target.entry ≡ true) × (kept ≡ history.entry) × IfSome history.entry (λ path. can_keep run.now path.now ≡ true))
+        (IsThreadsFault run.now target.entry true (option_map (λ path. path.now) history.entry)) }
+{
+    if run.schedule.is_some() || run.stats.is_some() || target.is_some() {
+        return Err(OrderFault::ThreadsAlone);
+    }
+    match history {
+        Some(path) if !can_keep(run, path) => Err(OrderFault::Value(path)),
+        _ => Ok(history),
+    }
+}
+
+/// Whether a history can go to a path: no dash, and no file that the run reads.
+fn can_keep(run: &Run<'_>, path: &str) -> bool
+    ensures { result ≡ can_keep run.now path.now }
+{
+    !(path == "-" || is_read_by(path, run))
+}
+
+/// Where the trace of a run goes that has one to a path, or has none.
+fn target_given<'a>(
+    path: Option<&'a str>,
+    run: &Run<'_>,
+) -> Result<Option<Target<'a>>, OrderFault<'a>>
+    ensures { MatchResult result (HasTarget run.now (option_map (λ p. p.now) path.entry)) (HasTraceFault run.now (option_map (λ p. p.now) path.entry)) }
+{
+    match path {
+        Some(path) => Ok(Some(trace_target(path, run)?)),
+        None => Ok(None),
     }
 }
 
@@ -190,6 +250,16 @@ fn path_given<'a>(matches: &ArgMatches<'a>, id: &str) -> Option<&'a str>
     ensures { option_map (λ path. path.now) result ≡ first_of id.now (rows_of (found_of matches.now)) }
 {
     matches.get_str(id)
+}
+
+/// Whether a flag was given.
+fn flag_given(matches: &ArgMatches<'_>, id: &str) -> bool
+    ensures { result ≡ is_given id.now (rows_of (found_of matches.now)) }
+{
+    match path_given(matches, id) {
+        Some(text) => text == "true",
+        None => false,
+    }
 }
 
 fn cache_named(name: &str) -> Option<Cache>

@@ -5,6 +5,8 @@ pub enum Request<'a> {
     Order(Order<'a>),
     /// To run a program, write its trace, and report what became of it.
     Traced(Traced<'a>),
+    /// To run each hart of a program in a thread of its own, and report what became of it.
+    Threaded(Threaded<'a>),
     /// To play a program by hand.
     Debug(Debug<'a>),
 }
@@ -64,7 +66,7 @@ pub struct Run<'a> {
     pub harts: u32,
     /// How many bytes of memory they share. No size is refused here.
     pub memory: u32,
-    /// How many steps are taken at most.
+    /// How many steps are taken at most; in threads, how many turns each hart has at most.
     pub steps: u32,
     /// The cache that each hart has.
     pub cache: Cache,
@@ -91,6 +93,14 @@ pub enum Target<'a> {
     Output,
     /// The file with this path, which is none that the run reads.
     File(&'a str),
+}
+
+/// A run of a program in threads, without a schedule, a trace and counts.
+#[derive(Debug, Drop)]
+pub struct Threaded<'a> {
+    pub run: Run<'a>,
+    /// The path of the file for the run's history, if it is to be written: neither a dash nor the program's.
+    pub history: Option<&'a str>,
 }
 
 /// A program that is to be played by hand, and the machine that it begins in.

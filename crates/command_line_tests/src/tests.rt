@@ -135,7 +135,7 @@ fn refusal(alloc: Global, words: &'static [&'static str]) -> Option<String> {
 
 #[test]
 fn refuses_as_clap_does(rt: HostRuntime) -> Result<(), Fail> {
-    let cases: [(&[&str], &str); 31] = [
+    let cases: [(&[&str], &str); 34] = [
         (&["logtm", "debug"], "<FILE>"),
         (
             &["logtm", "debug", "--help"],
@@ -194,8 +194,20 @@ fn refuses_as_clap_does(rt: HostRuntime) -> Result<(), Fail> {
             "cannot be used multiple times",
         ),
         (
-            &["logtm", "run", "f", "--threads"],
+            &["logtm", "debug", "f", "--threads"],
             "unexpected argument '--threads'",
+        ),
+        (
+            &["logtm", "run", "f", "--threads=yes"],
+            "unexpected value 'yes' for '--threads'",
+        ),
+        (
+            &["logtm", "run", "f", "--threads", "--threads"],
+            "cannot be used multiple times",
+        ),
+        (
+            &["logtm", "run", "f", "--threads", "--history"],
+            "a value is required for '--history <FILE>'",
         ),
         (
             &["logtm", "run", "f", "--harts"],
@@ -233,7 +245,7 @@ fn bad_value(alloc: Global, words: &'static [&'static str]) -> Option<&'static s
 
 #[test]
 fn names_the_first_bad_value(rt: HostRuntime) {
-    let cases: [(&[&str], &str); 29] = [
+    let cases: [(&[&str], &str); 34] = [
         (&["logtm", "debug", "f", "--harts", "x"], "x"),
         (&["logtm", "debug", "f", "--memory", "0x1g"], "0x1g"),
         (&["logtm", "debug", "f", "--cache", "tiny"], "tiny"),
@@ -256,6 +268,15 @@ fn names_the_first_bad_value(rt: HostRuntime) {
             "f",
         ),
         (&["logtm", "run", "f", "--trace", "f", "w"], "w"),
+        (&["logtm", "run", "f", "--threads", "--trace", "f"], "f"),
+        (
+            &["logtm", "run", "f", "--threads", "--schedule=l", "w"],
+            "w",
+        ),
+        // A history that would go to the program's file, or to standard output.
+        (&["logtm", "run", "f", "--threads", "--history", "f"], "f"),
+        (&["logtm", "run", "f", "--threads", "--history", "-"], "-"),
+        (&["logtm", "run", "-", "--threads", "--history=-"], "-"),
         (&["logtm", "run", "f", "--trace", "f", "--harts", "h"], "h"),
         (&["logtm", "run", "", "--trace="], ""),
         (&["logtm", "run", "f", "--harts", "x"], "x"),
@@ -293,7 +314,7 @@ fn gives(alloc: Global, words: &'static [&'static str], count: usize) -> bool {
         Err(fault) => match fault {
             OrderFault::NoMemory => true,
             OrderFault::Value(_value) => false,
-            OrderFault::TracedAndCounted => false,
+            OrderFault::TracedAndCounted | OrderFault::ThreadsAlone => false,
             OrderFault::Refused(_text) => false,
         },
     }
@@ -307,7 +328,7 @@ fn assembles(alloc: Global, words: &'static [&'static str], from: &str, to: &str
         Err(fault) => match fault {
             OrderFault::NoMemory => true,
             OrderFault::Value(_value) => false,
-            OrderFault::TracedAndCounted => false,
+            OrderFault::TracedAndCounted | OrderFault::ThreadsAlone => false,
             OrderFault::Refused(_text) => false,
         },
     }
@@ -320,7 +341,7 @@ fn fails(alloc: Global, words: &'static [&'static str], part: &str) -> bool {
         Ok(_request) => false,
         Err(fault) => match fault {
             OrderFault::NoMemory => true,
-            OrderFault::TracedAndCounted => false,
+            OrderFault::TracedAndCounted | OrderFault::ThreadsAlone => false,
             OrderFault::Value(value) => value == part,
             OrderFault::Refused(text) => text.contains(part),
         },
@@ -384,7 +405,7 @@ fn reads_what_is_played_by_hand(rt: HostRuntime) -> Result<(), Fail> {
 // What the user is told of words that are refused, with the status.
 #[test]
 fn tells_of_refused_words(rt: HostRuntime) -> Result<(), Fail> {
-    let cases: [(&[&str], &str); 6] = [
+    let cases: [(&[&str], &str); 7] = [
         (
             &["logtm", "debug", "f", "--harts", "two"],
             "logtm: value two\n",
@@ -402,6 +423,10 @@ fn tells_of_refused_words(rt: HostRuntime) -> Result<(), Fail> {
         (
             &["logtm", "run", "f", "--schedule=l", "--trace=l"],
             "logtm: value l\n",
+        ),
+        (
+            &["logtm", "run", "f", "--history", "h"],
+            "logtm: --threads excludes --schedule, --trace and --stats, and --history needs --threads\n",
         ),
     ];
     for (words, text) in cases {
@@ -448,6 +473,76 @@ fn reads_where_a_trace_goes(rt: HostRuntime) {
     ];
     for (words, path) in cases {
         assert_eq!(rt; target(rt.alloc(), words), path);
+    }
+}
+
+// Where the history of a run in threads goes: an empty path where it is not kept.
+fn history(alloc: Global, words: &'static [&'static str]) -> Option<&'static str> {
+    match parse(alloc, words) {
+        Ok(Request::Threaded(threaded)) => Some(threaded.history.unwrap_or("")),
+        _ => None,
+    }
+}
+
+#[test]
+fn reads_a_run_in_threads(rt: HostRuntime) {
+    let cases: [(&[&str], Option<&str>); 7] = [
+        (&["logtm", "run", "f"], None),
+        (&["logtm", "run", "f", "--threads"], Some("")),
+        (&["logtm", "run", "--threads", "f", "0"], Some("")),
+        (
+            &["logtm", "run", "f", "--threads", "--history", "h"],
+            Some("h"),
+        ),
+        (
+            &["logtm", "run", "f", "--history=h", "--threads"],
+            Some("h"),
+        ),
+        (&["logtm", "run", "f", "--", "--threads"], None),
+        (&["logtm", "debug", "f"], None),
+    ];
+    for (words, path) in cases {
+        assert_eq!(rt; history(rt.alloc(), words), path);
+    }
+}
+
+// Why threads and what else is asked for don't go together: 1 for the threads, 2 for a trace and counts.
+fn apart(alloc: Global, words: &'static [&'static str]) -> u32 {
+    match parse(alloc, words) {
+        Err(OrderFault::ThreadsAlone) => 1,
+        Err(OrderFault::TracedAndCounted) => 2,
+        _ => 0,
+    }
+}
+
+#[test]
+fn threads_stand_alone(rt: HostRuntime) {
+    let cases: [(&[&str], u32); 9] = [
+        (&["logtm", "run", "f", "--threads", "--schedule", "l"], 1),
+        (&["logtm", "run", "f", "--threads", "--trace", "t"], 1),
+        (&["logtm", "run", "f", "--trace", "-", "--threads"], 1),
+        (&["logtm", "run", "f", "--threads", "--stats", "csv"], 1),
+        (
+            &["logtm", "run", "f", "--threads", "--trace=t", "--stats=csv"],
+            2,
+        ),
+        (
+            &[
+                "logtm",
+                "run",
+                "f",
+                "--threads",
+                "--schedule=l",
+                "--history=-",
+            ],
+            1,
+        ),
+        (&["logtm", "run", "f", "--history", "h"], 1),
+        (&["logtm", "run", "f", "--history", "f"], 1),
+        (&["logtm", "run", "f", "--trace=t", "--history", "h"], 1),
+    ];
+    for (words, why) in cases {
+        assert_eq!(rt; apart(rt.alloc(), words), why);
     }
 }
 

@@ -2,10 +2,12 @@
 //! gate compares that with what is expected.
 #![tactic(auto)]
 
+use answering::answer;
 use console::Typed;
-use simulate::answer;
 use std::io::Read;
 use std::rt::Files;
+use std::sync::Wait;
+use std::thread::Threads;
 use std::{fs, io};
 use words::Counted;
 
@@ -20,7 +22,10 @@ fn main(rt: HostRuntime) -> io::Result<()> {
 }
 
 /// The status of a command whose words are parted by one space. Behind ` < ` stands the file that it reads from. What it prints goes to standard output, its error texts too.
-fn status_of<R: Files + AllocGlobal + Print>(rt: &R, command: &str) -> io::Result<u8> {
+fn status_of<R: Files + Threads + Wait + Sync + AllocGlobal + Print>(
+    rt: &R,
+    command: &str,
+) -> io::Result<u8> {
     let (command, typed) = match command.split_once(" < ") {
         Some((command, path)) => (command, fs::read(rt, path)?),
         None => (command, Vec::new(rt.alloc())),

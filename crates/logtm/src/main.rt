@@ -1,12 +1,15 @@
 //! The program `logtm`: it answers its command line.
 #![tactic(auto)]
 
+use answering::answer;
 use console::{LineInput, Typed};
-use simulate::{Fault, answer};
+use simulate::Fault;
 use std::env;
 use std::io::{ErrorKind, IsTerminal, Lock, Read, Write};
 use std::process::ExitCode;
 use std::rt::{Env, Files};
+use std::sync::Wait;
+use std::thread::Threads;
 use words::{Counted, Sink};
 
 fn main(rt: HostRuntime) -> ExitCode {
@@ -32,13 +35,12 @@ fn main(rt: HostRuntime) -> ExitCode {
 }
 
 /// Answers the command line, and gives the status that the program ends with.
-fn answer_all<R: Env + Files + AllocGlobal, I: LineInput, W: Write + Drop, E: Sink>(
-    rt: &R,
-    input: &mut I,
-    prompt: &str,
-    out: W,
-    error: &mut E,
-) -> u8 {
+fn answer_all<
+    R: Env + Files + Threads + Wait + Sync + AllocGlobal,
+    I: LineInput,
+    W: Write + Drop,
+    E: Sink,
+>(rt: &R, input: &mut I, prompt: &str, out: W, error: &mut E) -> u8 {
     let arguments = match arguments(rt) {
         Ok(arguments) => arguments,
         Err(fault) => return fault.tell(error),

@@ -1,4 +1,4 @@
-//! The parts of the machine, each by itself: caches, undo logs, transactions, the network, the directory, and a hart with its program.
+//! The parts of the machine, each by itself: caches, undo logs, transactions, the network and the directory.
 #![tactic(auto)]
 
 #[cfg(test)]

@@ -1,6 +1,5 @@
 mod caches;
 mod directories;
-mod harts;
 mod logs;
 mod networks;
 mod transactions;

@@ -6,6 +6,7 @@ ghost use Rattle.recorder.specs.Traces.{line_if, IsTraced, IsCut};
 
 use lines::put_entry;
 use machine::Machine;
+use network::Flight;
 use schedule::Choice;
 use watch::{Halt, WatchFault, Watcher, follow_watched};
 use words::{Entry, Sink, Step};
@@ -15,14 +16,15 @@ use words::{Entry, Sink, Step};
 pub struct Recorder;
 
 impl<M, S: Sink> Watcher<M, S> for Recorder {
-    ghost notes = { λ _ before _ _ entry _ after. Puts (S.taken before) (S.taken after) (S.failed before) (S.failed after) (line_if entry) (Ok tt) };
+    ghost notes = { λ _ before _ _ _ entry _ after. Puts (S.taken before) (S.taken after) (S.failed before) (S.failed after) (line_if entry) (Ok tt) };
 
-    ghost misses = { λ _ before _ _ entry _ after. (fault : SinkFault) × Puts (S.taken before) (S.taken after) (S.failed before) (S.failed after) (line_if entry) (Err fault) };
+    ghost misses = { λ _ before _ _ _ entry _ after. (fault : SinkFault) × Puts (S.taken before) (S.taken after) (S.failed before) (S.failed after) (line_if entry) (Err fault) };
 
     fn note(
         &self,
         _sent: u64,
         _step: &Step,
+        _arrival: &Option<Flight>,
         entry: &Option<Entry>,
         _machine: &M,
         log: &mut S,

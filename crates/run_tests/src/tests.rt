@@ -1,5 +1,7 @@
 mod booted;
+mod refusing;
 mod schedules;
 mod tallies;
+mod timelines;
 mod traces;
 mod watches;

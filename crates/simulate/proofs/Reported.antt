@@ -13,7 +13,7 @@ use Rattle.simulate.specs.Refusals.{IsFaultOf, IsListingFault, IsRunFault}
 use Rattle.simulate.specs.Sources.{IsProgramFault, IsSourceFault}
 use Rattle.simulate.specs.Statuses.{status_for, IsGreatest, IsReported, IsRefused}
 use Rattle.simulate.specs.declared.fault.Fault.{Fault}
-use Rattle.simulate.specs.declared.fault.Fault.TheVariants.{NotText, Refused, Value, TracedAndCounted, Unread, NotSource, Source, Load, Boot, Word, NotSchedule, Schedule, Unwritten, Unmade, NoMemory}
+use Rattle.simulate.specs.declared.fault.Fault.TheVariants.{NotText, Refused, Value, TracedAndCounted, ThreadsAlone, Unread, NotSource, Source, Load, Boot, Word, NotSchedule, Schedule, Unwritten, Unmade, NoMemory}
 use Rattle.std.specs.Prelude.{List}
 
 exit_status : (b : Bool) → IsReported (cond b 0 1)
@@ -68,6 +68,7 @@ fault-not_reported NotText h = omega (arith, h)
 fault-not_reported (Refused text) h = omega (arith, h)
 fault-not_reported (Value text) h = omega (arith, h)
 fault-not_reported TracedAndCounted h = omega (arith, h)
+fault-not_reported ThreadsAlone h = omega (arith, h)
 fault-not_reported (Unread file) h = omega (arith, h)
 fault-not_reported NotSource h = omega (arith, h)
 fault-not_reported (Source refused) h = omega (arith, h)
@@ -86,6 +87,7 @@ program_unwritten path file NotText why h = absurd (omega (arith, h))
 program_unwritten path file (Refused text) why h = absurd (omega (arith, h))
 program_unwritten path file (Value text) why h = absurd (omega (arith, h))
 program_unwritten path file TracedAndCounted why h = absurd (omega (arith, h))
+program_unwritten path file ThreadsAlone why h = absurd (omega (arith, h))
 program_unwritten path file (Unread other) why h = elim why [ inl x ↦ x.1 | inr x ↦ x.1 ]
 program_unwritten path file NotSource why h = absurd (omega (arith, h))
 program_unwritten path file (Source refused) why h = absurd (omega (arith, h))
@@ -104,6 +106,7 @@ run_unwritten run file list NotText why h = absurd (omega (arith, h))
 run_unwritten run file list (Refused text) why h = absurd (omega (arith, h))
 run_unwritten run file list (Value text) why h = absurd (omega (arith, h))
 run_unwritten run file list TracedAndCounted why h = absurd (omega (arith, h))
+run_unwritten run file list ThreadsAlone why h = absurd (omega (arith, h))
 run_unwritten run file list (Unread path) why h = absurd (program_unwritten run.file.now file (Unread path) why h)
 run_unwritten run file list NotSource why h = absurd (omega (arith, h))
 run_unwritten run file list (Source refused) why h = absurd (omega (arith, h))
@@ -122,6 +125,7 @@ listing_unwritten file NotText why h = absurd (omega (arith, h))
 listing_unwritten file (Refused text) why h = absurd (omega (arith, h))
 listing_unwritten file (Value text) why h = absurd (omega (arith, h))
 listing_unwritten file TracedAndCounted why h = absurd (omega (arith, h))
+listing_unwritten file ThreadsAlone why h = absurd (omega (arith, h))
 listing_unwritten file (Unread path) why h = absurd why
 listing_unwritten file NotSource why h = absurd (omega (arith, h))
 listing_unwritten file (Source refused) why h = absurd (omega (arith, h))
@@ -140,6 +144,7 @@ source_unwritten file NotText why h = absurd (omega (arith, h))
 source_unwritten file (Refused text) why h = absurd (omega (arith, h))
 source_unwritten file (Value text) why h = absurd (omega (arith, h))
 source_unwritten file TracedAndCounted why h = absurd (omega (arith, h))
+source_unwritten file ThreadsAlone why h = absurd (omega (arith, h))
 source_unwritten file (Unread path) why h = why
 source_unwritten file NotSource why h = absurd (omega (arith, h))
 source_unwritten file (Source refused) why h = absurd (omega (arith, h))

@@ -20,7 +20,7 @@ use Rattle.simulate.specs.Reports.{report_of}
 use Rattle.simulate.specs.Sinks.{TookAll, TookPart, IsUntouched}
 use Rattle.simulate.specs.Traced.{IsTraceOf, IsTracedReport, IsPutFault, IsGivenApart, IsApartFault, IsGivenBefore, IsBeforeFault}
 use Rattle.simulate.specs.declared.fault.Fault.{Fault}
-use Rattle.simulate.specs.declared.fault.Fault.TheVariants.{NotText, Refused, Value, TracedAndCounted, Unread, NotSource, Source, Load, Boot, Word, NotSchedule, Schedule, Unwritten, Unmade, NoMemory}
+use Rattle.simulate.specs.declared.fault.Fault.TheVariants.{NotText, Refused, Value, TracedAndCounted, ThreadsAlone, Unread, NotSource, Source, Load, Boot, Word, NotSchedule, Schedule, Unwritten, Unmade, NoMemory}
 use Rattle.simulate.proofs.Performing.{HasEnd, HasReport, begun_end, with_caches}
 
 -- ---- what a sink took
@@ -76,6 +76,7 @@ module _ (run : Run) (file list : List ℕ) (g : Geometry) (v w : State) (addrs 
   lost_apart path a b o fa fb fo (Refused text) h = absurd h
   lost_apart path a b o fa fb fo (Value text) h = absurd h
   lost_apart path a b o fa fb fo TracedAndCounted h = absurd h
+  lost_apart path a b o fa fb fo ThreadsAlone h = absurd h
   lost_apart path a b o fa fb fo (Unread at) h = absurd h
   lost_apart path a b o fa fb fo NotSource h = absurd h
   lost_apart path a b o fa fb fo (Source refused) h = absurd h
@@ -99,6 +100,7 @@ module _ (run : Run) (file list : List ℕ) where
   not_begun_apart path a o fa fo (Refused text) why un = (why, untouched a fa, untouched o fo)
   not_begun_apart path a o fa fo (Value text) why un = (why, untouched a fa, untouched o fo)
   not_begun_apart path a o fa fo TracedAndCounted why un = (why, untouched a fa, untouched o fo)
+  not_begun_apart path a o fa fo ThreadsAlone why un = (why, untouched a fa, untouched o fo)
   not_begun_apart path a o fa fo (Unread at) why un = (why, untouched a fa, untouched o fo)
   not_begun_apart path a o fa fo NotSource why un = (why, untouched a fa, untouched o fo)
   not_begun_apart path a o fa fo (Source refused) why un = (why, untouched a fa, untouched o fo)
@@ -116,6 +118,7 @@ module _ (run : Run) (file list : List ℕ) where
   not_begun_before a fa (Refused text) why un = (why, untouched a fa)
   not_begun_before a fa (Value text) why un = (why, untouched a fa)
   not_begun_before a fa TracedAndCounted why un = (why, untouched a fa)
+  not_begun_before a fa ThreadsAlone why un = (why, untouched a fa)
   not_begun_before a fa (Unread at) why un = (why, untouched a fa)
   not_begun_before a fa NotSource why un = (why, untouched a fa)
   not_begun_before a fa (Source refused) why un = (why, untouched a fa)

@@ -19,7 +19,7 @@ use Rattle.simulate.specs.Quotes.{quotation}
 use Rattle.simulate.specs.Reports.{line_end}
 use Rattle.simulate.specs.declared.fault.Fault.{Fault}
 use Rattle.simulate.specs.declared.fault.RefusedLine.{RefusedLine}
-use Rattle.simulate.specs.declared.fault.Fault.TheVariants.{NotText, Refused, Value, TracedAndCounted, Unread, NotSource, Source, Load, Boot, Word, NotSchedule, Schedule, Unwritten, Unmade, NoMemory}
+use Rattle.simulate.specs.declared.fault.Fault.TheVariants.{NotText, Refused, Value, TracedAndCounted, ThreadsAlone, Unread, NotSource, Source, Load, Boot, Word, NotSchedule, Schedule, Unwritten, Unmade, NoMemory}
 
 -- 2 for the command line and a schedule, 3 for a file, 4 for what is in the file and for the machine that is asked for, 6 if memory ran out
 abbrev pub fault_status : Fault → ℕ
@@ -27,6 +27,7 @@ fault_status NotText = 2
 fault_status (Refused text) = 2
 fault_status (Value text) = 2
 fault_status TracedAndCounted = 2
+fault_status ThreadsAlone = 2
 fault_status (Unread file) = 3
 fault_status NotSource = 4
 fault_status (Source refused) = 4
@@ -65,6 +66,7 @@ fault_text NotText = line (codes "an argument is not text") []
 fault_text (Refused text) = concat (string_bytes text ∷ [])
 fault_text (Value text) = line (codes "value ") text.now
 fault_text TracedAndCounted = line (codes "--trace and --stats exclude each other") []
+fault_text ThreadsAlone = line (codes "--threads excludes --schedule, --trace and --stats, and --history needs --threads") []
 fault_text (Unread file) = line (codes "cannot read ") file.now
 fault_text NotSource = line (codes "source is not text") []
 fault_text (Source refused) = refused_line refused
@@ -82,6 +84,7 @@ abbrev pub of_order : OrderFault → Fault
 of_order (order.Refused text) = Refused text
 of_order (order.Value text) = Value text
 of_order order.TracedAndCounted = TracedAndCounted
+of_order order.ThreadsAlone = ThreadsAlone
 of_order order.NoMemory = NoMemory
 
 -- the fault of a file, where it is not the file's fault that memory ran out

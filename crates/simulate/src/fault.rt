@@ -35,6 +35,8 @@ pub enum Fault<'a> {
     Value(&'a str),
     /// A run is to be traced and counted.
     TracedAndCounted,
+    /// A run in threads is given a schedule, or is to be traced or counted; or the history is asked for of a run that isn't in threads.
+    ThreadsAlone,
     /// The path of a file that can't be read.
     Unread(&'a str),
     /// The source is not text.
@@ -66,7 +68,7 @@ impl<'a> Fault<'a> {
     {
         match self {
             Fault::NotText | Fault::Refused(_) | Fault::Value(_) | Fault::Word(_) => 2,
-            Fault::TracedAndCounted => 2,
+            Fault::TracedAndCounted | Fault::ThreadsAlone => 2,
             Fault::NotSchedule | Fault::Schedule(_) => 2,
             Fault::Unread(_) | Fault::Unwritten | Fault::Unmade(_) => 3,
             Fault::NotSource | Fault::Source(_) | Fault::Load(_) | Fault::Boot(_) => 4,
@@ -85,6 +87,11 @@ impl<'a> Fault<'a> {
             Fault::TracedAndCounted => put_line(
                 sink,
                 b"--trace and --stats exclude each other",
+                "",
+            ),
+            Fault::ThreadsAlone => put_line(
+                sink,
+                b"--threads excludes --schedule, --trace and --stats, and --history needs --threads",
                 "",
             ),
             Fault::Unread(file) => put_line(sink, b"cannot read ", file),
@@ -190,6 +197,7 @@ impl<'a> From<OrderFault<'a>> for Fault<'a> {
             OrderFault::Refused(text) => Fault::Refused(text),
             OrderFault::Value(text) => Fault::Value(text),
             OrderFault::TracedAndCounted => Fault::TracedAndCounted,
+            OrderFault::ThreadsAlone => Fault::ThreadsAlone,
             OrderFault::NoMemory => Fault::NoMemory,
         }
     }

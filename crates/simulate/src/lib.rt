@@ -4,14 +4,12 @@
 mod counting;
 pub mod debugging;
 mod fault;
-mod files;
 pub mod perform;
 mod quote;
-mod readable;
-mod report;
-mod source;
-mod status;
+pub mod readable;
+pub mod report;
+pub mod source;
+pub mod status;
 pub mod tracing;
 
 pub use fault::{Fault, RefusedLine};
-pub use files::answer;

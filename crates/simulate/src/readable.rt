@@ -1,3 +1,4 @@
+//! The words that a user asks to be shown.
 ghost use Rattle.std.specs.Prelude.{◌≡◌, IfOk, IfErr, OnOk};
 ghost use Rattle.flat.specs.Reads.{is_readable};
 ghost use Rattle.simulate.specs.Reports.{AllReadable};
@@ -18,7 +19,7 @@ fn is_readable<M: Engine>(machine: &M, addr: Addr) -> bool
 
 /// The addresses of some words, each of which the machine can read. A fault is the first word that it can't, or want of
 /// memory.
-pub(crate) fn readable<'a, M: Engine>(
+pub fn readable<'a, M: Engine>(
     alloc: Global,
     machine: &M,
     words: &[Word<'a>],

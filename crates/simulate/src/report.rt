@@ -1,3 +1,4 @@
+//! The report on a machine that has stopped, or was stopped.
 ghost use Rattle.std.specs.Prelude.{◌≡◌, ◌<◌, true};
 ghost use Rattle.words.specs.declared.cause.Status.TheVariants.{Stopped};
 ghost use Rattle.words.specs.declared.entry.Width.TheVariants.{Word};

@@ -54,11 +54,7 @@ fn refusal(source: &str, why: SourceFault) -> Fault<'_>
 }
 
 /// The program in a file with this name and these bytes.
-pub(crate) fn program_in<'a>(
-    alloc: Global,
-    path: &str,
-    file: &'a [u8],
-) -> Result<Program, Fault<'a>>
+pub fn program_in<'a>(alloc: Global, path: &str, file: &'a [u8]) -> Result<Program, Fault<'a>>
     ensures { MatchResult result (IsProgramIn path.now file.now) (IsProgramFault path.now file.now) }
 {
     if is_source(path) {

@@ -1,3 +1,4 @@
+//! The status that the program ends with after a report.
 ghost use Rattle.std.specs.Prelude.{◌≡◌, ◌<◌};
 ghost use Rattle.flat.specs.State.{Flat};
 ghost use Rattle.simulate.specs.Statuses.{status_for, IsStatusOf, IsReported};

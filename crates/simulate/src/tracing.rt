@@ -17,14 +17,27 @@ use machine::Machine;
 use recorder::put_trace;
 use schedule::Choice;
 use std::alloc::Global;
+use std::io::Write;
 use watch::Halt;
-use words::{Sink, SinkFault};
+use words::{Counted, Sink, SinkFault};
 
 /// A sink that may keep back what it took, as the buffer of a file does, until it is told to write it out.
 pub trait Page: Sink {
     /// Writes out what was kept back. It takes no more bytes, and fails as a put does.
     fn flush(&mut self) -> Result<(), SinkFault>
         ensures { Puts (Self.taken self.old) (Self.taken self.new) (Self.failed self.old) (Self.failed self.new) [] result };
+}
+
+impl<W: Write> Page for Counted<W> {
+    fn flush(&mut self) -> Result<(), SinkFault> {
+        match self.writer.flush() {
+            Ok(()) => Ok(()),
+            Err(_) => {
+                self.failed = self.failed.saturating_add(1);
+                Err(SinkFault)
+            }
+        }
+    }
 }
 
 /// Runs the program in a file, given the bytes of the file and those of its schedule, none where it has none. It puts the line of each entry into

@@ -1,8 +1,5 @@
 mod assembling;
-mod digits;
-mod files;
 mod hostile;
 mod large;
 mod listings;
-mod shown;
 mod vectors;

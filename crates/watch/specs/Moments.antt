@@ -1,8 +1,10 @@
 -- What each step of a run did.
 use Rattle.std.specs.Prelude.{ℕ, ◌≡◌, ◌⊎◌, ◌++◌, zero, suc, List, [], ◌∷◌, Option, Some, None, option_to_list}
-use Rattle.std.specs.List.{flat_map}
+use Rattle.std.specs.List.{flat_map, slice_index_or}
 use Rattle.words.specs.declared.entry.Entry.{Entry}
 use Rattle.words.specs.declared.entry.Step.{Step}
+use Rattle.words.specs.declared.entry.Step.TheVariants.{Deliver}
+use Rattle.network.specs.declared.net.Flight.{Flight}
 use Rattle.protocol.specs.Caches.{Geometry}
 use Rattle.machine.specs.States.{State, shown}
 use Rattle.machine.specs.Turns.{IsNextTurn, hart_after}
@@ -10,15 +12,21 @@ use Rattle.schedule.specs.declared.choices.Choice.{Choice}
 use Rattle.schedule.specs.Follows.{Makes, last_after}
 use Rattle.schedule.specs.Steps.{IsStepOf}
 
--- how many messages were sent before a step; the step; its entry, if it gave one; and the machine behind it
+-- the message that a step delivers, if one is in flight under its key
+abbrev pub arrival_of : State → Step → Option Flight
+arrival_of v (Deliver key) = slice_index_or v.flights key None
+arrival_of v other = None
+
+-- how many messages were sent before a step; the step; the message that it delivered, if one was in flight; its entry, if it gave one; and the machine behind it
 pub record Moment : Type 0 where
   pub sent : ℕ
   pub step : Step
+  pub arrival : Option Flight
   pub entry : Option Entry
   pub after : State
 
 abbrev pub moment : State → Step → Option Entry → State → Moment
-moment v step e w = record { sent = v.sent; step = step; entry = e; after = w }
+moment v step e w = record { sent = v.sent; step = step; arrival = arrival_of v step; entry = e; after = w }
 
 -- the moment of a step, if there is one
 abbrev pub moments : State → Option Step → Option Entry → State → List Moment

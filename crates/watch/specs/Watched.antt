@@ -3,6 +3,7 @@ use Rattle.std.specs.Prelude.{ℕ, ◌≡◌, ◌<◌, ◌+◌, ◌-◌, ◌++�
 use Rattle.std.specs.List.{FoldsTo}
 use Rattle.words.specs.declared.entry.Entry.{Entry}
 use Rattle.words.specs.declared.entry.Step.{Step}
+use Rattle.network.specs.declared.net.Flight.{Flight}
 use Rattle.flat.specs.State.{Flat}
 use Rattle.flat.specs.Steps.{IsRun}
 use Rattle.protocol.specs.Caches.{Geometry}
@@ -21,8 +22,8 @@ PlaysWith g choices n v ms w = FollowsBy g choices n v ((setting_of v).count - 1
     × ((f : Flat) → Belongs g f (shown g.sets v) → (h : Flat) × IsRun f (entries_of ms) h × Belongs g h (shown g.sets w))
 
 -- what a watcher says of a moment, by its parts
-abbrev pub by_parts : {L : Type 0} → (L → ℕ → Step → Option Entry → State → L → Type 0) → L → Moment → L → Type 0
-by_parts notes x m y = notes x m.sent m.step m.entry m.after y
+abbrev pub by_parts : {L : Type 0} → (L → ℕ → Step → Option Flight → Option Entry → State → L → Type 0) → L → Moment → L → Type 0
+by_parts notes x m y = notes x m.sent m.step m.arrival m.entry m.after y
 
 -- a step leads from one machine to another, and its moment, if there is a step, was noted, which led from one log to another
 abbrev pub MakesWatched : {L : Type 0} → (L → Moment → L → Type 0) → Geometry → State → Option Step → State → L → L → Type 0

@@ -3,13 +3,28 @@ ghost use Rattle.words.specs.declared.entry.Step.{Step as StepValue};
 ghost use Rattle.machine.specs.States.{geometry};
 ghost use Rattle.schedule.specs.Follows.{last_after};
 ghost use Rattle.schedule.specs.Steps.{IsStepOf};
+ghost use Rattle.watch.specs.Moments.{arrival_of};
 ghost use Rattle.watch.specs.Watched.{by_parts, MakesWatched, StopsAt, IsWatched, IsHalted};
 
 use crate::halt::Halt;
 use crate::watcher::Watcher;
 use machine::{Machine, hart_after};
+use network::Flight;
 use schedule::Choice;
 use words::{HartId, Step};
+
+/// The message that a step delivers, if one is in flight under its key.
+fn arrival<const SETS: usize, const WAYS: usize>(
+    machine: &Machine<SETS, WAYS>,
+    step: &Step,
+) -> Option<Flight>
+    ensures { result ≡ arrival_of machine.now step.now }
+{
+    match step {
+        Step::Deliver(key) => machine.flight(*key),
+        Step::Core(_) | Step::Evict(..) => None,
+    }
+}
 
 /// Makes a step, and has a watcher note what it did.
 fn show<const SETS: usize, const WAYS: usize, L, W: Watcher<Machine<SETS, WAYS>, L>>(
@@ -22,8 +37,9 @@ fn show<const SETS: usize, const WAYS: usize, L, W: Watcher<Machine<SETS, WAYS>,
         (StopsAt (by_parts (W.misses watcher.now)) (geometry SETS WAYS) machine.old (Some step) machine.new log.old log.new) }
 {
     let sent = machine.sent();
+    let arrival = arrival(machine, &step);
     let entry = machine.step(step)?;
-    Ok(watcher.note(sent, &step, &entry, machine, log)?)
+    Ok(watcher.note(sent, &step, &arrival, &entry, machine, log)?)
 }
 
 /// The same of the step that is chosen, where the last core step was a hart's. It answers whose the last core step was then.

@@ -1,42 +1,70 @@
 //! Caches of two shapes: two sets of one line, and one set of two.
 
-ghost use Rattle.std.specs.Prelude.{◌≡◌, ◌<◌, ◌/◌, ◌%◌};
-ghost use Rattle.words.specs.Bytes.{bytes_in};
-
 use cache::{Cache, Line, Victim};
 use std::process::Abort;
 use std::test::Fail;
+use table::byte_count;
 use words::{Addr, Block, BlockNo, LineState, Marks, Width};
-
-type Small = Cache<2, 1>;
-
-type Pair = Cache<1, 2>;
 
 const COUNTED: Block = [0x4433_2211; 8];
 
-fn line(number: u32, state: LineState) -> Line {
+/// A row of a test: what is done to a cache, or is to be seen of it. A block is told by its number.
+#[derive(Clone, Copy)]
+enum Row {
+    /// A block, which is absent and has room, is filled with `COUNTED` in this state, overflowed or not.
+    Fill(u32, LineState, bool),
+    /// A line, which is there, is marked as read.
+    MarkRead(u32),
+    /// A line, which is modified, is marked as written.
+    MarkWritten(u32),
+    /// A line, which is there, becomes modified.
+    Promote(u32),
+    /// A line, which is there and not marked as written, becomes shared.
+    Downgrade(u32),
+    Invalidate(u32),
+    ClearMarks,
+    /// A store to a block that is modified.
+    Store(u32, Width, u32),
+    /// Whether a block has room.
+    Room(u32, bool),
+    /// What makes way for a block.
+    MakesWay(u32, Victim),
+    /// A block's line.
+    Holds(u32, Option<Line>),
+    /// What a block's line holds.
+    Content(u32, Block),
+    /// The word at an address.
+    Word(u32, Option<u32>),
+}
+
+/// A line of `COUNTED`.
+fn marked(number: u32, state: LineState, marks: Marks) -> Line {
     Line {
         block: BlockNo::new(number),
         content: COUNTED,
         state,
-        marks: Marks::none(),
+        marks,
     }
 }
 
-/// Fills a block, which has to be absent and to have room.
+/// The same without marks.
+fn line(number: u32, state: LineState) -> Line {
+    marked(number, state, Marks::none())
+}
+
 fn fill<const SETS: usize, const WAYS: usize>(
     rt: &impl Abort,
     cache: &mut Cache<SETS, WAYS>,
     number: u32,
     state: LineState,
+    overflowed: bool,
 ) {
     let block = BlockNo::new(number);
     assert!(rt; cache.look(block).is_none());
     assert!(rt; cache.room(block));
-    cache.fill(block, COUNTED, state, false);
+    cache.fill(block, COUNTED, state, overflowed);
 }
 
-/// Marks a block's line, which has to be there, as read.
 fn mark_read<const SETS: usize, const WAYS: usize>(
     rt: &impl Abort,
     cache: &mut Cache<SETS, WAYS>,
@@ -47,160 +75,292 @@ fn mark_read<const SETS: usize, const WAYS: usize>(
     cache.mark_read(block);
 }
 
-#[test]
-fn one_way_is_full_for_its_set_alone(rt: HostRuntime) -> Result<(), Fail> {
-    let mut cache = Small::new();
-    fill(&rt, &mut cache, 256, LineState::Modified);
-    assert!(rt; cache.room(BlockNo::new(257)));
-    assert_eq!(rt; cache.victim(BlockNo::new(257)), Victim::Free);
-    assert!(rt; !cache.room(BlockNo::new(258)));
-    let modified = line(256, LineState::Modified);
-    assert_eq!(rt;
-        cache.victim(BlockNo::new(258)),
-        Victim::WriteBack(modified)
-    );
-    Ok(())
+fn mark_written<const SETS: usize, const WAYS: usize>(
+    rt: &impl Abort,
+    cache: &mut Cache<SETS, WAYS>,
+    number: u32,
+) {
+    let block = BlockNo::new(number);
+    let found = cache.look(block);
+    assert!(rt; found.is_some());
+    if let Some(line) = found {
+        match line.state {
+            LineState::Modified => cache.mark_written(block),
+            _ => assert!(rt; false, "not modified"),
+        }
+    }
 }
 
-#[test]
-fn a_victim_has_no_marks_if_one_has_none(rt: HostRuntime) -> Result<(), Fail> {
-    let mut cache = Pair::new();
-    fill(&rt, &mut cache, 1, LineState::Shared);
-    mark_read(&rt, &mut cache, 1);
-    fill(&rt, &mut cache, 2, LineState::Shared);
-    let second = line(2, LineState::Shared);
-    assert_eq!(rt; cache.victim(BlockNo::new(3)), Victim::Drop(second));
-    mark_read(&rt, &mut cache, 2);
-    let mut first = line(1, LineState::Shared);
-    first.marks.read = true;
-    assert_eq!(rt; cache.victim(BlockNo::new(3)), Victim::Drop(first));
-    Ok(())
-}
-
-#[test]
-fn an_exclusive_victim_is_written_back(rt: HostRuntime) -> Result<(), Fail> {
-    let mut cache = Small::new();
-    fill(&rt, &mut cache, 3, LineState::Exclusive);
-    let exclusive = line(3, LineState::Exclusive);
-    assert_eq!(rt; cache.victim(BlockNo::new(5)), Victim::WriteBack(exclusive));
-    Ok(())
-}
-
-#[test]
-fn a_line_fills_the_lowest_free_way(rt: HostRuntime) -> Result<(), Fail> {
-    let mut cache = Pair::new();
-    fill(&rt, &mut cache, 1, LineState::Shared);
-    fill(&rt, &mut cache, 2, LineState::Shared);
-    cache.invalidate(BlockNo::new(1));
-    assert_eq!(rt; cache.look(BlockNo::new(1)), None);
-    fill(&rt, &mut cache, 3, LineState::Shared);
-    // Without marks way 0 is the victim.
-    let third = line(3, LineState::Shared);
-    assert_eq!(rt; cache.victim(BlockNo::new(4)), Victim::Drop(third));
-    Ok(())
-}
-
-#[test]
-fn a_line_changes_its_state_and_its_marks(rt: HostRuntime) -> Result<(), Fail> {
-    let block = BlockNo::new(6);
-    let mut cache = Small::new();
-    cache.fill(block, COUNTED, LineState::Exclusive, true);
+fn promote<const SETS: usize, const WAYS: usize>(
+    rt: &impl Abort,
+    cache: &mut Cache<SETS, WAYS>,
+    number: u32,
+) {
+    let block = BlockNo::new(number);
+    assert!(rt; cache.look(block).is_some());
     cache.promote(block);
-    cache.mark_written(block);
-    mark_read(&rt, &mut cache, 6);
-    let mut marked = line(6, LineState::Modified);
-    marked.marks = Marks {
+}
+
+fn downgrade<const SETS: usize, const WAYS: usize>(
+    rt: &impl Abort,
+    cache: &mut Cache<SETS, WAYS>,
+    number: u32,
+) {
+    let block = BlockNo::new(number);
+    let found = cache.look(block);
+    assert!(rt; found.is_some());
+    if let Some(line) = found {
+        assert!(rt; !line.marks.written);
+        cache.downgrade(block);
+    }
+}
+
+fn store<const SETS: usize, const WAYS: usize>(
+    rt: &impl Abort,
+    cache: &mut Cache<SETS, WAYS>,
+    addr: Addr,
+    width: Width,
+    value: u32,
+) {
+    assert!(rt; addr.value() % byte_count(width) == 0);
+    let found = cache.look(addr.block());
+    assert!(rt; found.is_some());
+    if let Some(line) = found {
+        match line.state {
+            LineState::Modified => cache.write_bytes(addr, width, value),
+            _ => assert!(rt; false, "not modified"),
+        }
+    }
+}
+
+fn check_room<const SETS: usize, const WAYS: usize>(
+    rt: &impl Abort,
+    cache: &Cache<SETS, WAYS>,
+    number: u32,
+    want: bool,
+) {
+    assert_eq!(rt; cache.room(BlockNo::new(number)), want);
+}
+
+fn check_victim<const SETS: usize, const WAYS: usize>(
+    rt: &impl Abort,
+    cache: &Cache<SETS, WAYS>,
+    number: u32,
+    want: Victim,
+) {
+    assert_eq!(rt; cache.victim(BlockNo::new(number)), want);
+}
+
+fn found<const SETS: usize, const WAYS: usize>(
+    cache: &Cache<SETS, WAYS>,
+    number: u32,
+) -> Option<Line> {
+    cache.look(BlockNo::new(number))
+}
+
+fn check_content(rt: &impl Abort, line: Option<Line>, want: Block) {
+    assert_eq!(rt; line.map(|line| line.content), Some(want));
+}
+
+fn check_word<const SETS: usize, const WAYS: usize>(
+    rt: &impl Abort,
+    cache: &Cache<SETS, WAYS>,
+    addr: u32,
+    want: Option<u32>,
+) {
+    assert_eq!(rt; cache.read_word(Addr::new(addr)), want);
+}
+
+/// What is done by a row; whether it is one that does something.
+fn act<const SETS: usize, const WAYS: usize>(
+    rt: &impl Abort,
+    cache: &mut Cache<SETS, WAYS>,
+    row: &Row,
+) -> bool {
+    match *row {
+        Row::Fill(number, state, overflowed) => fill(rt, cache, number, state, overflowed),
+        Row::MarkRead(number) => mark_read(rt, cache, number),
+        Row::MarkWritten(number) => mark_written(rt, cache, number),
+        Row::Promote(number) => promote(rt, cache, number),
+        Row::Downgrade(number) => downgrade(rt, cache, number),
+        Row::Invalidate(number) => cache.invalidate(BlockNo::new(number)),
+        Row::ClearMarks => cache.clear_marks(),
+        Row::Store(addr, width, value) => store(rt, cache, Addr::new(addr), width, value),
+        _ => return false,
+    }
+    true
+}
+
+/// That what a row says is to be seen; whether it is one that says something.
+fn see<const SETS: usize, const WAYS: usize>(
+    rt: &impl Abort,
+    cache: &Cache<SETS, WAYS>,
+    row: &Row,
+) -> bool {
+    match *row {
+        Row::Room(number, want) => check_room(rt, cache, number, want),
+        Row::MakesWay(number, want) => check_victim(rt, cache, number, want),
+        Row::Holds(number, want) => assert_eq!(rt; found(cache, number), want),
+        Row::Content(number, want) => check_content(rt, found(cache, number), want),
+        Row::Word(addr, want) => check_word(rt, cache, addr, want),
+        _ => return false,
+    }
+    true
+}
+
+/// That each row comes true in order.
+fn check<const SETS: usize, const WAYS: usize>(
+    rt: &impl Abort,
+    cache: &mut Cache<SETS, WAYS>,
+    rows: &[Row],
+) {
+    for row in rows {
+        let known = act(rt, cache, row) || see(rt, cache, row);
+        assert!(rt; known);
+    }
+}
+
+/// The same from an empty cache of two sets of one line on.
+fn check_small(rt: &impl Abort, rows: &[Row]) {
+    check(rt, &mut Cache::<2, 1>::new(), rows);
+}
+
+/// The same with one set of two lines.
+fn check_pair(rt: &impl Abort, rows: &[Row]) {
+    check(rt, &mut Cache::<1, 2>::new(), rows);
+}
+
+#[test]
+fn one_way_is_full_for_its_set_alone(rt: HostRuntime) {
+    let modified = line(256, LineState::Modified);
+    let rows = [
+        Row::Fill(256, LineState::Modified, false),
+        Row::Room(257, true),
+        Row::MakesWay(257, Victim::Free),
+        Row::Room(258, false),
+        Row::MakesWay(258, Victim::WriteBack(modified)),
+    ];
+    check_small(&rt, &rows);
+}
+
+#[test]
+fn a_victim_has_no_marks_if_one_has_none(rt: HostRuntime) {
+    let read = Marks {
+        read: true,
+        ..Marks::none()
+    };
+    let first = marked(1, LineState::Shared, read);
+    let second = line(2, LineState::Shared);
+    let rows = [
+        Row::Fill(1, LineState::Shared, false),
+        Row::MarkRead(1),
+        Row::Fill(2, LineState::Shared, false),
+        Row::MakesWay(3, Victim::Drop(second)),
+        Row::MarkRead(2),
+        Row::MakesWay(3, Victim::Drop(first)),
+    ];
+    check_pair(&rt, &rows);
+}
+
+#[test]
+fn an_exclusive_victim_is_written_back(rt: HostRuntime) {
+    let exclusive = line(3, LineState::Exclusive);
+    let rows = [
+        Row::Fill(3, LineState::Exclusive, false),
+        Row::MakesWay(5, Victim::WriteBack(exclusive)),
+    ];
+    check_small(&rt, &rows);
+}
+
+#[test]
+fn a_line_fills_the_lowest_free_way(rt: HostRuntime) {
+    let third = line(3, LineState::Shared);
+    let rows = [
+        Row::Fill(1, LineState::Shared, false),
+        Row::Fill(2, LineState::Shared, false),
+        Row::Invalidate(1),
+        Row::Holds(1, None),
+        Row::Fill(3, LineState::Shared, false),
+        // Without marks way 0 is the victim.
+        Row::MakesWay(4, Victim::Drop(third)),
+    ];
+    check_pair(&rt, &rows);
+}
+
+#[test]
+fn a_line_changes_its_state_and_its_marks(rt: HostRuntime) {
+    let all = Marks {
         read: true,
         written: true,
         overflowed: true,
     };
-    assert_eq!(rt; cache.look(block), Some(marked));
-    cache.clear_marks();
-    let clear = line(6, LineState::Modified);
-    let found = cache.look(block);
-    assert_eq!(rt; found, Some(clear));
-    let Some(now) = found else {
-        return Ok(());
-    };
-    assert!(rt; !now.marks.written);
-    cache.downgrade(block);
-    let shared = line(6, LineState::Shared);
-    assert_eq!(rt; cache.look(block), Some(shared));
-    Ok(())
-}
-
-/// What block 257 holds after a store.
-fn stored(addr: u32, width: Width, value: u32) -> Option<Block>
-    requires block { addr / 32 ≡ 257 }
-    requires aligned { addr % bytes_in width ≡ 0 }
-{
-    let mut cache = Small::new();
-    cache.fill(BlockNo::new(257), COUNTED, LineState::Modified, false);
-    cache.write_bytes(Addr::new(addr), width, value);
-    cache.look(BlockNo::new(257)).map(|line| line.content)
+    let rows = [
+        Row::Fill(6, LineState::Exclusive, true),
+        Row::Promote(6),
+        Row::MarkWritten(6),
+        Row::MarkRead(6),
+        Row::Holds(6, Some(marked(6, LineState::Modified, all))),
+        Row::ClearMarks,
+        Row::Holds(6, Some(line(6, LineState::Modified))),
+        Row::Downgrade(6),
+        Row::Holds(6, Some(line(6, LineState::Shared))),
+    ];
+    check_small(&rt, &rows);
 }
 
 /// The block with this in place of a word.
-fn counted_but(place: usize, word: u32) -> Option<Block>
-    requires { place < 8 }
-{
+fn counted_but(place: usize, word: u32) -> Block {
     let mut block = COUNTED;
-    block[place] = word;
-    Some(block)
+    if let Some(old) = block.get_mut(place) {
+        *old = word;
+    }
+    block
 }
 
 #[test]
-fn a_store_writes_its_bytes_alone(rt: HostRuntime) -> Result<(), Fail> {
-    let value = 0xddcc_bbaa;
-    assert_eq!(rt;
-        stored(0x2020, Width::Byte, value),
-        counted_but(0, 0x4433_22aa)
-    );
-    assert_eq!(rt;
-        stored(0x2025, Width::Byte, value),
-        counted_but(1, 0x4433_aa11)
-    );
-    assert_eq!(rt;
-        stored(0x203a, Width::Byte, value),
-        counted_but(6, 0x44aa_2211)
-    );
-    assert_eq!(rt;
-        stored(0x203f, Width::Byte, value),
-        counted_but(7, 0xaa33_2211)
-    );
-    assert_eq!(rt;
-        stored(0x2028, Width::Half, value),
-        counted_but(2, 0x4433_bbaa)
-    );
-    assert_eq!(rt;
-        stored(0x202e, Width::Half, value),
-        counted_but(3, 0xbbaa_2211)
-    );
-    assert_eq!(rt;
-        stored(0x2034, Width::Word, value),
-        counted_but(5, 0xddcc_bbaa)
-    );
-    Ok(())
+fn a_store_writes_its_bytes_alone(rt: HostRuntime) {
+    for (addr, width, place, word) in [
+        (0x2020, Width::Byte, 0, 0x4433_22aa),
+        (0x2025, Width::Byte, 1, 0x4433_aa11),
+        (0x203a, Width::Byte, 6, 0x44aa_2211),
+        (0x203f, Width::Byte, 7, 0xaa33_2211),
+        (0x2028, Width::Half, 2, 0x4433_bbaa),
+        (0x202e, Width::Half, 3, 0xbbaa_2211),
+        (0x2034, Width::Word, 5, 0xddcc_bbaa),
+    ] {
+        let rows = [
+            Row::Fill(257, LineState::Modified, false),
+            Row::Store(addr, width, 0xddcc_bbaa),
+            Row::Content(257, counted_but(place, word)),
+        ];
+        check_small(&rt, &rows);
+    }
 }
 
 #[test]
-fn a_word_is_read_where_it_was_stored(rt: HostRuntime) -> Result<(), Fail> {
-    let mut cache = Small::new();
-    assert_eq!(rt; cache.read_word(Addr::new(0x2024)), None);
-    cache.fill(BlockNo::new(257), COUNTED, LineState::Modified, false);
-    cache.write_bytes(Addr::new(0x2024), Width::Word, 7);
-    assert_eq!(rt; cache.read_word(Addr::new(0x2024)), Some(7));
-    assert_eq!(rt; cache.read_word(Addr::new(0x2028)), Some(0x4433_2211));
-    Ok(())
+fn a_word_is_read_where_it_was_stored(rt: HostRuntime) {
+    let rows = [
+        Row::Word(0x2024, None),
+        Row::Fill(257, LineState::Modified, false),
+        Row::Store(0x2024, Width::Word, 7),
+        Row::Word(0x2024, Some(7)),
+        Row::Word(0x2028, Some(0x4433_2211)),
+    ];
+    check_small(&rt, &rows);
+}
+
+/// Whether two caches are one in all that they keep.
+fn check_same(rt: &impl Abort, cache: &Cache<1, 2>, other: &Cache<1, 2>, want: bool) {
+    assert_eq!(rt; cache.same(other), want);
 }
 
 #[test]
 fn caches_are_compared_line_by_line(rt: HostRuntime) -> Result<(), Fail> {
-    let mut cache = Pair::new();
-    fill(&rt, &mut cache, 1, LineState::Shared);
+    let mut cache = Cache::<1, 2>::new();
+    check(&rt, &mut cache, &[Row::Fill(1, LineState::Shared, false)]);
     let mut other = cache;
-    assert!(rt; other.same(&cache));
-    mark_read(&rt, &mut other, 1);
-    assert!(rt; !other.same(&cache));
+    check_same(&rt, &other, &cache, true);
+    check(&rt, &mut other, &[Row::MarkRead(1)]);
+    check_same(&rt, &other, &cache, false);
     Ok(())
 }

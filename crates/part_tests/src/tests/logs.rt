@@ -1,4 +1,4 @@
-//! Undo logs: their records, and the bytes that these stand in.
+//! Undo logs: their records, and the bytes that these stand in. The calls say nothing of what they answer, so that no test's proof has to carry it.
 
 use std::process::Abort;
 use std::test::Fail;
@@ -11,55 +11,113 @@ fn block_of(first: u32) -> Block {
     [first, 0, 0, 0, 0, 0, 0, 0]
 }
 
+fn empty() -> UndoLog {
+    UndoLog::new(Addr::new(BASE))
+}
+
+/// The record of a block, whose content began with a word before.
+fn check_appended(
+    rt: &impl Abort,
+    log: &mut UndoLog,
+    number: u32,
+    first: u32,
+    want: Result<(), LogFull>,
+) {
+    assert!(rt; number < 4096);
+    assert_eq!(rt; log.append(BlockNo::new(number), &block_of(first)), want);
+}
+
 /// A log with two records of one block, whose first words are 0 and 7.
 fn stored_twice(rt: &impl Abort) -> UndoLog {
-    let mut log = UndoLog::new(Addr::new(BASE));
-    let block = BlockNo::new(256);
-    assert_eq!(rt; log.append(block, &block_of(0)), Ok(()));
-    assert_eq!(rt; log.append(block, &block_of(7)), Ok(()));
+    let mut log = empty();
+    check_appended(rt, &mut log, 256, 0, Ok(()));
+    check_appended(rt, &mut log, 256, 7, Ok(()));
     log
+}
+
+/// How many records there are, of the 113 that fill a log.
+fn check_len(rt: &impl Abort, log: &UndoLog, want: usize) {
+    assert_eq!(rt; log.len(), want);
+    assert_eq!(rt; (log.is_empty(), log.is_full()), (want == 0, want == 113));
+}
+
+/// The first word of what a block goes back to, which begins with 9 now.
+fn check_restored(rt: &impl Abort, log: &UndoLog, number: u32, want: u32) {
+    assert_eq!(rt;
+        log.restored(BlockNo::new(number), block_of(9)),
+        block_of(want)
+    );
+}
+
+fn check_held(rt: &impl Abort, log: &UndoLog, number: u32, want: bool) {
+    assert_eq!(rt; log.holds(BlockNo::new(number)), want);
+}
+
+/// The newest record is that of block 256, whose content began with a word before. It is taken off.
+fn check_popped(rt: &impl Abort, log: &mut UndoLog, first: u32) {
+    assert!(rt; log.len() > 0);
+    let record = Record {
+        block: BlockNo::new(256),
+        before: block_of(first),
+    };
+    assert_eq!(rt; log.newest(), record);
+    log.pop();
+}
+
+fn check_word(rt: &impl Abort, log: &UndoLog, addr: u32, want: Option<u32>) {
+    assert_eq!(rt; log.word(Addr::new(addr)), want, "at {addr}");
+}
+
+fn check_words(rt: &impl Abort, log: &UndoLog, words: &[(u32, Option<u32>)]) {
+    for (addr, want) in words {
+        check_word(rt, log, *addr, *want);
+    }
+}
+
+fn check_same(rt: &impl Abort, log: &UndoLog, other: &UndoLog, want: bool) {
+    assert_eq!(rt; log.same(other), want);
+}
+
+fn reset(log: &mut UndoLog) {
+    log.reset();
 }
 
 #[test]
 fn holds_113_records(rt: HostRuntime) {
-    let mut log = UndoLog::new(Addr::new(BASE));
+    let mut log = empty();
     for number in 0..113 {
-        assert_eq!(rt; log.append(BlockNo::new(number), &block_of(number)), Ok(()));
+        check_appended(&rt, &mut log, number, number, Ok(()));
     }
-    assert!(rt; log.is_full());
+    check_len(&rt, &log, 113);
     let before = log;
-    assert_eq!(rt; log.append(BlockNo::new(0), &block_of(9)), Err(LogFull));
-    assert!(rt; log.same(&before));
-    assert_eq!(rt; log.len(), 113);
-    assert_eq!(rt; log.restored(BlockNo::new(112), block_of(5)), block_of(112));
+    check_appended(&rt, &mut log, 0, 9, Err(LogFull));
+    check_same(&rt, &log, &before, true);
+    check_len(&rt, &log, 113);
+    check_restored(&rt, &log, 112, 112);
 }
 
 #[test]
 fn bytes_stand_where_they_should(rt: HostRuntime) {
-    let mut log = UndoLog::new(Addr::new(BASE));
-    assert_eq!(rt; log.append(BlockNo::new(256), &block_of(0)), Ok(()));
-    assert_eq!(rt; log.word(Addr::new(BASE)), Some(0x2000));
+    let mut log = empty();
+    check_appended(&rt, &mut log, 256, 0, Ok(()));
+    check_word(&rt, &log, BASE, Some(0x2000));
     for k in 1..9 {
-        assert_eq!(rt; log.word(Addr::new(BASE + 4 * k)), Some(0), "word {k}");
+        check_word(&rt, &log, BASE + 4 * k, Some(0));
     }
     let mut log = stored_twice(&rt);
     let words = [
-        (0xff000, 0x2000),
-        (0xff004, 0),
-        (0xff024, 0x2000),
-        (0xff028, 7),
+        (0xff000, Some(0x2000)),
+        (0xff004, Some(0)),
+        (0xff024, Some(0x2000)),
+        (0xff028, Some(7)),
     ];
-    for (addr, word) in words {
-        assert_eq!(rt; log.word(Addr::new(addr)), Some(word), "at {addr}");
-    }
-    assert!(rt; !log.is_empty());
-    log.pop();
-    for (addr, word) in words {
-        assert_eq!(rt; log.word(Addr::new(addr)), Some(word), "popped, at {addr}");
-    }
-    log.reset();
-    assert!(rt; log.is_empty());
-    assert_eq!(rt; log.word(Addr::new(0xff028)), Some(7));
+    check_words(&rt, &log, &words);
+    check_len(&rt, &log, 2);
+    check_popped(&rt, &mut log, 7);
+    check_words(&rt, &log, &words);
+    reset(&mut log);
+    check_len(&rt, &log, 0);
+    check_word(&rt, &log, 0xff028, Some(7));
 }
 
 #[test]
@@ -71,47 +129,32 @@ fn words_are_within_the_log(rt: HostRuntime) {
         (0xffffc, Some(0)),
         (0x100000, None),
     ];
-    for (addr, word) in words {
-        assert_eq!(rt; log.word(Addr::new(addr)), word, "at {addr}");
-    }
+    check_words(&rt, &log, &words);
 }
 
 #[test]
 fn the_oldest_image_is_restored(rt: HostRuntime) {
     let mut log = stored_twice(&rt);
-    let block = BlockNo::new(256);
-    let other = BlockNo::new(257);
-    assert_eq!(rt; log.restored(block, block_of(9)), block_of(0));
-    assert_eq!(rt; log.restored(other, block_of(9)), block_of(9));
-    assert!(rt; log.holds(block) && !log.holds(other));
-    assert!(rt; log.len() == 2);
-    assert_eq!(rt;
-        log.newest(),
-        Record {
-            block,
-            before: block_of(7)
-        }
-    );
-    log.pop();
-    assert_eq!(rt;
-        log.newest(),
-        Record {
-            block,
-            before: block_of(0)
-        }
-    );
-    log.pop();
-    assert!(rt; !log.holds(block));
+    check_restored(&rt, &log, 256, 0);
+    check_restored(&rt, &log, 257, 9);
+    check_held(&rt, &log, 256, true);
+    check_held(&rt, &log, 257, false);
+    check_len(&rt, &log, 2);
+    check_popped(&rt, &mut log, 7);
+    check_popped(&rt, &mut log, 0);
+    check_held(&rt, &log, 256, false);
 }
 
 #[test]
 fn other_bytes_are_another_log(rt: HostRuntime) -> Result<(), Fail> {
     let mut log = stored_twice(&rt);
-    let mut fresh = UndoLog::new(Addr::new(BASE));
-    log.reset();
-    assert!(rt; log.len() == fresh.len() && !log.same(&fresh));
+    let mut fresh = empty();
+    reset(&mut log);
+    check_len(&rt, &log, 0);
+    check_len(&rt, &fresh, 0);
+    check_same(&rt, &log, &fresh, false);
     fresh = log;
-    assert!(rt; log.same(&fresh));
+    check_same(&rt, &log, &fresh, true);
     assert_eq!(rt;
         LogFull.to_string(rt.alloc())?.as_str(),
         "the undo log is full"

@@ -1,9 +1,12 @@
-//! Messages in flight, by key and by age.
+//! Messages in flight, by key and by age. The calls say nothing of what they answer, so that no test's proof has to carry it.
 
 use network::Net;
+use std::alloc::{AllocError, Global};
+use std::process::Abort;
 use std::test::Fail;
 use words::{BlockNo, HartId, Message};
 
+/// The message that is told by a block's number.
 fn ack(block: u32) -> Message {
     Message::PutAck {
         to: HartId::new(1),
@@ -18,73 +21,111 @@ fn block_of(message: &Message) -> u32 {
     }
 }
 
-fn fill(net: &mut Net) -> usize {
-    let mut last = 0;
-    for block in 1..4 {
-        if net.room() > 0 {
-            last = net.send(ack(block));
-        }
-    }
-    last
+/// A message is sent, for which there is room: its key.
+fn send(rt: &impl Abort, net: &mut Net, block: u32) -> usize {
+    assert!(rt; net.room() > 0);
+    net.send(ack(block))
+}
+
+/// A network, and the keys of its three messages, which are told by 1, 2 and 3.
+fn with_three(rt: &impl Abort, alloc: Global) -> Result<(Net, [usize; 3]), AllocError> {
+    let mut net = Net::new(alloc);
+    assert_eq!(rt; net.room(), 0);
+    net.reserve(3)?;
+    let first = send(rt, &mut net, 1);
+    let second = send(rt, &mut net, 2);
+    let third = send(rt, &mut net, 3);
+    Ok((net, [first, second, third]))
+}
+
+fn check_message(rt: &impl Abort, net: &Net, key: usize, want: Option<Message>) {
+    assert_eq!(rt; net.get(key), want);
+}
+
+fn oldest(net: &Net) -> Option<usize> {
+    net.oldest(|_| true)
+}
+
+fn check_oldest(rt: &impl Abort, net: &Net, want: usize) {
+    assert_eq!(rt; oldest(net), Some(want));
+}
+
+/// The key of the oldest message that is told by a number above this one.
+fn oldest_above(net: &Net, least: u32) -> Option<usize> {
+    net.oldest(|message| block_of(message) > least)
+}
+
+fn check_oldest_above(rt: &impl Abort, net: &Net, least: u32, want: Option<usize>) {
+    assert_eq!(rt; oldest_above(net, least), want);
+}
+
+/// That this message is the one under a key, and is taken out.
+fn check_taken(rt: &impl Abort, net: &mut Net, key: usize, want: Option<Message>) {
+    assert_eq!(rt; net.take(key), want);
+}
+
+fn next_after(net: &Net, key: Option<usize>) -> Option<usize> {
+    net.next_after(key)
+}
+
+fn check_next(rt: &impl Abort, net: &Net, key: Option<usize>, want: Option<usize>) {
+    assert_eq!(rt; next_after(net, key), want);
+}
+
+fn check_key(rt: &impl Abort, key: usize, want: usize) {
+    assert_eq!(rt; key, want);
 }
 
 #[test]
 fn messages_keep_their_order(rt: HostRuntime) -> Result<(), Fail> {
-    let mut net = Net::new(rt.alloc());
-    assert_eq!(rt; net.room(), 0);
-    net.reserve(3)?;
-    let third = fill(&mut net);
-    assert_eq!(rt; net.get(third), Some(ack(3)));
-    assert_eq!(rt; net.get(100), None);
-    let first = net.oldest(|_| true).ok_or("none")?;
-    assert_eq!(rt; net.take(first), Some(ack(1)));
-    assert_eq!(rt; net.take(first), None);
+    let (mut net, [first, second, third]) = with_three(&rt, rt.alloc())?;
+    check_message(&rt, &net, third, Some(ack(3)));
+    check_message(&rt, &net, 100, None);
+    check_oldest(&rt, &net, first);
+    check_taken(&rt, &mut net, first, Some(ack(1)));
+    check_taken(&rt, &mut net, first, None);
     // The free key is taken again, by a message that is the last all the same.
-    assert!(rt; net.room() > 0);
-    let fourth = net.send(ack(4));
-    assert_eq!(rt; fourth, first);
-    let second = net.oldest(|_| true).ok_or("none")?;
-    assert_eq!(rt; net.get(second), Some(ack(2)));
-    assert_eq!(rt; net.oldest(|m| block_of(m) > 3), Some(fourth));
-    assert_eq!(rt; net.oldest(|m| block_of(m) > 4), None);
+    let fourth = send(&rt, &mut net, 4);
+    check_key(&rt, fourth, first);
+    check_oldest(&rt, &net, second);
+    check_message(&rt, &net, second, Some(ack(2)));
+    check_oldest_above(&rt, &net, 3, Some(fourth));
+    check_oldest_above(&rt, &net, 4, None);
     Ok(())
+}
+
+/// That so much room isn't given.
+fn check_refused(rt: &impl Abort, net: &mut Net, count: usize) {
+    assert!(rt; net.reserve(count).is_err());
 }
 
 #[test]
 fn a_refused_growth_loses_nothing(rt: HostRuntime) -> Result<(), Fail> {
-    let mut net = Net::new(rt.alloc());
-    net.reserve(3)?;
-    let third = fill(&mut net);
-    assert!(rt; net.reserve(usize::MAX / 2).is_err());
-    assert_eq!(rt; net.get(third), Some(ack(3)));
-    let first = net.oldest(|_| true).ok_or("none")?;
-    assert_eq!(rt; net.get(first), Some(ack(1)));
+    let (mut net, [first, _, third]) = with_three(&rt, rt.alloc())?;
+    check_refused(&rt, &mut net, usize::MAX / 2);
+    check_message(&rt, &net, third, Some(ack(3)));
+    check_oldest(&rt, &net, first);
+    check_message(&rt, &net, first, Some(ack(1)));
     Ok(())
 }
 
 #[test]
 fn messages_come_by_age(rt: HostRuntime) -> Result<(), Fail> {
-    let mut net = Net::new(rt.alloc());
-    assert_eq!(rt; net.next_after(None), None);
-    net.reserve(3)?;
-    fill(&mut net);
-    let first = net.next_after(None).ok_or("none")?;
-    net.take(first);
-    assert!(rt; net.room() > 0);
-    let fourth = net.send(ack(4));
+    check_next(&rt, &Net::new(rt.alloc()), None, None);
+    let (mut net, [first, second, third]) = with_three(&rt, rt.alloc())?;
+    check_next(&rt, &net, None, Some(first));
+    check_taken(&rt, &mut net, first, Some(ack(1)));
+    let fourth = send(&rt, &mut net, 4);
     // The key of the first message is taken again.
-    assert_eq!(rt; fourth, first);
-    let mut blocks = [0; 3];
-    let mut last = None;
-    for k in 0..3 {
-        last = net.next_after(last);
-        if let Some(message) = net.get(last.ok_or("none")?) {
-            blocks[k] = block_of(&message);
-        }
-    }
-    assert_eq!(rt; blocks, [2, 3, 4]);
-    assert_eq!(rt; net.next_after(last), None);
+    check_key(&rt, fourth, first);
+    check_next(&rt, &net, None, Some(second));
+    check_next(&rt, &net, Some(second), Some(third));
+    check_next(&rt, &net, Some(third), Some(fourth));
+    check_next(&rt, &net, Some(fourth), None);
+    check_message(&rt, &net, second, Some(ack(2)));
+    check_message(&rt, &net, third, Some(ack(3)));
+    check_message(&rt, &net, fourth, Some(ack(4)));
     // After a key with nothing under it comes the oldest message.
-    assert_eq!(rt; net.next_after(Some(100)), net.next_after(None));
+    check_next(&rt, &net, Some(100), Some(second));
     Ok(())
 }

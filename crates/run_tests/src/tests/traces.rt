@@ -1,12 +1,13 @@
 //! The trace of a program that stores 7 to 0x2000 in a transaction, and exits.
 use super::booted::booted;
+use super::refusing::Refusing;
 use elf_samples::COMMITS;
 use recorder::put_trace;
 use schedule::Choice;
 use std::alloc::Global;
 use std::test::Fail;
 use watch::Halt;
-use words::{HartId, Sink, SinkFault, Taken};
+use words::{HartId, Sink, Taken};
 
 const TRACE: &str = "0 0x00001000 00000a0b tbegin 20\n\
     0 0x00001004 000022b7 lui t0, 0x2 | t0=0x00002000\n\
@@ -38,30 +39,6 @@ fn each_entry_has_its_line(rt: HostRuntime) -> Result<(), Fail> {
         }
     }
     Ok(())
-}
-
-/// Takes so many puts, and refuses the others.
-#[derive(Drop)]
-struct Refusing {
-    left: u32,
-    failed: u64,
-}
-
-impl Sink for Refusing {
-    ghost use Rattle.std.specs.Prelude.{None};
-
-    ghost failed = { λ r. r.failed };
-
-    ghost taken = { λ _. None };
-
-    fn put(&mut self, _bytes: &[u8]) -> Result<(), SinkFault> {
-        if self.left == 0 {
-            self.failed = self.failed.saturating_add(1);
-            return Err(SinkFault);
-        }
-        self.left -= 1;
-        Ok(())
-    }
 }
 
 #[test]

@@ -3,6 +3,7 @@ ghost use Rattle.std.specs.Prelude.{⊤};
 
 use super::booted::booted;
 use elf_samples::COMMITS;
+use network::Flight;
 use schedule::Choice;
 use std::alloc::Global;
 use std::test::Fail;
@@ -19,14 +20,15 @@ struct Words {
 struct Collector;
 
 impl<M> Watcher<M, Words> for Collector {
-    ghost notes = { λ _ _ _ _ _ _ _. ⊤ };
+    ghost notes = { λ _ _ _ _ _ _ _ _. ⊤ };
 
-    ghost misses = { λ _ _ _ _ _ _ _. ⊤ };
+    ghost misses = { λ _ _ _ _ _ _ _ _. ⊤ };
 
     fn note(
         &self,
         _sent: u64,
         _step: &Step,
+        _arrival: &Option<Flight>,
         entry: &Option<Entry>,
         _machine: &M,
         log: &mut Words,

@@ -1,40 +1,11 @@
 //! Programs that are played by hand, with a file, an input or an output that fails.
-use super::taken;
-use command_line::{Debug, Request, parse};
-use console::Typed;
-use elf_samples::{Breaking, COMMITS, elf_file};
-use simulate::debugging::play;
-use std::alloc::Global;
-use std::io;
-use std::io::{ErrorKind, Read};
+use super::calls::{debug_of, file_of, input_of, played};
+use super::checks::check_told;
+use super::paper::Paper;
+use command_line::Debug;
+use elf_samples::COMMITS;
 use std::process::Abort;
 use std::test::Fail;
-
-/// A reader that gives so many bytes and then fails.
-#[derive(Drop)]
-struct Torn<'a> {
-    bytes: &'a [u8],
-    given: usize,
-}
-
-impl Read for Torn<'_> {
-    fn read(&mut self, buf: &mut [u8]) -> io::Result<usize> {
-        if self.given >= self.bytes.len() || buf.is_empty() {
-            return Err(io::Error::from(ErrorKind::BrokenPipe));
-        }
-        buf[0] = self.bytes[self.given];
-        self.given += 1;
-        Ok(1)
-    }
-}
-
-/// What the words ask to be played by hand.
-fn debug_of(alloc: Global, words: &'static [&'static str]) -> Option<Debug<'static>> {
-    match parse(alloc, words) {
-        Ok(Request::Debug(debug)) => Some(debug),
-        _ => None,
-    }
-}
 
 static WORDS: [&str; 5] = ["logtm", "debug", "f", "--memory", "65536"];
 
@@ -45,153 +16,114 @@ const TOLD: &str = "0 0x00001000 00000a0b tbegin 20\n\
     refused 2 NoHart\n\
     0 0x00001008 00700313 addi t1, zero, 7 | t1=0x00000007\n";
 
-// That a session of these lines, with so many puts of each kind, ends so.
+const UNREAD: &str = "logtm: cannot read standard input\n";
+
+const UNWRITTEN: &str = "logtm: cannot write standard output\n";
+
+/// That a session, with so many puts of each kind, is whole or ends since a put failed; the status is its own.
 fn check_cut(
     rt: &(impl Abort + AllocGlobal),
     debug: &Debug<'_>,
     file: &[u8],
     puts: u32,
     prompts: u32,
-) -> Result<u8, Fail> {
-    let mut input = Typed {
-        bytes: TYPED.bytes(),
-        failed: 0,
-    };
-    let mut out = Breaking::new(rt.alloc(), puts);
-    let mut error = Breaking::new(rt.alloc(), prompts);
-    let status = play(
-        rt.alloc(),
-        debug,
-        file,
-        &mut input,
-        "? ",
-        &mut out,
-        &mut error,
+) -> u8 {
+    let mut input = input_of(TYPED, false);
+    let (out, error) = (
+        Paper::new(rt.alloc(), puts),
+        Paper::new(rt.alloc(), prompts),
     );
-    assert!(rt; TOLD.as_bytes().starts_with(&out.bytes));
-    if status == 0 {
-        assert_eq!(rt; out.bytes.as_slice(), TOLD.as_bytes());
-        assert_eq!(rt; error.bytes.as_slice(), b"? ? ? ? ? ".as_slice());
-        assert_eq!(rt; (out.failed, error.failed), (0, 0));
+    let told = played(rt.alloc(), debug, file, &mut input, "? ", out, error);
+    assert!(rt; TOLD.as_bytes().starts_with(&told.out.bytes));
+    if told.status == 0 {
+        check_told(rt, &told, 0, TOLD, "? ? ? ? ? ");
+        assert_eq!(rt; (told.out.failed, told.error.failed), (0, 0));
     } else {
-        assert_eq!(rt; status, 3);
-        assert!(rt; out.failed > 0 || error.failed > 0);
+        assert_eq!(rt; told.status, 3);
+        assert!(rt; told.out.failed > 0 || told.error.failed > 0);
     }
-    Ok(status)
+    told.status
 }
 
 #[test]
 fn each_put_of_a_session_is_refused(rt: HostRuntime) -> Result<(), Fail> {
-    let file = elf_file(rt.alloc(), &COMMITS)?;
+    let file = file_of(rt.alloc(), &COMMITS)?;
     let debug = debug_of(rt.alloc(), WORDS.as_slice()).ok_or("a debug")?;
     let mut whole = false;
     for puts in 0..60 {
-        let status = check_cut(&rt, &debug, &file, puts, 100)?;
+        let status = check_cut(&rt, &debug, &file, puts, 100);
         // Once the puts are enough, more of them are too.
         assert!(rt; !whole || status == 0);
         whole = status == 0;
     }
     assert!(rt; whole);
     for prompts in 0..5 {
-        assert_eq!(rt; check_cut(&rt, &debug, &file, 100, prompts)?, 3);
+        assert_eq!(rt; check_cut(&rt, &debug, &file, 100, prompts), 3);
     }
-    assert_eq!(rt; check_cut(&rt, &debug, &file, 100, 5)?, 0);
+    assert_eq!(rt; check_cut(&rt, &debug, &file, 100, 5), 0);
+    Ok(())
+}
+
+/// That a session without prompts ends with status 3 and these texts, where the input ends or fails, and so many puts are taken.
+fn check_end(
+    rt: &(impl Abort + AllocGlobal),
+    typed: &[u8],
+    fails: bool,
+    puts: u32,
+    out: &str,
+    error: &str,
+) -> Result<(), Fail> {
+    let file = file_of(rt.alloc(), &COMMITS)?;
+    let debug = debug_of(rt.alloc(), WORDS.as_slice()).ok_or("a debug")?;
+    let mut input = input_of(typed, fails);
+    let (paper, errors) = (Paper::new(rt.alloc(), puts), Paper::endless(rt.alloc()));
+    let told = played(rt.alloc(), &debug, &file, &mut input, "", paper, errors);
+    check_told(rt, &told, 3, out, error);
     Ok(())
 }
 
 #[test]
 fn what_ended_a_session_is_told(rt: HostRuntime) -> Result<(), Fail> {
-    let file = elf_file(rt.alloc(), &COMMITS)?;
-    let debug = debug_of(rt.alloc(), WORDS.as_slice()).ok_or("a debug")?;
-    // The input fails where a line could go on, and where one could begin.
-    for (typed, told) in [
-        (b"step\nste".as_slice(), "0 0x00001000 00000a0b tbegin 20\n"),
-        (b"step\n".as_slice(), "0 0x00001000 00000a0b tbegin 20\n"),
-        (b"".as_slice(), ""),
-    ] {
-        let torn = Torn {
-            bytes: typed,
-            given: 0,
-        };
-        let mut input = Typed {
-            bytes: torn.bytes(),
-            failed: 0,
-        };
-        let (mut out, mut error) = (taken(rt.alloc()), taken(rt.alloc()));
-        let status = play(
-            rt.alloc(),
-            &debug,
-            &file,
-            &mut input,
-            "",
-            &mut out,
-            &mut error,
-        );
-        assert_eq!(rt; status, 3);
-        assert_eq!(rt; out.bytes.as_slice(), told.as_bytes());
-        let text = "logtm: cannot read standard input\n";
-        assert_eq!(rt; error.bytes.as_slice(), text.as_bytes());
+    let stepped = "0 0x00001000 00000a0b tbegin 20\n";
+    let cases: [(&[u8], bool, u32, &str, &str); 4] = [
+        // The input fails where a line could go on, and where one could begin.
+        (b"step\nste", true, 1000, stepped, UNREAD),
+        (b"step\n", true, 1000, stepped, UNREAD),
+        (b"", true, 1000, "", UNREAD),
+        // The first put fails.
+        (TYPED, false, 0, "", UNWRITTEN),
+    ];
+    for (typed, fails, puts, out, error) in cases {
+        check_end(&rt, typed, fails, puts, out, error)?;
     }
-    let mut input = Typed {
-        bytes: TYPED.bytes(),
-        failed: 0,
-    };
-    let (mut out, mut error) = (Breaking::new(rt.alloc(), 0), taken(rt.alloc()));
-    let status = play(
-        rt.alloc(),
-        &debug,
-        &file,
-        &mut input,
-        "",
-        &mut out,
-        &mut error,
-    );
-    assert_eq!(rt; status, 3);
-    let text = "logtm: cannot write standard output\n";
-    assert_eq!(rt; error.bytes.as_slice(), text.as_bytes());
+    Ok(())
+}
+
+/// That a program is refused, and no line of the input is read.
+fn check_refused(
+    rt: &(impl Abort + AllocGlobal),
+    words: &[&str],
+    file: &[u8],
+    text: &str,
+) -> Result<(), Fail> {
+    let debug = debug_of(rt.alloc(), words).ok_or("a debug")?;
+    let mut input = input_of(TYPED, false);
+    let (out, error) = (Paper::endless(rt.alloc()), Paper::endless(rt.alloc()));
+    let told = played(rt.alloc(), &debug, file, &mut input, "? ", out, error);
+    check_told(rt, &told, 4, "", text);
+    let first = input.bytes.next().ok_or("a byte")?;
+    assert_eq!(rt; first.ok(), Some(b's'));
     Ok(())
 }
 
 #[test]
 fn a_refused_program_has_no_session(rt: HostRuntime) -> Result<(), Fail> {
-    let file = elf_file(rt.alloc(), &COMMITS)?;
+    let file = file_of(rt.alloc(), &COMMITS)?;
     let source = b"li a0, 1\nfoo a0\n".as_slice();
-    let cases: [(&'static [&'static str], &[u8], u8, &str); 3] = [
-        (&WORDS, &file[..40], 4, "logtm: load 1 Truncated\n"),
-        (
-            &["logtm", "debug", "f.s"],
-            source,
-            4,
-            "logtm: line 2: 1 Unknown\nfoo a0\n",
-        ),
-        (
-            &["logtm", "debug", "f", "--harts", "9"],
-            &file,
-            4,
-            "logtm: boot 2 BadHarts\n",
-        ),
-    ];
-    for (words, bytes, wanted, text) in cases {
-        let debug = debug_of(rt.alloc(), words).ok_or("a debug")?;
-        let mut input = Typed {
-            bytes: TYPED.bytes(),
-            failed: 0,
-        };
-        let (mut out, mut error) = (taken(rt.alloc()), taken(rt.alloc()));
-        let status = play(
-            rt.alloc(),
-            &debug,
-            bytes,
-            &mut input,
-            "? ",
-            &mut out,
-            &mut error,
-        );
-        assert_eq!(rt; (status, out.bytes.len()), (wanted, 0));
-        assert_eq!(rt; error.bytes.as_slice(), text.as_bytes());
-        // No line was read.
-        let first = input.bytes.next().ok_or("a byte")?;
-        assert_eq!(rt; first.ok(), Some(b's'));
-    }
-    Ok(())
+    let unknown = "logtm: line 2: 1 Unknown\nfoo a0\n";
+    let cut = file.get(..40).ok_or("the file has 116 bytes")?;
+    check_refused(&rt, &WORDS, cut, "logtm: load 1 Truncated\n")?;
+    check_refused(&rt, &["logtm", "debug", "f.s"], source, unknown)?;
+    let words = ["logtm", "debug", "f", "--harts", "9"];
+    check_refused(&rt, &words, &file, "logtm: boot 2 BadHarts\n")
 }

@@ -1,105 +1,12 @@
-//! Schedules: those of `examples/schedules`, and those that are refused.
-ghost use Rattle.std.specs.Prelude.{◌<◌, ◌*◌, ◌^◌};
-
-use super::{check, check_by};
-use assembler::assemble;
-use elf_samples::{EXIT, elf_file};
-use machine::Machine;
-use schedule::read;
-use std::alloc::Global;
+//! Runs by a schedule, and schedules that are refused.
+use super::calls::file_of;
+use super::checks::{check_by, check_line};
+use elf_samples::EXIT;
 use std::test::Fail;
-use words::{HartId, Step};
-
-// The hart of the last core step.
-fn hart_after(step: &Step, last: HartId) -> HartId {
-    match step {
-        Step::Core(hart) => *hart,
-        Step::Evict(..) | Step::Deliver(_) => last,
-    }
-}
-
-// That each line of a schedule names a step: no message that isn't in flight.
-fn check_steps<const SETS: usize, const WAYS: usize>(
-    alloc: Global,
-    source: &str,
-    steps: &str,
-    harts: u32,
-) -> Result<(), Fail>
-    requires sets { 0 < SETS }
-    requires ways { 0 < WAYS }
-    requires lines { SETS * WAYS < 2 ^ 32 }
-{
-    let program = assemble(alloc, source).ok().ok_or("a program")?;
-    let mut machine: Machine<SETS, WAYS> = Machine::boot(alloc, program, harts, 1_048_576)?;
-    let mut last = machine.last_hart();
-    let choices = read(alloc, steps).ok().ok_or("a schedule")?;
-    for choice in choices.iter() {
-        let step = choice.step(&machine, last).ok_or("a step")?;
-        machine.take_step(step)?;
-        last = hart_after(&step, last);
-    }
-    Ok(())
-}
-
-static PUT_AND_READ: &str =
-    "lui t0, 2\nbnez a0, reader\nli t1, 5\nsw t1, 0(t0)\nli a7, 93\nli a0, 0\necall\nreader: lw a0, 0(t0)\nli a7, 93\n\
-    ecall\n";
-
-static PUT_AND_READ_STEPS: &str =
-    "core 0\ncore 0\ncore 0\ncore 0\ndeliver get 0 0x2000\ndeliver grant 0 0x2000\ndeliver done 0 0x2000\ncore 0\ncore 0\n\
-    core 0\ncore 0\ncore 1\ncore 1\ncore 1\nevict 0 0x2000\ndeliver get 1 0x2000\ndeliver put 0 0x2000\n\
-    deliver forward 0 0x2000\ndeliver grant 1 0x2000\ndeliver ack 0 0x2000\ndeliver done 1 0x2000\ndeliver put 0 0x2000\n\
-    deliver putack 0 0x2000\nturn\n";
-
-static PUT_AND_WRITE: &str =
-    "lui t0, 2\nbnez a0, writer\nli t1, 5\nsw t1, 0(t0)\nli a7, 93\nli a0, 0\necall\nwriter: li t1, 6\nsw t1, 0(t0)\n\
-    li a7, 93\nli a0, 0\necall\n";
-
-static PUT_AND_WRITE_STEPS: &str =
-    "core 0\ncore 0\ncore 0\ncore 0\ndeliver get 0 0x2000\ndeliver grant 0 0x2000\ndeliver done 0 0x2000\ncore 0\ncore 0\n\
-    core 0\ncore 0\ncore 1\ncore 1\ncore 1\ncore 1\nevict 0 0x2000\ndeliver get 1 0x2000\ndeliver put 0 0x2000\n\
-    deliver forward 0 0x2000\ndeliver grant 1 0x2000\ndeliver ack 0 0x2000\ndeliver done 1 0x2000\ncore 1\n\
-    evict 1 0x2000\ndeliver put 1 0x2000\ndeliver put 0 0x2000\n";
-
-static STICKY_OWNER: &str =
-    "lui t0, 2\nbnez a0, reader\ntbegin done\nli t1, 7\nsw t1, 0(t0)\nlw t2, 0x40(t0)\ntcommit\ndone: li a7, 93\nli a0, 0\n\
-    ecall\nreader: lw a0, 0(t0)\nli a7, 93\necall\n";
-
-static STICKY_OWNER_STEPS: &str =
-    "core 0\ncore 0\ncore 0\ncore 0\ncore 0\ndeliver get 0 0x2000\ndeliver grant 0 0x2000\ndeliver done 0 0x2000\ncore 0\n\
-    core 0\ndeliver put 0 0x2000\ndeliver putack 0 0x2000\ncore 0\ndeliver get 0 0x2040\ndeliver grant 0 0x2040\n\
-    deliver done 0 0x2040\ncore 0\ncore 1\ncore 1\ncore 1\ndeliver get 1 0x2000\ndeliver forward 0 0x2000\n\
-    deliver grant 1 0x2000\ndeliver nack 0 0x2000\ndeliver done 1 0x2000\ncore 0\ncore 1\ndeliver get 1 0x2000\n\
-    deliver forward 0 0x2000\ndeliver ack 0 0x2000\ndeliver grant 1 0x2000\ndeliver done 1 0x2000\ncore 1\n";
-
-static LATER_ABORTS: &str =
-    "lui t0, 2\nbnez a0, later\nearly: tbegin early\nli t1, 1\nsw t1, 0(t0)\nsw t1, 0x40(t0)\ntcommit\nli a7, 93\n\
-    li a0, 0\necall\nlater: tbegin later\nli t1, 2\nsw t1, 0x40(t0)\nsw t1, 0(t0)\ntcommit\nli a7, 93\nli a0, 0\necall\n";
-
-static LATER_ABORTS_STEPS: &str =
-    "core 0\ncore 0\ncore 0\ncore 0\ncore 0\ndeliver get 0 0x2000\ndeliver grant 0 0x2000\ndeliver done 0 0x2000\ncore 0\n\
-    core 1\ncore 1\ncore 1\ncore 1\ncore 1\ndeliver get 1 0x2040\ndeliver grant 1 0x2040\ndeliver done 1 0x2040\ncore 1\n\
-    core 0\ndeliver get 0 0x2040\ndeliver forward 1 0x2040\ndeliver grant 0 0x2040\ndeliver nack 1 0x2040\n\
-    deliver done 0 0x2040\ncore 1\ndeliver get 1 0x2000\ndeliver forward 0 0x2000\ndeliver grant 1 0x2000\n\
-    deliver nack 0 0x2000\ndeliver done 1 0x2000\ncore 1\ncore 1\ncore 0\ndeliver get 0 0x2040\ndeliver forward 1 0x2040\n\
-    deliver grant 0 0x2040\ndeliver ack 1 0x2040\ndeliver done 0 0x2040\ncore 0\ncore 0\n";
-
-static ANSWERS_BEFORE_THE_GRANT: &str =
-    "lui t0, 2\nli t2, 3\nbeq a0, t2, last\nlw t1, 0(t0)\nbnez a0, done\nli t1, 9\nsw t1, 0(t0)\ndone: li a7, 93\n\
-    li a0, 0\necall\nlast: tbegin last\nlw t1, 0(t0)\nlw t2, 0(t0)\ntcommit\nadd a0, t1, t2\nli a7, 93\necall\n";
-
-static ANSWERS_BEFORE_THE_GRANT_STEPS: &str =
-    "core 0\ncore 0\ncore 0\ncore 0\ndeliver get 0 0x2000\ndeliver grant 0 0x2000\ndeliver done 0 0x2000\ncore 0\ncore 1\n\
-    core 1\ncore 1\ncore 1\ndeliver get 1 0x2000\ndeliver forward 0 0x2000\ndeliver ack 0 0x2000\ndeliver grant 1 0x2000\n\
-    deliver done 1 0x2000\ncore 1\ncore 2\ncore 2\ncore 2\ncore 2\ndeliver get 2 0x2000\ndeliver grant 2 0x2000\n\
-    deliver done 2 0x2000\ncore 2\ncore 3\ncore 3\ncore 3\ncore 3\ncore 3\ndeliver get 3 0x2000\ndeliver grant 3 0x2000\n\
-    deliver done 3 0x2000\ncore 3\ncore 0\ncore 0\ncore 0\ndeliver get 0 0x2000\ndeliver forward 1 0x2000\n\
-    deliver forward 2 0x2000\ndeliver forward 3 0x2000\ndeliver ack 1 0x2000\ndeliver ack 2 0x2000\n\
-    deliver nack 3 0x2000\ndeliver grant 0 0x2000\ndeliver done 0 0x2000\ncore 3\ncore 3\n";
 
 #[test]
 fn refuses_schedules(rt: HostRuntime) -> Result<(), Fail> {
-    let first = elf_file(rt.alloc(), &EXIT)?;
+    let first = file_of(rt.alloc(), &EXIT)?;
     let cases: [(&[u8], &str); 12] = [
         (b"cor 0", "logtm: schedule line 1: no step\n"),
         (
@@ -124,76 +31,49 @@ fn refuses_schedules(rt: HostRuntime) -> Result<(), Fail> {
         (b"turn\n\xff", "logtm: schedule is not text\n"),
     ];
     for (steps, error) in cases {
-        check_by(&rt, &["logtm", "run", "f"], &first, steps, 2, "", error)?;
+        check_line(&rt, "logtm run f", &first, steps, 2, "", error)?;
     }
     // Nothing is said of a schedule where the program is refused.
-    check_by(
-        &rt,
-        &["logtm", "run", "f"],
-        &[],
-        b"cor 0",
-        4,
-        "",
-        "logtm: load 1 Truncated\n",
-    )
+    let truncated = "> logtm run f\n! logtm: load 1 Truncated\n= 4";
+    check_by(&rt, &[], b"cor 0", truncated)
 }
+
+/// A hart that isn't there, a block that isn't held and a message that isn't in flight are steps too.
+const NOT_ENABLED: &[u8] = b"core 7\nevict 0 0x2000\ndeliver put 0 0\n";
+
+const NOT_ENABLED_COUNT: &str = "\
+> logtm run f --steps 5
+hart 0: running
+= 5
+> logtm run f --steps 6
+hart 0: exit 0
+= 0
+";
+
+const MORE_THAN_THE_STEPS: &[u8] = b"core 0\nturn\ncore 0x0\nturn\nturn\n";
+
+/// What the program does by so many turns, however many lines of the schedule are left.
+const TWO_AND_THREE: &str = "\
+> logtm run f --steps 2
+hart 0: running
+= 5
+> logtm run f --steps 3
+hart 0: exit 0
+= 0
+";
 
 #[test]
 fn all_steps_count(rt: HostRuntime) -> Result<(), Fail> {
-    let first = elf_file(rt.alloc(), &EXIT)?;
-    let cases: [(&[u8], &str, u8, &str); 6] = [
-        // A hart that isn't there, a block that isn't held and a message that isn't in flight are steps too.
-        (
-            b"core 7\nevict 0 0x2000\ndeliver put 0 0\n",
-            "5",
-            5,
-            "hart 0: running\n",
-        ),
-        (
-            b"core 7\nevict 0 0x2000\ndeliver put 0 0\n",
-            "6",
-            0,
-            "hart 0: exit 0\n",
-        ),
-        (
-            b"core 0\nturn\ncore 0x0\nturn\nturn\n",
-            "2",
-            5,
-            "hart 0: running\n",
-        ),
-        (
-            b"core 0\nturn\ncore 0x0\nturn\nturn\n",
-            "3",
-            0,
-            "hart 0: exit 0\n",
-        ),
-        (b"", "2", 5, "hart 0: running\n"),
-        (b"#\n\n", "3", 0, "hart 0: exit 0\n"),
+    let first = file_of(rt.alloc(), &EXIT)?;
+    let three = "> logtm run f --steps 3\nhart 0: exit 0\n= 0";
+    let cases: [(&[u8], &str); 4] = [
+        (NOT_ENABLED, NOT_ENABLED_COUNT),
+        (MORE_THAN_THE_STEPS, TWO_AND_THREE),
+        (b"", TWO_AND_THREE),
+        (b"#\n\n", three),
     ];
-    for (steps, most, status, out) in cases {
-        let run = ["logtm", "run", "f", "--steps", most];
-        check_by(&rt, &run, &first, steps, status, out, "")?;
+    for (steps, session) in cases {
+        check_by(&rt, &first, steps, session)?;
     }
-    check(
-        &rt,
-        &["logtm", "run", "f", "--steps", "3"],
-        &first,
-        0,
-        "hart 0: exit 0\n",
-        "",
-    )
-}
-
-#[test]
-fn each_line_names_a_step(rt: HostRuntime) -> Result<(), Fail> {
-    check_steps::<16, 4>(rt.alloc(), PUT_AND_READ, PUT_AND_READ_STEPS, 2)?;
-    check_steps::<16, 4>(rt.alloc(), PUT_AND_WRITE, PUT_AND_WRITE_STEPS, 2)?;
-    check_steps::<2, 1>(rt.alloc(), STICKY_OWNER, STICKY_OWNER_STEPS, 2)?;
-    check_steps::<16, 4>(rt.alloc(), LATER_ABORTS, LATER_ABORTS_STEPS, 2)?;
-    check_steps::<16, 4>(
-        rt.alloc(),
-        ANSWERS_BEFORE_THE_GRANT,
-        ANSWERS_BEFORE_THE_GRANT_STEPS,
-        4,
-    )
+    Ok(())
 }

@@ -1,7 +1,7 @@
 //! Sources and the programs that they make, or their faults.
 
 use super::vectors::{OTHERS, PSEUDO, STANDARD, parts};
-use assembler::{AsmFault, assemble};
+use assembler::assemble;
 use loader::{Program, write_elf};
 use std::alloc::{AllocError, Global};
 use std::process::Abort;
@@ -376,52 +376,6 @@ fn programs_begin_at_start(rt: HostRuntime) -> Result<(), Fail> {
     for (source, entry) in cases {
         let program: Program = assemble(rt.alloc(), source).ok().ok_or("a program")?;
         assert_eq!(rt; program.entry().value(), entry, "{source}");
-    }
-    Ok(())
-}
-
-/// Labels for a map of several nodes, and text that grows.
-const MANY_LABELS: &str = "\
-a: la a0, a
-b: la a0, h
-c: la a0, o
-d: la a0, v
-e: la a0, c
-f: la a0, j
-g: la a0, q
-h: la a0, x
-i: la a0, e
-j: la a0, l
-k: la a0, s
-l: la a0, z
-m: la a0, g
-n: la a0, n
-o: la a0, u
-p: la a0, b
-q: la a0, i
-r: la a0, p
-s: la a0, w
-t: la a0, d
-u: la a0, k
-v: la a0, r
-w: la a0, y
-x: la a0, f
-y: la a0, m
-z: la a0, t
-.data
-numbers: .word 1, 2, 3
-.space 100
-";
-
-// For `rt try --test --fail-alloc N`: a source is assembled whole, or memory ran out.
-#[test]
-fn assembles_or_wants_memory(rt: HostRuntime) -> Result<(), Fail> {
-    match assemble(rt.alloc(), MANY_LABELS) {
-        Ok(program) => match program.segments() {
-            [text, data] => assert_eq!(rt; (text.bytes.len(), data.bytes.len()), (208, 112)),
-            others => assert_eq!(rt; others.len(), 2),
-        },
-        Err(fault) => assert_eq!(rt; fault.fault, AsmFault::NoMemory),
     }
     Ok(())
 }

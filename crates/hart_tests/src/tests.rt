@@ -1,5 +1,3 @@
-//! A hart alone: programs of a few words, step by step, with the messages that arrive at it and those that it sends.
-
 mod checks;
 mod moves;
 mod rows;

@@ -1,24 +1,25 @@
-use crate::debugging::play;
-use crate::fault::Fault;
-use crate::perform::perform;
-use crate::tracing::{Page, trace_apart, trace_before};
-use command_line::{Debug, Order, Request, Run, Target, Traced, parse};
+use crate::threads::{run_kept, run_threaded};
+use command_line::{Debug, Order, Request, Run, Target, Threaded, Traced, parse};
 use console::LineInput;
+use simulate::Fault;
+use simulate::debugging::play;
+use simulate::perform::perform;
+use simulate::tracing::{trace_apart, trace_before};
 use std::fs;
 use std::io::{BufWriter, ErrorKind, Write};
 use std::rt::Files;
-use words::{Counted, Sink, SinkFault};
+use std::sync::Wait;
+use std::thread::Threads;
+use words::{Counted, Sink};
 
 /// Answers the words of a command line, the program's name first: reads the files that it names, has the order performed, and writes the
 /// file that it asks for; or has the lines of an input debug a program, each asked for by a prompt. It gives the status that the program ends with.
-pub fn answer<R: Files + AllocGlobal, I: LineInput, W: Write + Drop, E: Sink>(
-    rt: &R,
-    words: &[&str],
-    input: &mut I,
-    prompt: &str,
-    out: W,
-    error: &mut E,
-) -> u8 {
+pub fn answer<
+    R: Files + Threads + Wait + Sync + AllocGlobal,
+    I: LineInput,
+    W: Write + Drop,
+    E: Sink,
+>(rt: &R, words: &[&str], input: &mut I, prompt: &str, out: W, error: &mut E) -> u8 {
     match try_answer(rt, words, input, prompt, out, error) {
         Ok(status) => status,
         Err(fault) => fault.tell(error),
@@ -26,7 +27,13 @@ pub fn answer<R: Files + AllocGlobal, I: LineInput, W: Write + Drop, E: Sink>(
 }
 
 /// The same, but for telling of a fault that neither `perform` nor `play` meets.
-fn try_answer<'a, R: Files + AllocGlobal, I: LineInput, W: Write + Drop, E: Sink>(
+fn try_answer<
+    'a,
+    R: Files + Threads + Wait + Sync + AllocGlobal,
+    I: LineInput,
+    W: Write + Drop,
+    E: Sink,
+>(
     rt: &R,
     words: &'a [&'a str],
     input: &mut I,
@@ -37,6 +44,7 @@ fn try_answer<'a, R: Files + AllocGlobal, I: LineInput, W: Write + Drop, E: Sink
     match parse(rt.alloc(), words)? {
         Request::Order(order) => carry_out(rt, &order, out, error),
         Request::Traced(traced) => trace(rt, &traced, out, error),
+        Request::Threaded(threaded) => run_in_threads(rt, &threaded, out, error),
         Request::Debug(debug) => debug_file(rt, &debug, input, prompt, out, error),
     }
 }
@@ -157,24 +165,66 @@ fn trace_into<'a, R: Files + AllocGlobal, W: Write + Drop, E: Sink>(
     write_out(writer, status)
 }
 
+/// Has each hart of a program run in a thread of its own, and the history written if it is to be kept.
+fn run_in_threads<'a, R: Files + Threads + Wait + Sync + AllocGlobal, W: Write + Drop, E: Sink>(
+    rt: &R,
+    threaded: &Threaded<'a>,
+    out: W,
+    error: &mut E,
+) -> Result<u8, Fault<'a>> {
+    let run = &threaded.run;
+    let bytes = read(rt, run.file)?;
+    let writer = buffered(rt, out)?;
+    match threaded.history {
+        Some(path) => keep_into(rt, run, path, &bytes, writer, error),
+        None => report_alone(rt, run, &bytes, writer, error),
+    }
+}
+
+/// The same where no history is kept.
+fn report_alone<'a, R: Threads + Wait + Sync + AllocGlobal, W: Write + Drop, E: Sink>(
+    rt: &R,
+    run: &Run<'a>,
+    bytes: &[u8],
+    writer: BufWriter<W>,
+    error: &mut E,
+) -> Result<u8, Fault<'a>> {
+    let mut out = Counted { writer, failed: 0 };
+    let status = run_threaded(rt, rt.alloc(), run, bytes, &mut out, error);
+    let Counted { writer, failed: _ } = out;
+    write_out(writer, status)
+}
+
+/// The same where it goes to a file, which is made before the program is booted.
+fn keep_into<'a, R: Files + Threads + Wait + Sync + AllocGlobal, W: Write + Drop, E: Sink>(
+    rt: &R,
+    run: &Run<'a>,
+    path: &'a str,
+    bytes: &[u8],
+    writer: BufWriter<W>,
+    error: &mut E,
+) -> Result<u8, Fault<'a>> {
+    let file = buffered(rt, make(rt, path)?)?;
+    let mut page = Counted {
+        writer: file,
+        failed: 0,
+    };
+    let mut out = Counted { writer, failed: 0 };
+    let status = run_kept(rt, rt.alloc(), run, path, bytes, &mut page, &mut out, error);
+    let Counted {
+        writer: _,
+        failed: _,
+    } = page;
+    let Counted { writer, failed: _ } = out;
+    write_out(writer, status)
+}
+
 /// Writes out what may still stand in the buffer: the report, or what was put before memory ran out. It answers the status.
 fn write_out<'a, W: Write + Drop>(mut writer: BufWriter<W>, status: u8) -> Result<u8, Fault<'a>> {
     let flushed = writer.flush();
     match status {
         0 | 1 | 5 if flushed.is_err() => Err(Fault::Unwritten),
         _ => Ok(status),
-    }
-}
-
-impl<W: Write> Page for Counted<W> {
-    fn flush(&mut self) -> Result<(), SinkFault> {
-        match self.writer.flush() {
-            Ok(()) => Ok(()),
-            Err(_) => {
-                self.failed = self.failed.saturating_add(1);
-                Err(SinkFault)
-            }
-        }
     }
 }
 

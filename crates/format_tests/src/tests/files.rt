@@ -339,16 +339,3 @@ fn writes_files(rt: HostRuntime) -> Result<(), Fail> {
     assert_eq!(rt; write_elf(rt.alloc(), &program)?[..], want[..]);
     Ok(())
 }
-
-// For `rt try --test --fail-alloc N`: a file is read and written whole, or memory ran out.
-#[test]
-fn copies_a_file_or_wants_memory(rt: HostRuntime) -> Result<(), Fail> {
-    match read_elf(rt.alloc(), &SAMPLE) {
-        Ok(program) => match write_elf(rt.alloc(), &program) {
-            Ok(file) => assert_eq!(rt; file[..], SAMPLE[..]),
-            Err(AllocError) => {}
-        },
-        Err(fault) => assert_eq!(rt; fault, LoadFault::NoMemory),
-    }
-    Ok(())
-}

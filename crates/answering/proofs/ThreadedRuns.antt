@@ -1,0 +1,318 @@
+-- A run in threads, from what its parts came to.
+use Rattle.std.proofs.Common.{◌≡◌, ◌≤◌, ◌⊎◌, ℕ, All, Bool, true, false, cond, arith, List, [], Option, Some, None, Result, Ok, Err, inl, inr, refl, sym, subst, ap, ◌∙◌, append-nil, length}
+use Rattle.std.proofs.lemmas.Bool.Decides.{nat_tests}
+use Rattle.words.specs.declared.sink.SinkFault.{SinkFault}
+use Rattle.words.specs.Limits.{most_harts}
+use Rattle.std.specs.Str.{IsUtf8}
+use Rattle.table.specs.Program.{Segment}
+use Rattle.loader.specs.Programs.{Program}
+use Rattle.schedule.specs.Lines.{lines_of, AreSpelledBy}
+use Rattle.command_line.specs.declared.request.Word.{Word as Asked}
+use Rattle.simulate.specs.Unreadable.{IsFirstUnreadable, IsUnreadable}
+use Rattle.flat.specs.Boots.{boot_fault, is_size, is_count, fits_below}
+use Rattle.flat.specs.declared.boot_fault.BootFault.{BootFault}
+use Rattle.flat.specs.declared.boot_fault.BootFault.TheVariants as boot
+use Rattle.flat.specs.State.{Flat, Setting}
+use Rattle.flat.specs.Steps.{IsRun}
+use Rattle.flat.proofs.Runs.{run_setting}
+use Rattle.command_line.specs.declared.request.Run.{Run}
+use Rattle.protocol.specs.Caches.{Geometry}
+use Rattle.protocol.specs.Machine.{Machine}
+use Rattle.protocol.specs.Start.{start}
+use Rattle.isolation.specs.Belongs.{Belongs}
+use Rattle.machine.specs.States.{State, setting_of, shown}
+use Rattle.board.specs.Boards.{first_flat}
+use Rattle.schedule.specs.declared.choices.Choice.{Choice}
+use Rattle.history.specs.Lines.{text_of, IsWritable}
+use Rattle.hub.specs.Hubs.{IsEnd}
+use Rattle.watch.specs.Moments.{Moment, entries_of}
+use Rattle.watch.proofs.Moments.{steps_by}
+use Rattle.texts.specs.Puts.{Puts}
+use Rattle.texts.proofs.Putting.{puts-both, puts-same}
+use Rattle.simulate.specs.Faults.{of_boot}
+use Rattle.simulate.specs.Orders.{geometry_of}
+use Rattle.simulate.specs.Refusals.{IsRunFault}
+use Rattle.simulate.specs.Reports.{AllReadable, report_of}
+use Rattle.simulate.specs.Runs.{addresses, ComesBy, IsReport}
+use Rattle.simulate.specs.Schedules.{AreChosenBy}
+use Rattle.simulate.specs.Sinks.{TookAll, TookPart, IsUntouched}
+use Rattle.simulate.specs.Sources.{IsProgramIn, IsProgramFault}
+use Rattle.simulate.specs.Statuses.{IsReported, IsStatusOf}
+use Rattle.simulate.specs.declared.fault.Fault.{Fault}
+use Rattle.simulate.specs.declared.fault.Fault.TheVariants.{NotText, Refused, Value, TracedAndCounted, ThreadsAlone, Unread, NotSource, Source, Load, Boot, Word, NotSchedule, Schedule, Unwritten, Unmade, NoMemory}
+use Rattle.simulate.proofs.Performing.{same_setting}
+use Rattle.answering.specs.declared.stop.Stop.{Stop}
+use Rattle.answering.specs.declared.stop.Stop.TheVariants as stop
+use Rattle.answering.specs.Threaded.{IsReportBy, IsReady, IsUnready, IsShown, IsHalfShown, IsHalfKept, IsGiven, IsFault, IsStop, IsGivenKept, IsKeptFault, IsKeptStop}
+
+pub untouched : (a : Option (List ℕ)) (f : ℕ) → IsUntouched a a f f
+untouched a f = record { taken = refl; failed = refl }
+
+-- ---- the program before the first turn
+
+-- words that can be read in the first state can be read in the machine that its harts come to
+pub readable_at_end : (g : Geometry) (p : Program) (n size : ℕ) (tells : List Choice → Type 0) (m : State) (words : List ℕ) → IsEnd g p n size tells m → AllReadable (first_flat p n size).setting words → AllReadable (setting_of m) words
+readable_at_end g p n size tells m words e all =
+    let same : (first_flat p n size).setting ≡ setting_of m = sym (run_setting (first_flat p n size) e.flat e.kept.entries e.runs) ∙ same_setting g e.flat m e.belongs in
+    subst (λ (s : Setting). AllReadable s words) same all
+
+pub unready_boot : (run : Run) (p : Program) (b : BootFault) → (b ≡ boot.NoMemory) ⊎ (boot_fault p.segments run.harts run.memory ≡ Some b) → IsUnready run p (of_boot b)
+unready_boot run p boot.BadSize h = elim h [ inl e ↦ absurd (cc) | inr e ↦ e ]
+unready_boot run p boot.BadHarts h = elim h [ inl e ↦ absurd (cc) | inr e ↦ e ]
+unready_boot run p boot.DoesNotFit h = elim h [ inl e ↦ absurd (cc) | inr e ↦ e ]
+unready_boot run p boot.NoMemory h = tt
+
+first_setting : (g : Geometry) (p : Program) (n size : ℕ) (m : State) → shown g.sets m ≡ start (first_flat p n size).setting p.entry → setting_of m ≡ (first_flat p n size).setting
+first_setting g p n size m is = ap (λ (w : Machine). w.setting) is
+
+-- the words that were looked for before the first turn
+module _ (run : Run) (p : Program) (g : Geometry) (v m : State) (boots : boot_fault p.segments run.harts run.memory ≡ None) (starts : shown g.sets v ≡ start (first_flat p run.harts run.memory).setting p.entry) (same : m ≡ v)
+    (words : List Asked) (as_given : words ≡ run.words.items) where
+  setting : setting_of m ≡ (first_flat p run.harts run.memory).setting
+  setting = ap setting_of same ∙ first_setting g p run.harts run.memory v starts
+
+  pub unreadable : (fault : Fault) → IsUnreadable (setting_of m) words fault → IsUnready run p fault
+  unreadable NotText h = absurd h
+  unreadable (Refused text) h = absurd h
+  unreadable (Value text) h = absurd h
+  unreadable TracedAndCounted h = absurd h
+  unreadable ThreadsAlone h = absurd h
+  unreadable (Unread at) h = absurd h
+  unreadable NotSource h = absurd h
+  unreadable (Source refused) h = absurd h
+  unreadable (Load why) h = absurd h
+  unreadable (Boot why) h = absurd h
+  unreadable (Word text) (k, w, first, is) = (
+    k,
+    w,
+    boots,
+    subst (λ (ws : List Asked). IsFirstUnreadable (first_flat p run.harts run.memory).setting ws k w) as_given (subst (λ (s : Setting). IsFirstUnreadable s words k w) setting first),
+    is,
+  )
+  unreadable NotSchedule h = absurd h
+  unreadable (Schedule number) h = absurd h
+  unreadable Unwritten h = absurd h
+  unreadable (Unmade at) h = absurd h
+  unreadable NoMemory h = tt
+
+  pub all_ready : (addrs : List ℕ) → addrs ≡ addresses words → AllReadable (setting_of m) (addresses words) → IsReady run p addrs
+  all_ready addrs found all = record {
+    boots = boots;
+    same = found ∙ ap addresses as_given;
+    readable = subst (λ (ws : List Asked). AllReadable (first_flat p run.harts run.memory).setting (addresses ws)) as_given (subst (λ (s : Setting). AllReadable s (addresses words)) setting all);
+  }
+
+-- no more harts than a machine may have
+pub few_harts : (segments : List Segment) (n size : ℕ) → boot_fault segments n size ≡ None → n ≤ most_harts
+few_harts segments n size boots = few (passed (is_size size) (is_count n) (fits_below size n segments) boots)
+  where
+    passed : (a b c : Bool) → cond a (cond b (cond c None (Some boot.DoesNotFit)) (Some boot.BadHarts)) (Some boot.BadSize) ≡ None → b ≡ true
+    passed true true c e = refl
+    passed true false c e = cc
+    passed false b c e = cc
+
+    few : is_count n ≡ true → n ≤ most_harts
+    few is = grind (arith, nat_tests)
+
+-- a hub that is the program's
+pub end_same : (g : Geometry) (p q : Program) (n k size bytes : ℕ) (tells : List Choice → Type 0) (m : State) → q ≡ p → k ≡ n → bytes ≡ size → IsEnd g q k bytes tells m → IsEnd g p n size tells m
+end_same g p q n k size bytes tells m program harts memory end = rw (← program, ← harts, ← memory) end
+
+-- ---- the run that was made
+
+-- the harts have come to this machine, by choices which the text of the history spells
+pub record IsComeTo (g : Geometry) (run : Run) (p : Program) (tells : List Choice → Type 0) (m : State) (addrs : List ℕ) : Type 0 where
+  pub end : IsEnd g p run.harts run.memory tells m
+  pub chosen : AreChosenBy (text_of end.kept.choices) end.kept.choices
+  pub same : addrs ≡ addresses run.words.items
+  pub readable : AllReadable (setting_of m) (addresses run.words.items)
+
+abbrev pub come_to : (g : Geometry) (run : Run) (p : Program) (tells : List Choice → Type 0) (m : State) (addrs : List ℕ) → IsReady run p addrs → IsEnd g p run.harts run.memory tells m
+    → ((cs : List Choice) → All IsWritable cs → IsUtf8 (text_of cs)) → ((cs : List Choice) → All IsWritable cs → AreSpelledBy (lines_of (text_of cs)) cs) → IsComeTo g run p tells m addrs
+come_to g run p tells m addrs ready end is_text spelled = record {
+  end = end;
+  chosen = (is_text end.kept.choices end.kept.writable, spelled end.kept.choices end.kept.writable);
+  same = ready.same;
+  readable = readable_at_end g p run.harts run.memory tells m (addresses run.words.items) end ready.readable;
+}
+
+module _ (run : Run) (file : List ℕ) (p : Program) (holds : IsProgramIn run.file.now file p) (g : Geometry) (caches : geometry_of run.cache ≡ g) (tells : List Choice → Type 0) (m : State) (addrs : List ℕ)
+    (come : IsComeTo g run p tells m addrs) where
+  abbrev list : List ℕ
+  list = text_of come.end.kept.choices
+
+  abbrev steps : ℕ
+  steps = length come.end.kept.choices
+
+  made : (moments : List Moment) × ComesBy run.file.now file list (geometry_of run.cache) run.harts run.memory steps moments come.end.flat
+  made =
+      let course = come.end.kept.course in
+      let by = steps_by g come.end.kept.choices (length come.end.kept.choices) course.first _ come.end.kept.entries m course.follows in
+      let comes : ComesBy run.file.now file (text_of come.end.kept.choices) g run.harts run.memory (length come.end.kept.choices) by.0 come.end.flat = record {
+        program = p;
+        holds = holds;
+        boots = course.boots;
+        first = course.first;
+        begins = course.starts;
+        choices = come.end.kept.choices;
+        chosen = come.chosen;
+        last = m;
+        made = by.1;
+        run = rw by.2 come.end.runs;
+      } in
+      (by.0, subst (λ (c : Geometry). ComesBy run.file.now file (text_of come.end.kept.choices) c run.harts run.memory (length come.end.kept.choices) by.0 come.end.flat) (sym caches) comes)
+
+  -- the report on it
+  reported : (words : List ℕ) (status : ℕ) → words ≡ addrs → IsStatusOf come.end.flat status → IsReportBy run file list steps (report_of come.end.flat words) status
+  reported words status as_given is =
+      let same : words ≡ addresses run.words.items = as_given ∙ come.same in
+      let readable : AllReadable come.end.flat.setting (addresses run.words.items) =
+      subst (λ (s : Setting). AllReadable s (addresses run.words.items)) (sym (same_setting g come.end.flat m come.end.belongs)) come.readable in
+      let report : IsReport come.end.flat run.words.items (report_of come.end.flat words) status = record { readable = readable; text = ap (report_of come.end.flat) same; status = is } in
+      (made.0, come.end.flat, made.1, (report_of come.end.flat words, report, refl))
+
+  pub shown_words : (words : List ℕ) → words ≡ addrs → AllReadable (setting_of m) words
+  shown_words words as_given = rw (as_given ∙ come.same) come.readable
+
+  module _ (words : List ℕ) (as_given : words ≡ addrs) (a b : Option (List ℕ)) (fa fb : ℕ) where
+    pub given : (status : ℕ) → IsShown g m words a b fa fb status → IsReported status × IsGiven run file a b fa fb status
+    given status shown = let at = shown.1 come.end.flat come.end.belongs in
+        (shown.0, (list, steps, report_of come.end.flat words, reported words status as_given at.0, at.1))
+
+    pub half_given : (fault : Fault) → IsHalfShown g m words a b fa fb fault → IsFault run file a b fa fb fault
+    half_given fault half =
+        let at = half.1 come.end.flat come.end.belongs in
+        let put : IsFault run file a b fa fb Unwritten = (list, steps, report_of come.end.flat words, at.0, reported words at.0 as_given at.1, at.2) in
+        subst (λ (e : Fault). IsFault run file a b fa fb e) (sym half.0) put
+
+    module _ (path : List ℕ) (h k : Option (List ℕ)) (fh fk : ℕ) (kept : TookAll h k fh fk list) where
+      pub given_kept : (status : ℕ) → IsShown g m words a b fa fb status → IsReported status × IsGivenKept run file path h k fh fk a b fa fb status
+      given_kept status shown = let at = shown.1 come.end.flat come.end.belongs in
+          (shown.0, (list, steps, report_of come.end.flat words, reported words status as_given at.0, kept, at.1))
+
+      pub half_given_kept : (fault : Fault) → IsHalfShown g m words a b fa fb fault → IsKeptFault run file path h k fh fk a b fa fb fault
+      half_given_kept fault half =
+          let at = half.1 come.end.flat come.end.belongs in
+          let put : IsKeptFault run file path h k fh fk a b fa fb Unwritten = (list, steps, report_of come.end.flat words, at.0, reported words at.0 as_given at.1, kept, at.2) in
+          subst (λ (e : Fault). IsKeptFault run file path h k fh fk a b fa fb e) (sym half.0) put
+
+  -- the history was not put whole
+  pub half_kept : (told : List Choice) → told ≡ come.end.kept.choices → (path : List ℕ) (h k a : Option (List ℕ)) (fh fk fa : ℕ) (fault : Fault) → IsHalfKept (text_of told) path h k fh fk fault
+      → IsKeptFault run file path h k fh fk a a fa fa fault
+  half_kept told same path h k a fh fk fa NotText half = absurd half
+  half_kept told same path h k a fh fk fa (Refused text) half = absurd half
+  half_kept told same path h k a fh fk fa (Value text) half = absurd half
+  half_kept told same path h k a fh fk fa TracedAndCounted half = absurd half
+  half_kept told same path h k a fh fk fa ThreadsAlone half = absurd half
+  half_kept told same path h k a fh fk fa (Unread at) half = absurd half
+  half_kept told same path h k a fh fk fa NotSource half = absurd half
+  half_kept told same path h k a fh fk fa (Source refused) half = absurd half
+  half_kept told same path h k a fh fk fa (Load why) half = absurd half
+  half_kept told same path h k a fh fk fa (Boot why) half = absurd half
+  half_kept told same path h k a fh fk fa (Word text) half = absurd half
+  half_kept told same path h k a fh fk fa NotSchedule half = absurd half
+  half_kept told same path h k a fh fk fa (Schedule number) half = absurd half
+  half_kept told same path h k a fh fk fa Unwritten half = absurd half
+  half_kept told same path h k a fh fk fa (Unmade at) half =
+      (half.0, (list, steps, (made.0, come.end.flat, made.1), subst (λ (cs : List Choice). TookPart h k fh fk (text_of cs)) same half.1), untouched a fa)
+  half_kept told same path h k a fh fk fa NoMemory half = absurd half
+
+  pub whole_kept : (told : List Choice) → told ≡ come.end.kept.choices → (h k : Option (List ℕ)) (fh fk : ℕ) → TookAll h k fh fk (text_of told) → TookAll h k fh fk list
+  whole_kept told same h k fh fk took = subst (λ (cs : List Choice). TookAll h k fh fk (text_of cs)) same took
+
+-- ---- the run that was not made
+
+module _ (run : Run) (file : List ℕ) where
+  module _ (a : Option (List ℕ)) (fa : ℕ) where
+    pub no_program : (fault : Fault) → IsProgramFault run.file.now file fault → IsFault run file a a fa fa fault
+    no_program NotText why' = (why', untouched a fa)
+    no_program (Refused text) why' = (why', untouched a fa)
+    no_program (Value text) why' = (why', untouched a fa)
+    no_program TracedAndCounted why' = (why', untouched a fa)
+    no_program ThreadsAlone why' = (why', untouched a fa)
+    no_program (Unread at) why' = (why', untouched a fa)
+    no_program NotSource why' = (why', untouched a fa)
+    no_program (Source refused) why' = (why', untouched a fa)
+    no_program (Load why) why' = (why', untouched a fa)
+    no_program (Boot why) why' = absurd (elim why' [ inl x ↦ x.1 | inr x ↦ x.1 ])
+    no_program (Word text) why' = absurd (elim why' [ inl x ↦ x.1 | inr x ↦ x.1 ])
+    no_program NotSchedule why' = absurd (elim why' [ inl x ↦ x.1 | inr x ↦ x.1 ])
+    no_program (Schedule number) why' = absurd (elim why' [ inl x ↦ x.1 | inr x ↦ x.1 ])
+    no_program Unwritten why' = absurd (elim why' [ inl x ↦ x.1 | inr x ↦ x.1 ])
+    no_program (Unmade at) why' = (why', untouched a fa)
+    no_program NoMemory why' = untouched a fa
+
+    module _ (path : List ℕ) (h : Option (List ℕ)) (fh : ℕ) where
+      pub no_program_kept : (fault : Fault) → IsProgramFault run.file.now file fault → IsKeptFault run file path h h fh fh a a fa fa fault
+      no_program_kept NotText why' = (why', untouched h fh, untouched a fa)
+      no_program_kept (Refused text) why' = (why', untouched h fh, untouched a fa)
+      no_program_kept (Value text) why' = (why', untouched h fh, untouched a fa)
+      no_program_kept TracedAndCounted why' = (why', untouched h fh, untouched a fa)
+      no_program_kept ThreadsAlone why' = (why', untouched h fh, untouched a fa)
+      no_program_kept (Unread at) why' = (why', untouched h fh, untouched a fa)
+      no_program_kept NotSource why' = (why', untouched h fh, untouched a fa)
+      no_program_kept (Source refused) why' = (why', untouched h fh, untouched a fa)
+      no_program_kept (Load why) why' = (why', untouched h fh, untouched a fa)
+      no_program_kept (Boot why) why' = absurd (elim why' [ inl x ↦ x.1 | inr x ↦ x.1 ])
+      no_program_kept (Word text) why' = absurd (elim why' [ inl x ↦ x.1 | inr x ↦ x.1 ])
+      no_program_kept NotSchedule why' = absurd (elim why' [ inl x ↦ x.1 | inr x ↦ x.1 ])
+      no_program_kept (Schedule number) why' = absurd (elim why' [ inl x ↦ x.1 | inr x ↦ x.1 ])
+      no_program_kept Unwritten why' = absurd (elim why' [ inl x ↦ x.1 | inr x ↦ x.1 ])
+      no_program_kept (Unmade at) why' = absurd (elim why' [ inl x ↦ x.1 | inr x ↦ x.1 ])
+      no_program_kept NoMemory why' = (untouched h fh, untouched a fa)
+
+  module _ (p : Program) (holds : IsProgramIn run.file.now file p) (a : Option (List ℕ)) (fa : ℕ) where
+    pub unready : (fault : Fault) → IsUnready run p fault → IsFault run file a a fa fa fault
+    unready NotText is = absurd is
+    unready (Refused text) is = absurd is
+    unready (Value text) is = absurd is
+    unready TracedAndCounted is = absurd is
+    unready ThreadsAlone is = absurd is
+    unready (Unread at) is = absurd is
+    unready NotSource is = absurd is
+    unready (Source refused) is = absurd is
+    unready (Load why) is = absurd is
+    unready (Boot why) is = ((p, holds, is), untouched a fa)
+    unready (Word text) (k, w, boots, first, is) = ((k, w, record { program = p; holds = holds; boots = boots; first = first }, is), untouched a fa)
+    unready NotSchedule is = absurd is
+    unready (Schedule number) is = absurd is
+    unready Unwritten is = absurd is
+    unready (Unmade at) is = absurd is
+    unready NoMemory is = untouched a fa
+
+    module _ (path : List ℕ) (h : Option (List ℕ)) (fh : ℕ) where
+      pub unready_kept : (fault : Fault) → IsUnready run p fault → IsKeptFault run file path h h fh fh a a fa fa fault
+      unready_kept NotText is = absurd is
+      unready_kept (Refused text) is = absurd is
+      unready_kept (Value text) is = absurd is
+      unready_kept TracedAndCounted is = absurd is
+      unready_kept ThreadsAlone is = absurd is
+      unready_kept (Unread at) is = absurd is
+      unready_kept NotSource is = absurd is
+      unready_kept (Source refused) is = absurd is
+      unready_kept (Load why) is = absurd is
+      unready_kept (Boot why) is = ((p, holds, is), untouched h fh, untouched a fa)
+      unready_kept (Word text) (k, w, boots, first, is) = ((k, w, record { program = p; holds = holds; boots = boots; first = first }, is), untouched h fh, untouched a fa)
+      unready_kept NotSchedule is = absurd is
+      unready_kept (Schedule number) is = absurd is
+      unready_kept Unwritten is = absurd is
+      unready_kept (Unmade at) is = absurd is
+      unready_kept NoMemory is = (untouched h fh, untouched a fa)
+
+-- ---- what a sink took
+
+all_of : (a b : Option (List ℕ)) (fa fb : ℕ) (text : List ℕ) → Puts a b fa fb text (Ok tt) → TookAll a b fa fb text
+all_of a b fa fb text puts = record { whole = puts.whole; clean = puts.clean }
+
+part_of : (a b : Option (List ℕ)) (fa fb : ℕ) (text : List ℕ) (e : SinkFault) → Puts a b fa fb text (Err e) → TookPart a b fa fb text
+part_of a b fa fb text e puts = record { part = puts.part; fault = puts.fault }
+
+-- a text was put, and then written out
+written : (a b c : Option (List ℕ)) (fa fb fc : ℕ) (text : List ℕ) (r : Result Unit SinkFault) → Puts a b fa fb text (Ok tt) → Puts b c fb fc [] r → Puts a c fa fc text r
+written a b c fa fb fc text r put out = puts-same (append-nil text) (puts-both put out)
+
+pub written_out : (a b c : Option (List ℕ)) (fa fb fc : ℕ) (text : List ℕ) → Puts a b fa fb text (Ok tt) → Puts b c fb fc [] (Ok tt) → TookAll a c fa fc text
+written_out a b c fa fb fc text put out = all_of a c fa fc text (written a b c fa fb fc text (Ok tt) put out)
+
+pub not_written_out : (a b c : Option (List ℕ)) (fa fb fc : ℕ) (text : List ℕ) (e : SinkFault) → Puts a b fa fb text (Ok tt) → Puts b c fb fc [] (Err e) → TookPart a c fa fc text
+not_written_out a b c fa fb fc text e put out = part_of a c fa fc text e (written a b c fa fb fc text (Err e) put out)

@@ -1,0 +1,64 @@
+ghost use Rattle.std.specs.Prelude.{◌≡◌, ◌≤◌, ◌<◌, ◌*◌, ◌^◌, ◌⊎◌, MatchResult};
+ghost use Rattle.words.specs.Limits.{most_harts};
+ghost use Rattle.machine.specs.States.{geometry};
+ghost use Rattle.hub.specs.Hubs.{IsEnd};
+ghost use Rattle.simulate.specs.declared.fault.Fault.TheVariants.{NoMemory};
+ghost use Rattle.answering.specs.declared.stop.Stop.TheVariants.{Refused, Exchanged};
+
+use crate::stop::Stop;
+use board::Lease;
+use history::Journal;
+use hub::{Ended, Hub};
+use loader::Program;
+use std::sync::{Mutex, Wait};
+use std::thread::Threads;
+use words::HartId;
+use workers::{Gate, serve};
+
+/// The most steps of a lease.
+const STEPS: usize = 64;
+
+/// Runs each lease as far as it goes.
+#[derive(Drop)]
+struct Whole;
+
+impl<'p, const SETS: usize, const WAYS: usize> Gate<Lease<'p, SETS, WAYS>> for Whole {
+    fn lent(&self, _hart: HartId, _turn: u64, lease: &mut Lease<'p, SETS, WAYS>) -> bool {
+        lease.run(STEPS);
+        true
+    }
+
+    fn settled(&self, _hart: HartId, _turn: u64) {}
+}
+
+/// Runs each hart of a hub in a thread of its own, each until it doesn't run any more or has had so many turns: it is lent, makes up to 64 steps by
+/// itself, comes back, and is visited. What no thread can be started for, the caller does.
+pub(crate) fn run_hub<
+    'p,
+    'a,
+    const SETS: usize,
+    const WAYS: usize,
+    J: Journal + Send,
+    R: Threads + Wait + Sync,
+>(
+    rt: &R,
+    hub: Hub<'p, SETS, WAYS, J>,
+    program: &Program,
+    harts: u32,
+    size: u32,
+    turns: u64,
+) -> Result<Ended<'p, SETS, WAYS, J>, Stop<'a>>
+    requires lines { SETS * WAYS < 2 ^ 32 }
+    requires few { harts ≤ most_harts }
+    ensures { MatchResult result (λ end. IsEnd (geometry SETS WAYS) program.now harts size (J.tells end.journal) end.machine)
+        (λ stop. (stop ≡ Refused NoMemory) ⊎ (stop ≡ Exchanged)) }
+{
+    let desk = Mutex::new(hub);
+    serve::<Hub<'p, SETS, WAYS, J>, Whole, R>(rt, &desk, harts as usize, &Whole, turns)?;
+    let end = desk.into_inner().finish();
+    if end.harts == harts && end.size == size && end.program.same(program) {
+        Ok(end)
+    } else {
+        Err(Stop::Exchanged)
+    }
+}

@@ -1,0 +1,116 @@
+//! A lease whose hart has changed while it was out, and one of another program.
+
+use board::{Board, Lease, Refusal};
+use elf_samples::{COMMITS, program};
+use loader::Program;
+use machine_play::{SIZE, one, zero};
+use std::alloc::{AllocError, AllocGlobal, Global};
+use std::process::Abort;
+use std::test::Fail;
+use words::{HartId, Step};
+
+type Small<'p> = Board<'p, 2, 1>;
+
+/// Reads the word at 0x2000, and writes it.
+#[rattlefmt::skip]
+const READS_AND_WRITES: [u32; 3] = [
+    0x0000_24b7, // lui s1, 0x2
+    0x0004_a283, // lw t0, 0(s1)
+    0x0054_a023, // sw t0, 0(s1)
+];
+
+/// A board of a program for so many harts.
+fn booted<'p>(alloc: Global, program: &'p Program, harts: u32) -> Result<Small<'p>, Fail> {
+    Ok(Board::boot(alloc, program, harts, SIZE)?)
+}
+
+fn make<'p>(board: &mut Small<'p>, step: Step) -> Result<(), AllocError> {
+    match board.turn(step) {
+        Ok(_) => Ok(()),
+        Err(error) => Err(error),
+    }
+}
+
+/// So many messages arrive, the oldest first, or fewer if there are no more.
+fn deliver<'p>(board: &mut Small<'p>, most: usize) -> Result<(), AllocError> {
+    for _ in 0..most {
+        let Some(key) = board.machine().next_message(None) else {
+            return Ok(());
+        };
+        make(board, Step::Deliver(key))?;
+    }
+    Ok(())
+}
+
+/// A hart reads the word.
+fn read<'p>(board: &mut Small<'p>, hart: HartId) -> Result<(), AllocError> {
+    make(board, Step::Core(hart))?;
+    make(board, Step::Core(hart))?;
+    deliver(board, 9)?;
+    make(board, Step::Core(hart))
+}
+
+fn lent<'p>(board: &Small<'p>) -> Option<Lease<'p, 2, 1>> {
+    board.lend(zero())
+}
+
+/// What refuses a lease.
+fn refusal<'p>(board: &mut Small<'p>, lease: Lease<'p, 2, 1>) -> Option<Refusal> {
+    match board.settle(lease) {
+        Ok(()) => None,
+        Err((_lease, refusal)) => Some(refusal),
+    }
+}
+
+/// Both harts hold the block to read it. Hart 0 is lent, and hart 1 asks for the block to write it; then so many messages arrive, the first of which is
+/// that request, and the others what the directory sends for it. What refuses the lease then?
+fn refusal_after(
+    rt: &(impl Abort + AllocGlobal),
+    messages: usize,
+    want: Option<Refusal>,
+) -> Result<(), Fail> {
+    let program = program(rt.alloc(), &READS_AND_WRITES)?;
+    let mut board: Small = booted(rt.alloc(), &program, 2)?;
+    read(&mut board, zero())?;
+    read(&mut board, one())?;
+    let lease = lent(&board);
+    make(&mut board, Step::Core(one()))?;
+    deliver(&mut board, messages)?;
+    let made = board.history().len();
+    assert!(rt; lease.is_some());
+    if let Some(lease) = lease {
+        assert_eq!(rt; refusal(&mut board, lease), want);
+    }
+    assert_eq!(rt; board.history().len(), made);
+    Ok(())
+}
+
+#[test]
+fn a_lease_is_stale_once_its_hart_has_changed(rt: HostRuntime) -> Result<(), Fail> {
+    refusal_after(&rt, 0, None)?;
+    refusal_after(&rt, 1, None)?;
+    refusal_after(&rt, 9, Some(Refusal::Stale))
+}
+
+/// That a lease of the one program's board is stale for the other's.
+fn check_stale<'p>(
+    rt: &(impl Abort + AllocGlobal),
+    first: &'p Program,
+    other: &'p Program,
+) -> Result<(), Fail> {
+    let board: Small<'p> = booted(rt.alloc(), first, 1)?;
+    let mut others: Small<'p> = booted(rt.alloc(), other, 1)?;
+    let lease = lent(&board);
+    assert!(rt; lease.is_some());
+    if let Some(lease) = lease {
+        assert_eq!(rt; refusal(&mut others, lease), Some(Refusal::Stale));
+    }
+    Ok(())
+}
+
+#[test]
+fn a_lease_of_another_program_is_stale(rt: HostRuntime) -> Result<(), Fail> {
+    let first = program(rt.alloc(), &READS_AND_WRITES)?;
+    let other = program(rt.alloc(), &COMMITS)?;
+    check_stale(&rt, &first, &other)
+}

@@ -1,0 +1,101 @@
+//! The timeline of a program that stores 7 to 0x2000 in a transaction, and exits: the store misses, and its hart asks the directory for the block.
+use super::booted::booted;
+use super::refusing::Refusing;
+use elf_samples::{ABORTS, COMMITS};
+use json::{Scratch, is_valid};
+use std::alloc::Global;
+use std::str;
+use std::test::Fail;
+use timeline::{Chart, put_timeline};
+use watch::Halt;
+use words::{Sink, Taken};
+
+const TIMELINE: &str = r#"{"traceEvents":[
+{"ph":"M","name":"process_name","pid":0,"args":{"name":"logtm"}},
+{"ph":"M","name":"thread_name","pid":0,"tid":0,"args":{"name":"hart 0"}},
+{"ph":"M","name":"thread_name","pid":0,"tid":8,"args":{"name":"directory"}},
+{"ph":"B","name":"transaction","ts":0,"pid":0,"tid":0},
+{"ph":"X","dur":1,"ts":0,"pid":0,"tid":0,"name":"tbegin 20"},
+{"ph":"X","dur":1,"ts":1,"pid":0,"tid":0,"name":"lui t0, 0x2"},
+{"ph":"X","dur":1,"ts":2,"pid":0,"tid":0,"name":"addi t1, zero, 7"},
+{"ph":"X","dur":1,"ts":3,"pid":0,"tid":0,"name":"core"},
+{"ph":"s","cat":"message","name":"get","id":0,"ts":3,"pid":0,"tid":0},
+{"ph":"X","dur":1,"ts":4,"pid":0,"tid":8,"name":"get 0 0x00002000 write stamp 0.0"},
+{"ph":"f","bp":"e","cat":"message","name":"get","id":0,"ts":4,"pid":0,"tid":8},
+{"ph":"s","cat":"message","name":"grant","id":1,"ts":4,"pid":0,"tid":8},
+{"ph":"X","dur":1,"ts":5,"pid":0,"tid":0,"name":"grant 0 0x00002000 M expect - content 0x00000000"},
+{"ph":"f","bp":"e","cat":"message","name":"grant","id":1,"ts":5,"pid":0,"tid":0},
+{"ph":"s","cat":"message","name":"done","id":2,"ts":5,"pid":0,"tid":0},
+{"ph":"X","dur":1,"ts":6,"pid":0,"tid":8,"name":"done 0 0x00002000 ok content -"},
+{"ph":"f","bp":"e","cat":"message","name":"done","id":2,"ts":6,"pid":0,"tid":8},
+{"ph":"X","dur":1,"ts":7,"pid":0,"tid":0,"name":"sw t1, 0(t0)"},
+{"ph":"X","dur":1,"ts":8,"pid":0,"tid":0,"name":"tcommit"},
+{"ph":"E","args":{"outcome":"committed"},"ts":9,"pid":0,"tid":0},
+{"ph":"X","dur":1,"ts":9,"pid":0,"tid":0,"name":"addi a7, zero, 93"},
+{"ph":"X","dur":1,"ts":10,"pid":0,"tid":0,"name":"addi a0, zero, 0"},
+{"ph":"X","dur":1,"ts":11,"pid":0,"tid":0,"name":"ecall"}
+]}
+"#;
+
+/// Puts the timeline of a program into a sink.
+fn shown<S: Sink>(
+    alloc: Global,
+    text: &[u32],
+    harts: u32,
+    chart: &mut Chart<S>,
+) -> Result<Result<(), Halt>, Fail> {
+    let mut machine = booted(alloc, text, harts)?;
+    Ok(put_timeline(&mut machine, &[], 1000, chart))
+}
+
+/// A sink in memory.
+fn taken(alloc: Global) -> Chart<Taken> {
+    Chart::new(Taken {
+        bytes: Vec::new(alloc),
+        failed: 0,
+    })
+}
+
+#[test]
+fn each_step_has_its_events(rt: HostRuntime) -> Result<(), Fail> {
+    let mut chart = taken(rt.alloc());
+    match shown(rt.alloc(), &COMMITS, 1, &mut chart)? {
+        Ok(()) => assert_eq!(rt; str::from_utf8(&chart.sink.bytes)?, TIMELINE),
+        Err(Halt::NoMemory) => {}
+        Err(Halt::Untold) => assert_eq!(rt; chart.sink.failed, 1),
+    }
+    Ok(())
+}
+
+#[test]
+fn a_timeline_is_json(rt: HostRuntime) -> Result<(), Fail> {
+    for program in [&COMMITS[..], &ABORTS[..]] {
+        let mut chart = taken(rt.alloc());
+        let mut scratch = Scratch::new(rt.alloc());
+        if shown(rt.alloc(), program, 2, &mut chart)? == Ok(()) {
+            let text = str::from_utf8(&chart.sink.bytes)?;
+            assert!(rt; is_valid(text, &mut scratch)?);
+        }
+    }
+    Ok(())
+}
+
+#[test]
+fn each_put_that_is_refused_is_told(rt: HostRuntime) -> Result<(), Fail> {
+    // 9 pieces of names, 12 slices of 7, a begin of 5, an end of 7, 6 ends of flows of 11, and the last line.
+    let pieces = 172;
+    for left in 0..180 {
+        let mut chart = Chart::new(Refusing { left, failed: 0 });
+        let put = shown(rt.alloc(), &COMMITS, 1, &mut chart)?;
+        let want = if left < pieces {
+            Err(Halt::Untold)
+        } else {
+            Ok(())
+        };
+        if put != Err(Halt::NoMemory) {
+            assert_eq!(rt; put, want, "after {left}");
+            assert_eq!(rt; chart.sink.failed, u64::from(left < pieces));
+        }
+    }
+    Ok(())
+}

@@ -1,0 +1,75 @@
+use assembler::{AsmFault, assemble};
+use loader::{LoadFault, read_elf, write_elf};
+use std::alloc::AllocError;
+use std::test::Fail;
+
+/// One text segment at 0x1000, where the program begins: a7 = 93, a0 = 0, and ECALL.
+#[rattlefmt::skip]
+const SAMPLE: [u8; 96] = [
+    0x7f, 0x45, 0x4c, 0x46, 0x01, 0x01, 0x01, 0x00, 0x00, 0x00, 0x00, 0x00, 0x00, 0x00, 0x00, 0x00,
+    0x02, 0x00, 0xf3, 0x00, 0x01, 0x00, 0x00, 0x00, 0x00, 0x10, 0x00, 0x00, 0x34, 0x00, 0x00, 0x00,
+    0x00, 0x00, 0x00, 0x00, 0x00, 0x00, 0x00, 0x00, 0x34, 0x00, 0x20, 0x00, 0x01, 0x00, 0x00, 0x00,
+    0x00, 0x00, 0x00, 0x00,
+    0x01, 0x00, 0x00, 0x00, 0x54, 0x00, 0x00, 0x00, 0x00, 0x10, 0x00, 0x00, 0x00, 0x10, 0x00, 0x00,
+    0x0c, 0x00, 0x00, 0x00, 0x0c, 0x00, 0x00, 0x00, 0x05, 0x00, 0x00, 0x00, 0x01, 0x00, 0x00, 0x00,
+    0x93, 0x08, 0xd0, 0x05, 0x13, 0x05, 0x00, 0x00, 0x73, 0x00, 0x00, 0x00,
+];
+
+/// Labels for a map of several nodes, and text that grows.
+const MANY_LABELS: &str = "\
+a: la a0, a
+b: la a0, h
+c: la a0, o
+d: la a0, v
+e: la a0, c
+f: la a0, j
+g: la a0, q
+h: la a0, x
+i: la a0, e
+j: la a0, l
+k: la a0, s
+l: la a0, z
+m: la a0, g
+n: la a0, n
+o: la a0, u
+p: la a0, b
+q: la a0, i
+r: la a0, p
+s: la a0, w
+t: la a0, d
+u: la a0, k
+v: la a0, r
+w: la a0, y
+x: la a0, f
+y: la a0, m
+z: la a0, t
+.data
+numbers: .word 1, 2, 3
+.space 100
+";
+
+/// A source is assembled whole, or memory ran out.
+#[test]
+fn assembles_or_wants_memory(rt: HostRuntime) -> Result<(), Fail> {
+    match assemble(rt.alloc(), MANY_LABELS) {
+        Ok(program) => match program.segments() {
+            [text, data] => assert_eq!(rt; (text.bytes.len(), data.bytes.len()), (208, 112)),
+            others => assert_eq!(rt; others.len(), 2),
+        },
+        Err(fault) => assert_eq!(rt; fault.fault, AsmFault::NoMemory),
+    }
+    Ok(())
+}
+
+/// A file is read and written whole, or memory ran out.
+#[test]
+fn copies_a_file_or_wants_memory(rt: HostRuntime) -> Result<(), Fail> {
+    match read_elf(rt.alloc(), &SAMPLE) {
+        Ok(program) => match write_elf(rt.alloc(), &program) {
+            Ok(file) => assert_eq!(rt; file[..], SAMPLE[..]),
+            Err(AllocError) => {}
+        },
+        Err(fault) => assert_eq!(rt; fault, LoadFault::NoMemory),
+    }
+    Ok(())
+}

@@ -1,0 +1,3 @@
+mod Drawing
+mod Sending
+mod Showing

@@ -1,0 +1,5 @@
+use Rattle.std.proofs.Common.{sym}
+use Rattle.timeline.proofs.chart.put_hart.Goals as goal
+
+pub returns : goal.returns
+returns g c = rw (sym c.format.ensures.text, sym c.as_bytes-digits.ensures.value) c.put_all.ensures

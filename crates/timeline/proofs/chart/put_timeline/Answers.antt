@@ -1,0 +1,27 @@
+use Rattle.std.proofs.Common.{refl, ap}
+use Rattle.std.proofs.lemmas.Result.{err_from_is_err_and}
+use Rattle.texts.proofs.Putting.{puts-same}
+use Rattle.machine.specs.States.{geometry}
+use Rattle.timeline.specs.Timelines.{opening}
+use Rattle.timeline.proofs.Showing.{cut_opening, well_put, halted, given}
+use Rattle.timeline.proofs.chart.put_timeline.Goals as goal
+
+pub returns-in_err-put_or_halt : goal.returns-in_err-put_or_halt
+returns-in_err-put_or_halt g c =
+    let p = err_from_is_err_and c.from_residual.result c.from_residual.ensures.1 in
+    rw (p.1, p.2, c.in_err-put_or_halt.ensures.0)
+    (cut_opening (geometry g.row.SETS g.row.WAYS) c.args.choices.now c.args.steps c.args.machine.now (g.S.Sink.taken c.args.chart.now.sink) (g.S.Sink.taken c.put_opening.new.sink) (g.S.Sink.failed c.args.chart.now.sink) (g.S.Sink.failed c.put_opening.new.sink)
+    c.put_opening.result c.in_err-put_or_halt.ensures.1 (puts-same (ap opening c.harts-harts.ensures.value) c.put_opening.ensures))
+
+pub returns-in_err-follow_watched : goal.returns-in_err-follow_watched
+returns-in_err-follow_watched g c =
+    let p = err_from_is_err_and c.from_residual-in_err-follow_watched.result c.from_residual-in_err-follow_watched.ensures.1 in
+    let begun = well_put c.put_opening.result c.in_ok-put_or_halt.ensures (puts-same (ap opening c.harts-harts.ensures.value) c.put_opening.ensures) in
+    rw (p.1, p.2)
+    (halted (geometry g.row.SETS g.row.WAYS) c.args.choices.now c.args.steps c.args.machine.now c.follow_watched.new.machine (λ l. g.S.Sink.taken l.sink) (λ l. g.S.Sink.failed l.sink) (λ l. l.time) (record { sink = c.put_opening.new.sink; time = 0 }) c.follow_watched.new.log refl (g.S.Sink.taken c.args.chart.now.sink) (g.S.Sink.failed c.args.chart.now.sink) begun c.in_err-follow_watched.field-0.0 c.in_err-follow_watched.ensures)
+
+pub returns : goal.returns
+returns g c =
+    let begun = well_put c.put_opening.result c.in_ok-put_or_halt.ensures (puts-same (ap opening c.harts-harts.ensures.value) c.put_opening.ensures) in
+    given (geometry g.row.SETS g.row.WAYS) c.args.choices.now c.args.steps c.args.machine.now c.follow_watched.new.machine (λ l. g.S.Sink.taken l.sink) (λ l. g.S.Sink.failed l.sink) (λ l. l.time) (record { sink = c.put_opening.new.sink; time = 0 }) c.follow_watched.new.log refl (g.S.Sink.taken c.args.chart.now.sink) (g.S.Sink.failed c.args.chart.now.sink) begun (g.S.Sink.taken c.put_all.new.sink) (g.S.Sink.failed c.put_all.new.sink)
+    c.in_ok-follow_watched.ensures c.put_all.result c.put_or_halt-2.result c.put_all.ensures c.put_or_halt-2.ensures

@@ -1,0 +1,17 @@
+use Rattle.std.proofs.Common.{sym}
+use Rattle.timeline.proofs.events.put_flow.Goals as goal
+
+pub returns : goal.returns
+returns g c =
+    rw (
+      sym c.as_bytes.ensures.value,
+      sym c.name_of.ensures,
+      sym c.name.ensures,
+      sym c.as_bytes-2.ensures.value,
+      sym c.format.ensures.text,
+      sym c.as_bytes-3.ensures.value,
+      sym c.format-2.ensures.text,
+      sym c.as_bytes-4.ensures.value,
+      sym c.format-3.ensures.text,
+      sym c.as_bytes-5.ensures.value,
+    ) c.put_all.ensures

@@ -1,0 +1,183 @@
+ghost use Rattle.std.specs.Prelude.{◌≡◌, Ok, Err, IsErr, MatchResult};
+ghost use Rattle.std.specs.List.{flat_map, range_with_len};
+ghost use Rattle.words.specs.declared.sink.SinkFault.{SinkFault};
+ghost use Rattle.texts.specs.Puts.{Puts};
+ghost use Rattle.machine.specs.States.{geometry};
+ghost use Rattle.watch.specs.declared.halt.Halt.TheVariants.{Untold};
+ghost use Rattle.timeline.specs.Events.{events_of, next_time};
+ghost use Rattle.timeline.specs.Timelines as spec;
+ghost use Rattle.timeline.specs.Timelines.{IsShown, IsCutShort};
+
+use crate::edge::edge_at;
+use crate::events::{Place, put_all_sent, put_arrival, put_begin, put_end, put_slice};
+use crate::label::{DIRECTORY, lane};
+use itoa::Buffer;
+use machine::Machine;
+use network::Flight;
+use schedule::Choice;
+use texts::put_all;
+use watch::{Halt, WatchFault, Watcher, follow_watched};
+use words::{Entry, Sink, SinkFault, Step};
+
+/// A sink that a timeline is put into, and the time of the next step.
+#[derive(Drop)]
+pub struct Chart<S> {
+    pub sink: S,
+    time: u64,
+}
+
+impl<S: Sink> Chart<S> {
+    /// Nothing is put yet.
+    pub fn new(sink: S) -> Self
+        ensures sink { result.sink ≡ sink }
+        ensures time { result.time ≡ 0 }
+    {
+        Chart { sink, time: 0 }
+    }
+}
+
+/// Notes steps as events.
+#[derive(Clone, Copy, Debug)]
+struct Drawer;
+
+impl<const SETS: usize, const WAYS: usize, S: Sink> Watcher<Machine<SETS, WAYS>, Chart<S>>
+    for Drawer {
+    ghost notes = { λ _ before sent step arrival entry w after.
+        Puts (S.taken before.sink) (S.taken after.sink) (S.failed before.sink) (S.failed after.sink) (events_of SETS before.time (record { sent = sent; step = step; arrival = arrival; entry = entry; after = w })) (Ok tt)
+        × (after.time ≡ next_time before.time) };
+
+    ghost misses = { λ _ before sent step arrival entry w after. (fault : SinkFault)
+        × Puts (S.taken before.sink) (S.taken after.sink) (S.failed before.sink) (S.failed after.sink) (events_of SETS before.time (record { sent = sent; step = step; arrival = arrival; entry = entry; after = w })) (Err fault) };
+
+    fn note(
+        &self,
+        sent: u64,
+        step: &Step,
+        arrival: &Option<Flight>,
+        entry: &Option<Entry>,
+        machine: &Machine<SETS, WAYS>,
+        log: &mut Chart<S>,
+    ) -> Result<(), WatchFault> {
+        let time = log.time;
+        match put_events(&mut log.sink, time, sent, step, arrival, entry, machine) {
+            Ok(()) => {
+                log.time = time.saturating_add(1);
+                Ok(())
+            }
+            Err(_) => Err(WatchFault),
+        }
+    }
+}
+
+/// Puts the events of a step, before which so many messages had been sent, and behind which the machine is this one.
+fn put_events<const SETS: usize, const WAYS: usize, S: Sink>(
+    sink: &mut S,
+    time: u64,
+    sent: u64,
+    step: &Step,
+    arrival: &Option<Flight>,
+    entry: &Option<Entry>,
+    machine: &Machine<SETS, WAYS>,
+) -> Result<(), SinkFault>
+    ensures { Puts (S.taken sink.old) (S.taken sink.new) (S.failed sink.old) (S.failed sink.new)
+        (events_of SETS time (record { sent = sent; step = step.now; arrival = arrival.now; entry = entry.now; after = machine.now })) result }
+{
+    let place = Place {
+        time,
+        lane: lane(step, arrival),
+    };
+    let edge = edge_at(entry, machine);
+    put_begin(sink, place, edge)?;
+    put_slice(sink, place, step, arrival, entry)?;
+    put_arrival(sink, place, arrival)?;
+    put_all_sent(sink, place, sent, machine)?;
+    put_end(sink, place, edge)
+}
+
+/// Puts the name of a hart's lane.
+fn put_hart<S: Sink>(sink: &mut S, hart: usize) -> Result<(), SinkFault>
+    ensures { Puts (S.taken sink.old) (S.taken sink.new) (S.failed sink.old) (S.failed sink.new) (spec.hart_lane hart) result }
+{
+    let mut number = Buffer::new();
+    let digits = number.format(hart).as_bytes();
+    put_all(
+        sink,
+        &[
+            b",\n{\"ph\":\"M\",\"name\":\"thread_name\",\"pid\":0,\"tid\":",
+            digits,
+            b",\"args\":{\"name\":\"hart ",
+            digits,
+            b"\"}}",
+        ],
+    )
+}
+
+/// Puts the name of the directory's lane.
+fn put_directory<S: Sink>(sink: &mut S) -> Result<(), SinkFault>
+    ensures { Puts (S.taken sink.old) (S.taken sink.new) (S.failed sink.old) (S.failed sink.new) (spec.last_lane) result }
+{
+    let mut number = Buffer::new();
+    put_all(
+        sink,
+        &[
+            b",\n{\"ph\":\"M\",\"name\":\"thread_name\",\"pid\":0,\"tid\":",
+            number.format(DIRECTORY).as_bytes(),
+            b",\"args\":{\"name\":\"directory\"}}",
+        ],
+    )
+}
+
+/// Puts what comes before the events: the names of the lanes.
+fn put_opening<S: Sink>(sink: &mut S, harts: usize) -> Result<(), SinkFault>
+    ensures { Puts (S.taken sink.old) (S.taken sink.new) (S.failed sink.old) (S.failed sink.new) (spec.opening harts) result }
+{
+    put_all(
+        sink,
+        &[
+            b"{\"traceEvents\":[\n{\"ph\":\"M\",\"name\":\"process_name\",\"pid\":0,\"args\":{\"name\":\"logtm\"}}",
+        ],
+    )?;
+    put_harts(sink, harts)?;
+    put_directory(sink)
+}
+
+fn put_harts<S: Sink>(sink: &mut S, harts: usize) -> Result<(), SinkFault>
+    ensures { Puts (S.taken sink.old) (S.taken sink.new) (S.failed sink.old) (S.failed sink.new) (flat_map spec.hart_lane (range_with_len 0 harts)) result }
+{
+    for hart in 0..harts {
+        put_hart(sink, hart)?;
+    }
+    Ok(())
+}
+
+/// The choices in order, so many at most, and turns behind the last of them, as [`schedule::follow`] makes them. The events of each step are put
+/// before the next step.
+///
+/// If memory runs out, the machine is left where the steps before led, and their events were put, with no end of the timeline. If a put fails,
+/// the steps of all events up to it were made, and a beginning of their timeline was taken.
+pub fn put_timeline<const SETS: usize, const WAYS: usize, S: Sink>(
+    machine: &mut Machine<SETS, WAYS>,
+    choices: &[Choice],
+    steps: u32,
+    chart: &mut Chart<S>,
+) -> Result<(), Halt>
+    ensures { MatchResult result
+        (λ _. IsShown (geometry SETS WAYS) choices.now steps machine.old machine.new (S.taken chart.old.sink) (S.taken chart.new.sink) (S.failed chart.old.sink) (S.failed chart.new.sink))
+        (IsCutShort (geometry SETS WAYS) choices.now steps machine.old machine.new (S.taken chart.old.sink) (S.taken chart.new.sink) (S.failed chart.old.sink) (S.failed chart.new.sink)) }
+{
+    chart.time = 0;
+    let harts = machine.harts();
+    put_or_halt(put_opening(&mut chart.sink, harts))?;
+    follow_watched(machine, choices, steps, &Drawer, chart)?;
+    put_or_halt(put_all(&mut chart.sink, &[b"\n]}\n"]))
+}
+
+/// A put that fails halts the run.
+fn put_or_halt(put: Result<(), SinkFault>) -> Result<(), Halt>
+    ensures { MatchResult result (λ _. put ≡ Ok tt) (λ halt. (halt ≡ Untold) × IsErr put) }
+{
+    match put {
+        Ok(()) => Ok(()),
+        Err(SinkFault) => Err(Halt::Untold),
+    }
+}
