@@ -39,7 +39,7 @@ use Rattle.simulate.specs.Sinks.{TookAll, TookPart, IsUntouched}
 use Rattle.simulate.specs.Sources.{IsProgramIn, IsProgramFault}
 use Rattle.simulate.specs.Statuses.{IsReported, IsStatusOf}
 use Rattle.simulate.specs.declared.fault.Fault.{Fault}
-use Rattle.simulate.specs.declared.fault.Fault.TheVariants.{NotText, Refused, Value, TracedAndCounted, ThreadsAlone, Unread, NotSource, Source, Load, Boot, Word, NotSchedule, Schedule, Unwritten, Unmade, NoMemory}
+use Rattle.simulate.specs.declared.fault.Fault.TheVariants.{NotText, Refused, Value, TwoViews, LongPicture, ThreadsAlone, Unread, NotSource, Source, Load, Boot, Word, NotSchedule, Schedule, Unwritten, Unmade, NoMemory}
 use Rattle.simulate.proofs.Performing.{same_setting}
 use Rattle.answering.specs.declared.stop.Stop.{Stop}
 use Rattle.answering.specs.declared.stop.Stop.TheVariants as stop
@@ -65,6 +65,10 @@ unready_boot run p boot.NoMemory h = tt
 first_setting : (g : Geometry) (p : Program) (n size : ℕ) (m : State) → shown g.sets m ≡ start (first_flat p n size).setting p.entry → setting_of m ≡ (first_flat p n size).setting
 first_setting g p n size m is = ap (λ (w : Machine). w.setting) is
 
+-- what is ready of a program is so of the same
+pub ready_of : (run : Run) (p q : Program) (addrs : List ℕ) → q ≡ p → IsReady run q addrs → IsReady run p addrs
+ready_of run p q addrs same ready = subst (λ (r : Program). IsReady run r addrs) same ready
+
 -- the words that were looked for before the first turn
 module _ (run : Run) (p : Program) (g : Geometry) (v m : State) (boots : boot_fault p.segments run.harts run.memory ≡ None) (starts : shown g.sets v ≡ start (first_flat p run.harts run.memory).setting p.entry) (same : m ≡ v)
     (words : List Asked) (as_given : words ≡ run.words.items) where
@@ -75,7 +79,8 @@ module _ (run : Run) (p : Program) (g : Geometry) (v m : State) (boots : boot_fa
   unreadable NotText h = absurd h
   unreadable (Refused text) h = absurd h
   unreadable (Value text) h = absurd h
-  unreadable TracedAndCounted h = absurd h
+  unreadable TwoViews h = absurd h
+  unreadable LongPicture h = absurd h
   unreadable ThreadsAlone h = absurd h
   unreadable (Unread at) h = absurd h
   unreadable NotSource h = absurd h
@@ -202,7 +207,8 @@ module _ (run : Run) (file : List ℕ) (p : Program) (holds : IsProgramIn run.fi
   half_kept told same path h k a fh fk fa NotText half = absurd half
   half_kept told same path h k a fh fk fa (Refused text) half = absurd half
   half_kept told same path h k a fh fk fa (Value text) half = absurd half
-  half_kept told same path h k a fh fk fa TracedAndCounted half = absurd half
+  half_kept told same path h k a fh fk fa TwoViews half = absurd half
+  half_kept told same path h k a fh fk fa LongPicture half = absurd half
   half_kept told same path h k a fh fk fa ThreadsAlone half = absurd half
   half_kept told same path h k a fh fk fa (Unread at) half = absurd half
   half_kept told same path h k a fh fk fa NotSource half = absurd half
@@ -228,7 +234,8 @@ module _ (run : Run) (file : List ℕ) where
     no_program NotText why' = (why', untouched a fa)
     no_program (Refused text) why' = (why', untouched a fa)
     no_program (Value text) why' = (why', untouched a fa)
-    no_program TracedAndCounted why' = (why', untouched a fa)
+    no_program TwoViews why' = (why', untouched a fa)
+    no_program LongPicture why' = (why', untouched a fa)
     no_program ThreadsAlone why' = (why', untouched a fa)
     no_program (Unread at) why' = (why', untouched a fa)
     no_program NotSource why' = (why', untouched a fa)
@@ -247,7 +254,8 @@ module _ (run : Run) (file : List ℕ) where
       no_program_kept NotText why' = (why', untouched h fh, untouched a fa)
       no_program_kept (Refused text) why' = (why', untouched h fh, untouched a fa)
       no_program_kept (Value text) why' = (why', untouched h fh, untouched a fa)
-      no_program_kept TracedAndCounted why' = (why', untouched h fh, untouched a fa)
+      no_program_kept TwoViews why' = (why', untouched h fh, untouched a fa)
+      no_program_kept LongPicture why' = (why', untouched h fh, untouched a fa)
       no_program_kept ThreadsAlone why' = (why', untouched h fh, untouched a fa)
       no_program_kept (Unread at) why' = (why', untouched h fh, untouched a fa)
       no_program_kept NotSource why' = (why', untouched h fh, untouched a fa)
@@ -266,7 +274,8 @@ module _ (run : Run) (file : List ℕ) where
     unready NotText is = absurd is
     unready (Refused text) is = absurd is
     unready (Value text) is = absurd is
-    unready TracedAndCounted is = absurd is
+    unready TwoViews is = absurd is
+    unready LongPicture is = absurd is
     unready ThreadsAlone is = absurd is
     unready (Unread at) is = absurd is
     unready NotSource is = absurd is
@@ -285,7 +294,8 @@ module _ (run : Run) (file : List ℕ) where
       unready_kept NotText is = absurd is
       unready_kept (Refused text) is = absurd is
       unready_kept (Value text) is = absurd is
-      unready_kept TracedAndCounted is = absurd is
+      unready_kept TwoViews is = absurd is
+      unready_kept LongPicture is = absurd is
       unready_kept ThreadsAlone is = absurd is
       unready_kept (Unread at) is = absurd is
       unready_kept NotSource is = absurd is

@@ -1,15 +1,16 @@
 use crate::threads::{run_kept, run_threaded};
-use command_line::{Debug, Order, Request, Run, Target, Threaded, Traced, parse};
+use command_line::{Debug, Order, Request, Run, Shown, Target, Threaded, View, parse};
 use console::LineInput;
 use simulate::Fault;
 use simulate::debugging::play;
 use simulate::perform::perform;
-use simulate::tracing::{trace_apart, trace_before};
+use simulate::showing::{Form, show_apart, trace_before};
 use std::fs;
 use std::io::{BufWriter, ErrorKind, Write};
 use std::rt::Files;
 use std::sync::Wait;
 use std::thread::Threads;
+use timeline::Chart;
 use words::{Counted, Sink};
 
 /// Answers the words of a command line, the program's name first: reads the files that it names, has the order performed, and writes the
@@ -43,7 +44,7 @@ fn try_answer<
 ) -> Result<u8, Fault<'a>> {
     match parse(rt.alloc(), words)? {
         Request::Order(order) => carry_out(rt, &order, out, error),
-        Request::Traced(traced) => trace(rt, &traced, out, error),
+        Request::Shown(shown) => show(rt, &shown, out, error),
         Request::Threaded(threaded) => run_in_threads(rt, &threaded, out, error),
         Request::Debug(debug) => debug_file(rt, &debug, input, prompt, out, error),
     }
@@ -97,20 +98,28 @@ fn carry_out<'a, R: Files + AllocGlobal, W: Write + Drop, E: Sink>(
     Ok(outcome.status)
 }
 
-/// Has a run performed, and its trace written to where it is to go.
-fn trace<'a, R: Files + AllocGlobal, W: Write + Drop, E: Sink>(
+/// Has a run performed, and what is shown of it written to where it is to go.
+fn show<'a, R: Files + AllocGlobal, W: Write + Drop, E: Sink>(
     rt: &R,
-    traced: &Traced<'a>,
+    shown: &Shown<'a>,
     out: W,
     error: &mut E,
 ) -> Result<u8, Fault<'a>> {
-    let run = &traced.run;
+    let run = &shown.run;
     let bytes = read(rt, run.file)?;
     let list = read_if_any(rt, run.schedule)?;
     let writer = buffered(rt, out)?;
-    match traced.target {
-        Target::Output => trace_out(rt, run, &bytes, &list, writer, error),
-        Target::File(path) => trace_into(rt, run, path, &bytes, &list, writer, error),
+    match shown.view {
+        View::Trace(Target::Output) => trace_out(rt, run, &bytes, &list, writer, error),
+        View::Trace(Target::File(path)) => {
+            show_into(rt, run, Form::Trace, path, &bytes, &list, writer, error)
+        }
+        View::Timeline(path) => {
+            show_into(rt, run, Form::Timeline, path, &bytes, &list, writer, error)
+        }
+        View::Picture(path) => {
+            show_into(rt, run, Form::Picture, path, &bytes, &list, writer, error)
+        }
     }
 }
 
@@ -130,9 +139,10 @@ fn trace_out<'a, R: AllocGlobal, W: Write + Drop, E: Sink>(
 }
 
 /// The same where it goes to a file, which is made before the program is booted.
-fn trace_into<'a, R: Files + AllocGlobal, W: Write + Drop, E: Sink>(
+fn show_into<'a, R: Files + AllocGlobal, W: Write + Drop, E: Sink>(
     rt: &R,
     run: &Run<'a>,
+    form: Form,
     path: &'a str,
     bytes: &[u8],
     list: &[u8],
@@ -140,27 +150,28 @@ fn trace_into<'a, R: Files + AllocGlobal, W: Write + Drop, E: Sink>(
     error: &mut E,
 ) -> Result<u8, Fault<'a>> {
     let file = buffered(rt, make(rt, path)?)?;
-    let mut page = Counted {
+    let mut chart = Chart::new(Counted {
         writer: file,
         failed: 0,
-    };
+    });
     let mut out = Counted { writer, failed: 0 };
-    let status = trace_apart(
+    let status = show_apart(
         rt.alloc(),
         run,
+        form,
         path,
         bytes,
         list,
-        &mut page,
+        &mut chart,
         &mut out,
         error,
     );
     let Counted {
         writer: mut file,
         failed: _,
-    } = page;
+    } = chart.into_sink();
     let Counted { writer, failed: _ } = out;
-    // Where memory ran out, lines that were put may still stand in the buffer.
+    // Where memory ran out, what was put may still stand in the buffer.
     let _ = file.flush();
     write_out(writer, status)
 }

@@ -1,5 +1,6 @@
 //! A run whose harts are in threads of the host: all but reading and writing files.
-ghost use Rattle.std.specs.Prelude.{◌≡◌, ◌<◌, ◌*◌, ◌^◌, [], MatchResult};
+ghost use Rattle.std.specs.Prelude.{◌≡◌, ◌<◌, ◌*◌, ◌^◌, [], IfOk, MatchResult};
+ghost use Rattle.table.specs.Slots.{AreWordsOf};
 ghost use Rattle.machine.specs.States.{geometry, setting_of};
 ghost use Rattle.history.specs.Lines.{text_of};
 ghost use Rattle.simulate.specs.Orders.{geometry_of};
@@ -11,6 +12,7 @@ ghost use Rattle.answering.specs.Threaded.{IsGiven, IsStop, IsTold, IsGivenKept,
 
 use crate::serving::run_hub;
 use crate::stop::Stop;
+use board::Code;
 use command_line::{Cache, Run};
 use history::{History, Journal, Unkept, put_history, written_choices_are_read};
 use hub::Hub;
@@ -19,12 +21,13 @@ use machine::Machine;
 use simulate::Fault;
 use simulate::readable::readable;
 use simulate::report::report;
+use simulate::showing::Page;
 use simulate::source::program_in;
 use simulate::status::status;
-use simulate::tracing::Page;
-use std::alloc::Global;
+use std::alloc::{AllocError, Global};
 use std::sync::Wait;
 use std::thread::Threads;
+use table::DecodedText;
 use words::{Addr, Sink};
 
 /// Runs each hart of the program in a file in a thread of its own, given the bytes of the file, and puts the report into `out`, or what the user is
@@ -91,7 +94,9 @@ fn threaded_on<'a, const SETS: usize, const WAYS: usize, R: Threads + Wait + Syn
         (IsStop run.now file.now (O.taken out.old) (O.taken out.new) (O.failed out.old) (O.failed out.new)) }
 {
     let program = program_in(alloc, run.file, file)?;
-    let Ready { hub, addrs } = make_ready::<SETS, WAYS, Unkept>(alloc, run, &program, Unkept)?;
+    let words = words_of(alloc, &program)?;
+    let code = Code::decoded(&program, &words);
+    let Ready { hub, addrs } = make_ready::<SETS, WAYS, Unkept>(alloc, run, code, Unkept)?;
     let end = run_hub::<SETS, WAYS, Unkept, R>(
         rt,
         hub,
@@ -174,10 +179,12 @@ fn kept_on<'a, const SETS: usize, const WAYS: usize, R: Threads + Wait + Sync, T
         (O.taken out.old) (O.taken out.new) (O.failed out.old) (O.failed out.new)) }
 {
     let program = program_in(alloc, run.file, file)?;
+    let words = words_of(alloc, &program)?;
+    let code = Code::decoded(&program, &words);
     let Ready { hub, addrs } = make_ready::<SETS, WAYS, History>(
         alloc,
         run,
-        &program,
+        code,
         History::new(alloc),
     )?;
     let end = run_hub::<SETS, WAYS, History, R>(
@@ -200,20 +207,27 @@ struct Ready<'p, const SETS: usize, const WAYS: usize, J: Journal> {
     addrs: Vec<Addr>,
 }
 
+/// The words of a program, decoded. It fails only if memory runs out.
+fn words_of(alloc: Global, program: &Program) -> Result<DecodedText, AllocError>
+    ensures { IfOk result (λ words. AreWordsOf program.now.segments words.base words.slots.items) }
+{
+    DecodedText::new(alloc, program.segments(), program.entry())
+}
+
 /// Boots a program, and finds the words to show.
 fn make_ready<'p, 'a, const SETS: usize, const WAYS: usize, J: Journal>(
     alloc: Global,
     run: &Run<'a>,
-    program: &'p Program,
+    code: Code<'p>,
     journal: J,
 ) -> Result<Ready<'p, SETS, WAYS, J>, Fault<'a>>
     requires sets { 0 < SETS }
     requires ways { 0 < WAYS }
     requires lines { SETS * WAYS < 2 ^ 32 }
     requires told { J.tells journal [] }
-    ensures { MatchResult result (λ r. IsReady run.now program.now r.addrs.items) (IsUnready run.now program.now) }
+    ensures { MatchResult result (λ r. IsReady run.now code.entry.program.now r.addrs.items) (IsUnready run.now code.entry.program.now) }
 {
-    let hub: Hub<'p, SETS, WAYS, J> = Hub::boot(alloc, program, run.harts, run.memory, journal)?;
+    let hub: Hub<'p, SETS, WAYS, J> = Hub::boot(alloc, code, run.harts, run.memory, journal)?;
     let addrs = readable(alloc, hub.machine(), &run.words)?;
     Ok(Ready { hub, addrs })
 }

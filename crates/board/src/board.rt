@@ -14,6 +14,7 @@ ghost use Rattle.protocol.specs.Machine.{Runs};
 ghost use Rattle.board.specs.Leases.{most_steps, IsSound};
 ghost use Rattle.board.specs.Boards.{first_flat, IsReplay, IsFirst, IsRunning, IsLent, FitsIn, Fits, settled, IsRefusedFor, IsTurn};
 
+use crate::code::Code;
 use crate::lease::{Lease, Retired};
 use crate::refusal::Refusal;
 use crate::status::{is_running, running};
@@ -156,7 +157,8 @@ impl<'p, const SETS: usize, const WAYS: usize, A: Allocator + Copy> Board<'p, SE
         ensures none { IfNone result (IsRunning self.now.machine id → ⊥) }
     {
         let hart = self.running(id)?;
-        Some(Lease::new(self.program, self.harts, self.size, id, hart))
+        let code = Code::new(self.program);
+        Some(Lease::new(code, self.harts, self.size, id, hart))
     }
 
     /// Takes over the steps of a lease, if its hart is still as it was lent.

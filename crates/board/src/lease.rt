@@ -6,6 +6,7 @@ ghost use Rattle.hart.specs.Rows.{setting_of};
 ghost use Rattle.machine.specs.Lent.{RetiresAlone, RunsAlone};
 ghost use Rattle.board.specs.Leases.{most_steps, IsSound};
 
+use crate::code::Code;
 use arrayvec::ArrayVec;
 use hart::{Hart, Local};
 use loader::Program;
@@ -46,7 +47,7 @@ impl Default for Retired {
 /// A copy of a hart, and the steps that it has made by itself since it was lent.
 #[derive(Drop)]
 pub struct Lease<'p, const SETS: usize, const WAYS: usize> {
-    program: &'p Program,
+    code: Code<'p>,
     harts: u32,
     size: u32,
     id: HartId,
@@ -61,7 +62,7 @@ impl<'p, const SETS: usize, const WAYS: usize> Model for Lease<'p, SETS, WAYS> {
     ghost Value = { Lent };
 
     ghost view = { λ l. record {
-      program = l.program.now;
+      program = l.code.program.now;
       harts = l.harts;
       size = l.size;
       id = l.id;
@@ -72,23 +73,17 @@ impl<'p, const SETS: usize, const WAYS: usize> Model for Lease<'p, SETS, WAYS> {
 
     ghost use Rattle.machine.specs.Lent.{RunsAlone};
 
-    ghost invariant = { λ l. RunsAlone SETS l.program.now.segments l.before l.entries.items l.after };
+    ghost invariant = { λ l. RunsAlone SETS l.code.program.now.segments l.before l.entries.items l.after };
 }
 
 impl<'p, const SETS: usize, const WAYS: usize> Lease<'p, SETS, WAYS> {
     /// A hart as it is lent.
-    pub fn new(
-        program: &'p Program,
-        harts: u32,
-        size: u32,
-        id: HartId,
-        hart: Hart<SETS, WAYS>,
-    ) -> Self
-        ensures { result ≡ record { program = program.now; harts = harts; size = size; id = id; before = hart.entry; after = hart.entry; entries = [] } }
+    pub fn new(code: Code<'p>, harts: u32, size: u32, id: HartId, hart: Hart<SETS, WAYS>) -> Self
+        ensures { result ≡ record { program = code.entry.program.now; harts = harts; size = size; id = id; before = hart.entry; after = hart.entry; entries = [] } }
     {
         let after = hart;
         Lease {
-            program,
+            code,
             harts,
             size,
             id,
@@ -124,7 +119,7 @@ impl<'p, const SETS: usize, const WAYS: usize> Lease<'p, SETS, WAYS> {
     pub(crate) fn is_of(&self, program: &Program, harts: u32, size: u32) -> bool
         ensures { IsTrue result ↔ ((self.now.program ≡ program.now) × (self.now.harts ≡ harts) × (self.now.size ≡ size)) }
     {
-        self.harts == harts && self.size == size && self.program.same(program)
+        self.harts == harts && self.size == size && self.code.program.same(program)
     }
 
     /// The hart as it was lent.
@@ -178,7 +173,7 @@ impl<'p, const SETS: usize, const WAYS: usize> Lease<'p, SETS, WAYS> {
         if self.entries.len() == STEPS {
             return false;
         }
-        match self.after.local(&self.program.text()) {
+        match self.after.local(self.code.text()) {
             Local::Retired(entry) => {
                 self.entries.push(Retired { entry });
                 true

@@ -2,12 +2,14 @@
 #![tactic(auto)]
 
 mod board;
+mod code;
 mod lease;
 mod refusal;
 mod status;
 mod visit;
 
 pub use board::{Board, Finished, fits, take_back};
+pub use code::Code;
 pub use lease::Lease;
 pub use refusal::Refusal;
 pub use status::{is_running, running};

@@ -1,4 +1,3 @@
-pub mod Numerals
 pub mod Values
 pub mod Commands
 pub mod Filled

@@ -16,12 +16,13 @@ use Rattle.clap.specs.Kinds.{Kinds}
 use Rattle.clap.specs.Simple.{argument_words, entered, label_of, names_of, rows_at}
 use Rattle.clap.specs.Walk.{answers_to, finished, nothing_held, rows_after, stop_after, walk}
 use Rattle.command_line.specs.Command.{asm, debug, dis, logtm, run}
-use Rattle.command_line.specs.Reading.{AsksFor, Clashes, HasTraceFault, IsThreadsFault, is_given, IsComplete, IsFaultOf, IsRequestOf, IsReadingOf, IsRefusal, NamesFirstIn}
+use Rattle.command_line.specs.Reading.{AsksFor, Clashes, IsThreadsFault, is_given, IsComplete, IsFaultOf, IsRequestOf, IsReadingOf, IsRefusal, NamesFirstIn}
 use Rattle.command_line.specs.declared.fault.OrderFault.{OrderFault}
-use Rattle.command_line.specs.declared.fault.OrderFault.TheVariants.{NoMemory, Refused, ThreadsAlone, TracedAndCounted, Value}
+use Rattle.command_line.specs.declared.fault.OrderFault.TheVariants.{NoMemory, Refused, ThreadsAlone, TwoViews, LongPicture, Value}
 use Rattle.command_line.specs.declared.request.Request.{Request}
 use Rattle.command_line.specs.declared.request.Run.{Run}
-use Rattle.command_line.specs.declared.request.Target.{Target}
+use Rattle.command_line.specs.declared.request.View.{View}
+use Rattle.command_line.specs.Views.{HasViewFault, IsTraceFault, IsTimelineFault}
 use Rattle.command_line.proofs.Levels.{given_first, is_none, lacks_nothing, level_passes, subcommand_checked, value_there}
 
 -- ---- the subcommands
@@ -171,7 +172,8 @@ subcommand_given words a m is passes matches =
 abbrev is_no_memory : OrderFault → Bool
 is_no_memory (Refused text) = false
 is_no_memory (Value value) = false
-is_no_memory TracedAndCounted = false
+is_no_memory TwoViews = false
+is_no_memory LongPicture = false
 is_no_memory ThreadsAlone = false
 is_no_memory NoMemory = true
 
@@ -185,7 +187,8 @@ pub refused_words : (words : List Text) (a : App) (error : Error) (fault : Order
 refused_words words a error (Refused text) is fails memory refusal =
     ⊎_elim (λ out. absurd (true≢false (sym (ap is_no_memory (memory out))))) (λ among e. among_some _ _ among (ap (λ b. fault_of b words) is ∙ e)) (fails (ap is_simple_and_free is))
 refused_words words a error (Value value) is fails memory refusal = absurd refusal
-refused_words words a error TracedAndCounted is fails memory refusal = absurd refusal
+refused_words words a error TwoViews is fails memory refusal = absurd refusal
+refused_words words a error LongPicture is fails memory refusal = absurd refusal
 refused_words words a error ThreadsAlone is fails memory refusal = absurd refusal
 refused_words words a error NoMemory is fails memory refusal = tt
 
@@ -196,23 +199,38 @@ abbrev is_refused : OrderFault → Bool
 is_refused (Refused text) = true
 is_refused other = false
 
-trace_unrefused : (run : Run) (trace : Option Text) (fault : OrderFault) → is_refused fault ≡ true → HasTraceFault run trace fault → ⊥
-trace_unrefused run None fault is h = h
-trace_unrefused run (Some path) (Refused text) is h = h.1
-trace_unrefused run (Some path) (Value value) is h = true≢false (sym is)
-trace_unrefused run (Some path) TracedAndCounted is h = true≢false (sym is)
-trace_unrefused run (Some path) ThreadsAlone is h = true≢false (sym is)
-trace_unrefused run (Some path) NoMemory is h = true≢false (sym is)
+trace_unrefused : (run : Run) (path : Text) (fault : OrderFault) → is_refused fault ≡ true → IsTraceFault run path fault → ⊥
+trace_unrefused run path (Refused text) is h = h.1
+trace_unrefused run path (Value value) is h = true≢false (sym is)
+trace_unrefused run path TwoViews is h = true≢false (sym is)
+trace_unrefused run path LongPicture is h = true≢false (sym is)
+trace_unrefused run path ThreadsAlone is h = true≢false (sym is)
+trace_unrefused run path NoMemory is h = true≢false (sym is)
 
-threads_unrefused : (run : Run) (target : Option Target) (threads : Bool) (history : Option Text) (fault : OrderFault) → is_refused fault ≡ true → IsThreadsFault run target threads history fault → ⊥
-threads_unrefused run target threads history (Refused text) is h = h
-threads_unrefused run target threads history (Value value) is h = true≢false (sym is)
-threads_unrefused run target threads history TracedAndCounted is h = true≢false (sym is)
-threads_unrefused run target threads history ThreadsAlone is h = true≢false (sym is)
-threads_unrefused run target threads history NoMemory is h = true≢false (sym is)
+timeline_unrefused : (run : Run) (path : Text) (fault : OrderFault) → is_refused fault ≡ true → IsTimelineFault run path fault → ⊥
+timeline_unrefused run path (Refused text) is h = h.1.1
+timeline_unrefused run path (Value value) is h = true≢false (sym is)
+timeline_unrefused run path TwoViews is h = true≢false (sym is)
+timeline_unrefused run path LongPicture is h = true≢false (sym is)
+timeline_unrefused run path ThreadsAlone is h = true≢false (sym is)
+timeline_unrefused run path NoMemory is h = true≢false (sym is)
+
+view_unrefused : (run : Run) (trace timeline : Option Text) (fault : OrderFault) → is_refused fault ≡ true → HasViewFault run trace timeline fault → ⊥
+view_unrefused run None None fault is h = h
+view_unrefused run (Some trace) None fault is h = trace_unrefused run trace fault is h
+view_unrefused run None (Some timeline) fault is h = timeline_unrefused run timeline fault is h
+view_unrefused run (Some trace) (Some timeline) fault is h = true≢false (sym is ∙ ap is_refused h)
+
+threads_unrefused : (run : Run) (view : Option View) (threads : Bool) (history : Option Text) (fault : OrderFault) → is_refused fault ≡ true → IsThreadsFault run view threads history fault → ⊥
+threads_unrefused run view threads history (Refused text) is h = h
+threads_unrefused run view threads history (Value value) is h = true≢false (sym is)
+threads_unrefused run view threads history TwoViews is h = true≢false (sym is)
+threads_unrefused run view threads history LongPicture is h = true≢false (sym is)
+threads_unrefused run view threads history ThreadsAlone is h = true≢false (sym is)
+threads_unrefused run view threads history NoMemory is h = true≢false (sym is)
 
 clash_unrefused : (rows : List Row) (fault : OrderFault) → is_refused fault ≡ true → Clashes rows fault → ⊥
-clash_unrefused rows fault is clash = ⊎_elim (λ trace. trace_unrefused clash.0 (first_of (codes "trace") rows) fault is trace)
+clash_unrefused rows fault is clash = ⊎_elim (λ view. view_unrefused clash.0 (first_of (codes "trace") rows) (first_of (codes "timeline") rows) fault is view)
     (λ threads. threads_unrefused clash.0 threads.0 (is_given (codes "threads") rows) (first_of (codes "history") rows) fault is threads.2) clash.2
 
 pub read_words : (words : List Text) (name : Text) (rows : List Row) (r : Result Request OrderFault) → AsksFor name words rows
@@ -220,6 +238,7 @@ pub read_words : (words : List Text) (name : Text) (rows : List Row) (r : Result
 read_words words name rows (Ok request) asks read = (name, rows, asks, read)
 read_words words name rows (Err (Refused text)) asks bad = ⊎_elim (λ run. ⊎_elim (λ first. absurd first) (λ clash. absurd (clash_unrefused rows (Refused text) refl clash)) run.1) (λ debug. absurd debug.1) bad
 read_words words name rows (Err (Value value)) asks bad = (name, rows, asks, bad)
-read_words words name rows (Err TracedAndCounted) asks bad = (name, rows, asks, bad)
+read_words words name rows (Err TwoViews) asks bad = (name, rows, asks, bad)
+read_words words name rows (Err LongPicture) asks bad = (name, rows, asks, bad)
 read_words words name rows (Err ThreadsAlone) asks bad = (name, rows, asks, bad)
 read_words words name rows (Err NoMemory) asks bad = tt

@@ -5,15 +5,16 @@ use Rattle.std.specs.Option.{IsSome, ok_or, option_map, option_map_or, option_to
 use Rattle.clap.specs.Words.{Row, Text, first_of, first_value, matched_of, raw_values, rows_of}
 use Rattle.clap.specs.declared.parser.matches.Found.{Found}
 use Rattle.clap.proofs.WalkLemmas.{first_value-rows, raw_values-rows}
-use Rattle.command_line.specs.Reading.{HasValue, HasTarget, IsReadingOf, IsRequestFor, IsRunOf, IsRunRequestOf, IsThreadsFault, NamesFirstInRun, NamesFirstOf, is_given, malformed, words_of}
+use Rattle.command_line.specs.Reading.{HasValue, IsReadingOf, IsRequestFor, IsRunOf, IsRunRequestOf, IsThreadsFault, NamesFirstInRun, NamesFirstOf, is_given, malformed, words_of}
 use Rattle.command_line.specs.declared.request.Order.{Order}
 use Rattle.command_line.specs.declared.request.Order.TheVariants as order
 use Rattle.command_line.specs.declared.request.Request.{Request}
 use Rattle.command_line.specs.declared.request.Request.TheVariants as request
 use Rattle.command_line.specs.declared.request.Run.{Run}
-use Rattle.command_line.specs.declared.request.Target.{Target}
+use Rattle.command_line.specs.declared.request.View.{View}
+use Rattle.command_line.specs.Views.{HasView}
 use Rattle.command_line.specs.declared.fault.OrderFault.{OrderFault}
-use Rattle.command_line.specs.declared.fault.OrderFault.TheVariants.{Refused, Value, TracedAndCounted, ThreadsAlone, NoMemory}
+use Rattle.command_line.specs.declared.fault.OrderFault.TheVariants.{Refused, Value, TwoViews, LongPicture, ThreadsAlone, NoMemory}
 
 module _ {T : Type 0} (read : Text → Option T) (default : T) where
   here : (text : Bor Text) (o : Option T) → o ≡ read text.now
@@ -43,17 +44,17 @@ run_order rows (order.Asm source target) is = absurd is.2.2
 
 run_reading : (rows : List Row) (asked : Request) → IsRunRequestOf rows asked → IsReadingOf (codes "run") rows asked
 run_reading rows (request.Order order) is = run_order rows order is
-run_reading rows (request.Traced traced) is = (refl, is)
+run_reading rows (request.Shown shown) is = (refl, is)
 run_reading rows (request.Threaded threaded) is = (refl, is)
 run_reading rows (request.Debug debug) is = absurd is.2.2
 
 -- what a run was found to ask for
-pub run_read : (rows : List Row) (run : Run) (target : Option Target) (threads : Bool) (history : Option (Bor Text)) (r : Result Request OrderFault)
-    → IsRunOf rows run → HasTarget run (first_of (codes "trace") rows) target → threads ≡ is_given (codes "threads") rows → option_map (λ path. path.now) history ≡ first_of (codes "history") rows
-    → MatchResult r (IsRequestFor run target threads (option_map (λ path. path.now) history)) (IsThreadsFault run target threads (option_map (λ path. path.now) history))
+pub run_read : (rows : List Row) (run : Run) (view : Option View) (threads : Bool) (history : Option (Bor Text)) (r : Result Request OrderFault)
+    → IsRunOf rows run → HasView run (first_of (codes "trace") rows) (first_of (codes "timeline") rows) view → threads ≡ is_given (codes "threads") rows → option_map (λ path. path.now) history ≡ first_of (codes "history") rows
+    → MatchResult r (IsRequestFor run view threads (option_map (λ path. path.now) history)) (IsThreadsFault run view threads (option_map (λ path. path.now) history))
     → MatchResult r (IsReadingOf (codes "run") rows) (NamesFirstInRun rows)
-run_read rows run target threads history (Ok asked) is has flag path given = run_reading rows asked (run, is, (target, has, rw (← flag, ← path) given))
-run_read rows run target threads history (Err fault) is has flag path why = inr (run, is, inr (target, has, rw (← flag, ← path) why))
+run_read rows run view threads history (Ok asked) is has flag path given = run_reading rows asked (run, is, (view, has, rw (← flag, ← path) given))
+run_read rows run view threads history (Err fault) is has flag path why = inr (run, is, inr (view, has, rw (← flag, ← path) why))
 
 -- a value that is read is not malformed
 pub none_malformed : {T : Type 0} (read : Text → Option T) (default x : T) (given : Option Text) → option_map_or read given (Some default) ≡ Some x → malformed read (option_to_list given) ≡ []
@@ -65,7 +66,8 @@ pub first_of_more : (xs ys : List Text) (fault : OrderFault) → NamesFirstOf xs
 first_of_more xs ys (Refused text) first = absurd first
 first_of_more [] ys (Value value) first = absurd (cc)
 first_of_more (x ∷ xs) ys (Value value) first = first
-first_of_more xs ys TracedAndCounted first = absurd first
+first_of_more xs ys TwoViews first = absurd first
+first_of_more xs ys LongPicture first = absurd first
 first_of_more xs ys ThreadsAlone first = absurd first
 first_of_more xs ys NoMemory first = tt
 

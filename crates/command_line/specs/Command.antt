@@ -25,7 +25,7 @@ abbrev pub run : Shape
 run = record (new_shape (codes "run")) {
   rules = required_named (codes "file") ∷ option_named (codes "harts") ∷ option_named (codes "memory")
       ∷ option_named (codes "steps") ∷ option_named (codes "cache") ∷ option_named (codes "schedule") ∷ option_named (codes "trace")
-      ∷ option_named (codes "stats") ∷ flag_named (codes "threads") ∷ option_named (codes "history") ∷ words ∷ [];
+      ∷ option_named (codes "timeline") ∷ option_named (codes "stats") ∷ flag_named (codes "threads") ∷ option_named (codes "history") ∷ words ∷ [];
 }
 
 -- the subcommand `debug`

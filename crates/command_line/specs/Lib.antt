@@ -1,4 +1,4 @@
 pub mod Command
-pub mod Numbers
+pub mod Views
 pub mod Reading
 pub mod Paths

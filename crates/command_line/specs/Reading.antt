@@ -4,9 +4,9 @@ use Rattle.std.specs.Option.{option_map, option_map_or, option_to_list}
 use Rattle.std.specs.Str.{bytes_eq}
 use Rattle.clap.specs.Words.{Row, Text, all_of, fault_of, first_of, subcommand_of}
 use Rattle.command_line.specs.Command.{logtm}
-use Rattle.command_line.specs.Numbers.{number_of}
+use Rattle.numerals.specs.Numbers.{number_of}
 use Rattle.command_line.specs.declared.fault.OrderFault.{OrderFault}
-use Rattle.command_line.specs.declared.fault.OrderFault.TheVariants.{Refused, Value, TracedAndCounted, ThreadsAlone, NoMemory}
+use Rattle.command_line.specs.declared.fault.OrderFault.TheVariants.{Refused, Value, TwoViews, LongPicture, ThreadsAlone, NoMemory}
 use Rattle.command_line.specs.declared.request.Cache.{Cache}
 use Rattle.command_line.specs.declared.request.Cache.TheVariants.{Small, Normal}
 use Rattle.command_line.specs.declared.request.Debug.{Debug}
@@ -17,9 +17,9 @@ use Rattle.command_line.specs.declared.request.Request.TheVariants as request
 use Rattle.command_line.specs.declared.request.Run.{Run}
 use Rattle.command_line.specs.declared.request.Stats.{Stats}
 use Rattle.command_line.specs.declared.request.Stats.TheVariants.{Table, Csv}
-use Rattle.command_line.specs.declared.request.Target.{Target}
-use Rattle.command_line.specs.declared.request.Target.TheVariants.{Output, File}
+use Rattle.command_line.specs.declared.request.View.{View}
 use Rattle.command_line.specs.declared.request.Word.{Word}
+use Rattle.command_line.specs.Views.{HasView, HasViewFault, is_read_by}
 
 -- the cache of this name
 abbrev pub cache_of : Text → Option Cache
@@ -93,70 +93,38 @@ IsDebugOf rows debug =
     × (read_or number_of 1048576 (codes "memory") rows ≡ Some debug.memory)
     × (read_or cache_of Normal (codes "cache") rows ≡ Some debug.cache)
 
--- whether a path is that of a file which the run reads: the program's, or the schedule's
-abbrev pub is_read_by : Run → Text → Bool
-is_read_by run path = bytes_eq path run.file.now || option_map_or (λ list. bytes_eq path list.now) run.schedule false
-
--- the trace goes to standard output for a dash, and else to the file with this path, which is none that the run reads
-abbrev pub IsTargetOf : Run → Text → Target → Type 0
-IsTargetOf run path Output = path ≡ codes "-"
-IsTargetOf run path (File file) = (file.now ≡ path) × (path ≢ codes "-") × (is_read_by run path ≡ false)
-
--- the trace can't go to this path, which is that of a file that the run reads: the fault names it
-abbrev pub IsClash : Run → Text → OrderFault → Type 0
-IsClash run path (Value value) = (value.now ≡ path) × (path ≢ codes "-") × (is_read_by run path ≡ true)
-IsClash run path other = ⊥
-
--- the trace of a run goes there, or why it can't: counts are asked for too, or the path is that of a file that the run reads
-abbrev pub IsTraceTarget : Run → Text → Target → Type 0
-IsTraceTarget run path target = (run.stats ≡ None) × IsTargetOf run path target
-
-abbrev pub IsTraceFault : Run → Text → OrderFault → Type 0
-IsTraceFault run path TracedAndCounted = IsSome run.stats
-IsTraceFault run path other = (run.stats ≡ None) × IsClash run path other
-
--- where the trace goes of a run that has one to a path, or has none; and why it can't
-abbrev pub HasTarget : Run → Option Text → Option Target → Type 0
-HasTarget run None target = target ≡ None
-HasTarget run (Some path) None = ⊥
-HasTarget run (Some path) (Some target) = IsTraceTarget run path target
-
-abbrev pub HasTraceFault : Run → Option Text → OrderFault → Type 0
-HasTraceFault run None fault = ⊥
-HasTraceFault run (Some path) fault = IsTraceFault run path fault
-
--- the run has no schedule and no counts, and no trace goes anywhere
-abbrev pub stands_alone : Run → Option Target → Bool
-stands_alone run target = not (is_some run.schedule || is_some run.stats || is_some target)
+-- the run has no schedule and no counts, and nothing more is shown of it
+abbrev pub stands_alone : Run → Option View → Bool
+stands_alone run view = not (is_some run.schedule || is_some run.stats || is_some view)
 
 -- the history can go to this path, which is neither a dash nor that of a file that the run reads
 abbrev pub can_keep : Run → Text → Bool
 can_keep run path = not (bytes_eq path (codes "-") || is_read_by run path)
 
--- what is asked for by a run whose trace goes there, in threads or not, and whose history goes to this path
-abbrev pub IsOrderFor : Run → Option Target → Bool → Option Text → Order → Type 0
-IsOrderFor run target threads history (order.Run it) = (it ≡ run) × (target ≡ None) × (threads ≡ false) × (history ≡ None)
-IsOrderFor run target threads history other = ⊥
+-- what is asked for by a run of which this is shown, in threads or not, and whose history goes to this path
+abbrev pub IsOrderFor : Run → Option View → Bool → Option Text → Order → Type 0
+IsOrderFor run view threads history (order.Run it) = (it ≡ run) × (view ≡ None) × (threads ≡ false) × (history ≡ None)
+IsOrderFor run view threads history other = ⊥
 
-abbrev pub IsRequestFor : Run → Option Target → Bool → Option Text → Request → Type 0
-IsRequestFor run target threads history (request.Order order) = IsOrderFor run target threads history order
-IsRequestFor run target threads history (request.Traced traced) = (traced.run ≡ run) × (target ≡ Some traced.target) × (threads ≡ false) × (history ≡ None)
-IsRequestFor run target threads history (request.Threaded threaded) = (threaded.run ≡ run) × (threads ≡ true) × (stands_alone run target ≡ true)
+abbrev pub IsRequestFor : Run → Option View → Bool → Option Text → Request → Type 0
+IsRequestFor run view threads history (request.Order order) = IsOrderFor run view threads history order
+IsRequestFor run view threads history (request.Shown shown) = (shown.run ≡ run) × (view ≡ Some shown.view) × (threads ≡ false) × (history ≡ None)
+IsRequestFor run view threads history (request.Threaded threaded) = (threaded.run ≡ run) × (threads ≡ true) × (stands_alone run view ≡ true)
     × (option_map (λ path. path.now) threaded.history ≡ history) × IfSome history (λ path. can_keep run path ≡ true)
-IsRequestFor run target threads history (request.Debug debug) = ⊥
+IsRequestFor run view threads history (request.Debug debug) = ⊥
 
 -- why nothing is: threads don't stand alone, or a history is asked for without them; or it can't go to the path, which the fault names
-abbrev pub IsThreadsFault : Run → Option Target → Bool → Option Text → OrderFault → Type 0
-IsThreadsFault run target threads history ThreadsAlone = ((threads ≡ true) × (stands_alone run target ≡ false)) ⊎ ((threads ≡ false) × IsSome history)
-IsThreadsFault run target threads history (Value value) =
-    (threads ≡ true) × (stands_alone run target ≡ true) × (history ≡ Some value.now) × (can_keep run value.now ≡ false)
-IsThreadsFault run target threads history other = ⊥
+abbrev pub IsThreadsFault : Run → Option View → Bool → Option Text → OrderFault → Type 0
+IsThreadsFault run view threads history ThreadsAlone = ((threads ≡ true) × (stands_alone run view ≡ false)) ⊎ ((threads ≡ false) × IsSome history)
+IsThreadsFault run view threads history (Value value) =
+    (threads ≡ true) × (stands_alone run view ≡ true) × (history ≡ Some value.now) × (can_keep run value.now ≡ false)
+IsThreadsFault run view threads history other = ⊥
 
 -- the request is that of the run which the values stand for
 abbrev pub IsRunRequestOf : List Row → Request → Type 0
 IsRunRequestOf rows request = (run : Run) × IsRunOf rows run
-    × ((target : Option Target) × HasTarget run (first_of (codes "trace") rows) target
-    × IsRequestFor run target (is_given (codes "threads") rows) (first_of (codes "history") rows) request)
+    × ((view : Option View) × HasView run (first_of (codes "trace") rows) (first_of (codes "timeline") rows) view
+    × IsRequestFor run view (is_given (codes "threads") rows) (first_of (codes "history") rows) request)
 
 -- the order is what the values of the subcommand of this name stand for
 abbrev pub IsOrderIn : Text → List Row → Order → Type 0
@@ -170,7 +138,7 @@ IsOrderIn name rows (order.Asm source target) = (name ≡ codes "asm")
 -- and so is the request
 abbrev pub IsReadingOf : Text → List Row → Request → Type 0
 IsReadingOf name rows (request.Order order) = IsOrderIn name rows order
-IsReadingOf name rows (request.Traced traced) = (name ≡ codes "run") × IsRunRequestOf rows (request.Traced traced)
+IsReadingOf name rows (request.Shown shown) = (name ≡ codes "run") × IsRunRequestOf rows (request.Shown shown)
 IsReadingOf name rows (request.Threaded threaded) = (name ≡ codes "run") × IsRunRequestOf rows (request.Threaded threaded)
 IsReadingOf name rows (request.Debug debug) = (name ≡ codes "debug") × IsDebugOf rows debug
 
@@ -178,16 +146,17 @@ IsReadingOf name rows (request.Debug debug) = (name ≡ codes "debug") × IsDebu
 abbrev pub NamesFirstOf : List Text → OrderFault → Type 0
 NamesFirstOf texts (Refused text) = ⊥
 NamesFirstOf texts (Value value) = slice_get texts 0 ≡ Some value.now
-NamesFirstOf texts TracedAndCounted = ⊥
+NamesFirstOf texts TwoViews = ⊥
+NamesFirstOf texts LongPicture = ⊥
 NamesFirstOf texts ThreadsAlone = ⊥
 NamesFirstOf texts NoMemory = ⊤
 
--- the run's values are read, and its trace can't go where it is to go; or it can, and there is a fault of its threads
+-- the run's values are read, and what is to be shown of it can't be; or it can, and there is a fault of its threads
 abbrev pub Clashes : List Row → OrderFault → Type 0
 Clashes rows fault = (run : Run) × IsRunOf rows run
-    × (HasTraceFault run (first_of (codes "trace") rows) fault
-    ⊎ ((target : Option Target) × HasTarget run (first_of (codes "trace") rows) target
-    × IsThreadsFault run target (is_given (codes "threads") rows) (first_of (codes "history") rows) fault))
+    × (HasViewFault run (first_of (codes "trace") rows) (first_of (codes "timeline") rows) fault
+    ⊎ ((view : Option View) × HasView run (first_of (codes "trace") rows) (first_of (codes "timeline") rows) view
+    × IsThreadsFault run view (is_given (codes "threads") rows) (first_of (codes "history") rows) fault))
 
 -- the fault names the first malformed value of a run, or memory ran out
 abbrev pub NamesFirstInRun : List Row → OrderFault → Type 0
@@ -223,7 +192,8 @@ IsRequestOf words request =
 abbrev pub IsFaultOf : List Text → OrderFault → Type 0
 IsFaultOf words (Refused text) = fault_of logtm words ≢ []
 IsFaultOf words (Value value) = (name : Text) × (rows : List Row) × AsksFor name words rows × NamesFirstIn name rows (Value value)
-IsFaultOf words TracedAndCounted = (name : Text) × (rows : List Row) × AsksFor name words rows × NamesFirstIn name rows TracedAndCounted
+IsFaultOf words TwoViews = (name : Text) × (rows : List Row) × AsksFor name words rows × NamesFirstIn name rows TwoViews
+IsFaultOf words LongPicture = (name : Text) × (rows : List Row) × AsksFor name words rows × NamesFirstIn name rows LongPicture
 IsFaultOf words ThreadsAlone = (name : Text) × (rows : List Row) × AsksFor name words rows × NamesFirstIn name rows ThreadsAlone
 IsFaultOf words NoMemory = ⊤
 
@@ -231,6 +201,7 @@ IsFaultOf words NoMemory = ⊤
 abbrev pub IsRefusal : OrderFault → Type 0
 IsRefusal (Refused text) = ⊤
 IsRefusal (Value value) = ⊥
-IsRefusal TracedAndCounted = ⊥
+IsRefusal TwoViews = ⊥
+IsRefusal LongPicture = ⊥
 IsRefusal ThreadsAlone = ⊥
 IsRefusal NoMemory = ⊤

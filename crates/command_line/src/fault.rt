@@ -10,11 +10,14 @@ pub enum OrderFault<'a> {
     /// texts, so none says which text this is.
     Refused(String),
     /// The first malformed value, as the user wrote it: no number below 2^32, for `--cache` and `--stats` the
-    /// name of no cache and no form, or for `--trace` and `--history` a path where nothing can be written.
+    /// name of no cache and no form, or for `--trace`, `--timeline` and `--history` a path where nothing can be
+    /// written, and for `--timeline` too one that ends neither in `.json` nor in `.svg`.
     Value(&'a str),
-    /// A run is to be traced and counted.
-    TracedAndCounted,
-    /// A run in threads is given a schedule, or is to be traced or counted; or the history is asked for of a run that isn't in threads.
+    /// More than one is asked for of a trace, a timeline and counts.
+    TwoViews,
+    /// A picture is asked for of a run that may take more steps than a picture shows.
+    LongPicture,
+    /// A run in threads is given a schedule, or more is to be shown of it, or it is to be counted; or the history is asked for of a run that isn't in threads.
     ThreadsAlone,
     /// Memory ran out.
     NoMemory,

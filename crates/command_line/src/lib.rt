@@ -2,7 +2,7 @@
 //!
 //! The subcommands are:
 //!
-//! - `logtm run FILE [--harts N] [--memory S] [--steps N] [--cache small|normal] [--schedule LIST] [--trace FILE | --stats table|csv] [WORD..]`
+//! - `logtm run FILE [--harts N] [--memory S] [--steps N] [--cache small|normal] [--schedule LIST] [--trace FILE | --timeline FILE | --stats table|csv] [WORD..]`
 //! - `logtm run FILE [--harts N] [--memory S] [--steps N] [--cache small|normal] --threads [--history FILE] [WORD..]`
 //! - `logtm debug FILE [--harts N] [--memory S] [--cache small|normal]`
 //! - `logtm dis FILE`
@@ -12,12 +12,12 @@
 #![tactic(auto)]
 
 mod fault;
-mod numbers;
 mod parser;
 mod reading;
 mod request;
 
 pub use fault::OrderFault;
-pub use numbers::number;
 pub use parser::parse;
-pub use request::{Cache, Debug, Order, Request, Run, Stats, Target, Threaded, Traced, Word};
+pub use request::{
+    Cache, Debug, MOST_DRAWN, Order, Request, Run, Shown, Stats, Target, Threaded, View, Word,
+};

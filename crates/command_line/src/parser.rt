@@ -26,10 +26,11 @@ const CACHE_HELP: &str = "The cache of each hart, small or normal, normal if not
 ///
 /// clap says what it refuses, and answers `--help` in the same way. Where it takes the words of a
 /// run, the values of `--harts`, `--memory`, `--steps`, `--cache` and `--stats` and then the WORDs are read, in
-/// this order, up to the first malformed one, and then that of `--trace`, which is malformed where it is the path of a file
-/// that the run reads, and is refused beside `--stats`; those of `debug` likewise. Then `--threads` is refused beside
-/// `--schedule`, `--trace` and `--stats`, and `--history` without it; and last the value of `--history` is malformed where it is
-/// a dash or the path of a file that the run reads. Memory may run out at any time: no clause says when.
+/// this order, up to the first malformed one; those of `debug` likewise. Then more than one of `--trace`, `--timeline` and `--stats`
+/// is refused; then the value of `--trace` or `--timeline` is malformed where it is the path of a file that the run reads, and that of
+/// `--timeline` where it ends neither in `.json` nor in `.svg`; and a picture is refused where `--steps` is above what it shows. Then
+/// `--threads` is refused beside `--schedule`, `--trace`, `--timeline` and `--stats`, and `--history` without it; and last the value of
+/// `--history` is malformed where it is a dash or the path of a file that the run reads. Memory may run out at any time: no clause says when.
 pub fn parse<'a>(alloc: Global, words: &'a [&'a str]) -> Result<Request<'a>, OrderFault<'a>>
     ensures { MatchResult result (IsRequestOf (map (λ w. w.now) words.entry.now))
         (IsFaultOf (map (λ w. w.now) words.entry.now)) }
@@ -64,8 +65,11 @@ fn run_command<'a>(alloc: Global) -> Result<Command<'a>, AllocError>
     let steps = "How many steps are taken at most, 10000000 if not given";
     let schedule = "A file whose lines choose the first steps";
     let trace = "A file for the trace, a line for each entry; - for standard output";
-    let stats = "Counts behind the report, as a table or as csv; not with a trace";
-    let threads = "Runs each hart in a thread of its own, with no schedule, trace and counts";
+    let timeline =
+        "A file for the timeline: FILE.json, as trace events, or FILE.svg, a picture of 2000 steps at most";
+    let stats = "Counts behind the report, as a table or as csv; not with a trace or a timeline";
+    let threads =
+        "Runs each hart in a thread of its own, with no schedule, trace, timeline and counts";
     let history = "A file for the steps that threads made, as a schedule that plays them again";
     bare(alloc, "run", about)
         .arg(program(alloc))?
@@ -75,6 +79,7 @@ fn run_command<'a>(alloc: Global) -> Result<Command<'a>, AllocError>
         .arg(option(alloc, "cache", "NAME", CACHE_HELP))?
         .arg(option(alloc, "schedule", "LIST", schedule))?
         .arg(option(alloc, "trace", "FILE", trace))?
+        .arg(option(alloc, "timeline", "FILE", timeline))?
         .arg(option(alloc, "stats", "NAME", stats))?
         .arg(flag(alloc, "threads", threads))?
         .arg(option(alloc, "history", "FILE", history))?

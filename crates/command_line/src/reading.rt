@@ -1,16 +1,19 @@
 ghost use Rattle.std.specs.Prelude.{◌≡◌, IfSome, MatchResult, None, Some, codes, map, option_map, true};
 ghost use Rattle.clap.specs.Words.{first_of, found_of, rows_of};
-ghost use Rattle.command_line.specs.Numbers.{number_of};
+ghost use Rattle.numerals.specs.Numbers.{number_of};
 ghost use Rattle.command_line.specs.Reading.{HasValue, IsComplete, IsReadingOf, IsReadingOfWords, IsRunOf, IsDebugOf};
 ghost use Rattle.command_line.specs.Reading.{NamesFirstIn, NamesFirstOf, cache_of, given, malformed};
-ghost use Rattle.command_line.specs.Reading.{NamesFirstInRun, IsTargetOf, IsClash, IsTraceTarget, IsTraceFault, is_read_by};
-ghost use Rattle.command_line.specs.Reading.{HasTarget, HasTraceFault, IsRequestFor, IsThreadsFault, stands_alone, can_keep, is_given};
+ghost use Rattle.command_line.specs.Reading.{NamesFirstInRun, IsRequestFor, IsThreadsFault, stands_alone, can_keep, is_given};
+ghost use Rattle.command_line.specs.Views.{HasView, HasViewFault, IsTraceTo, IsTraceFault, IsTargetOf, IsClash, is_read_by};
+ghost use Rattle.command_line.specs.Views.{IsTimelineTo, IsTimelineFault, IsDrawnTo, IsDrawnFault};
 ghost use Rattle.command_line.specs.Reading.{malformed_of, malformed_of_machine, read_or, stats_of, words_of};
 
 use crate::fault::OrderFault;
-use crate::numbers::number;
-use crate::request::{Cache, Debug, Order, Request, Run, Stats, Target, Threaded, Traced, Word};
+use crate::request::{
+    Cache, Debug, MOST_DRAWN, Order, Request, Run, Shown, Stats, Target, Threaded, View, Word,
+};
 use clap::ArgMatches;
+use numerals::number;
 use std::alloc::Global;
 
 // What a run has where its option is not given: how many harts, how many bytes of memory, how many
@@ -55,7 +58,7 @@ fn argument<'a>(matches: &ArgMatches<'a>, id: &str) -> &'a str
     matches.get_str(id).unwrap()
 }
 
-/// A run, with its trace where one is asked for, or in threads.
+/// A run, with more that is shown of it where that is asked for, or in threads.
 fn read_run_request<'a>(
     alloc: Global,
     matches: &ArgMatches<'a>,
@@ -65,46 +68,48 @@ fn read_run_request<'a>(
         (NamesFirstInRun (rows_of (found_of matches.now))) }
 {
     let run = read_run(alloc, matches)?;
-    let target = target_given(path_given(matches, "trace"), &run)?;
+    let trace = path_given(matches, "trace");
+    let timeline = path_given(matches, "timeline");
+    let view = view_of(trace, timeline, &run)?;
     let threads = flag_given(matches, "threads");
     let history = path_given(matches, "history");
-    request_for(run, target, threads, history)
+    request_for(run, view, threads, history)
 }
 
-/// What is asked for by a run whose trace goes to a target, in threads or not, and whose history goes to a path.
+/// What is asked for by a run of which this is shown, in threads or not, and whose history goes to a path.
 fn request_for<'a>(
     run: Run<'a>,
-    target: Option<Target<'a>>,
+    view: Option<View<'a>>,
     threads: bool,
     history: Option<&'a str>,
 ) -> Result<Request<'a>, OrderFault<'a>>
-    ensures { MatchResult result (IsRequestFor run.entry target.entry threads (option_map (λ path. path.now) history.entry))
-        (IsThreadsFault run.entry target.entry threads (option_map (λ path. path.now) history.entry)) }
+    ensures { MatchResult result (IsRequestFor run.entry view.entry threads (option_map (λ path. path.now) history.entry))
+        (IsThreadsFault run.entry view.entry threads (option_map (λ path. path.now) history.entry)) }
 {
     if threads {
-        let history = history_in_threads(&run, target, history)?;
+        let history = history_in_threads(&run, view, history)?;
         return Ok(Request::Threaded(Threaded { run, history }));
     }
     if history.is_some() {
         return Err(OrderFault::ThreadsAlone);
     }
-    match target {
-        Some(target) => Ok(Request::Traced(Traced { run, target })),
+    match view {
+        Some(view) => Ok(Request::Shown(Shown { run, view })),
         None => Ok(Request::Order(Order::Run(run))),
     }
 }
 
-/// Where the history of a run in threads goes, which has no schedule, trace and counts.
+/// Where the history of a run in threads goes, which has no schedule and no counts, and of which nothing more is shown.
 fn history_in_threads<'a>(
     run: &Run<'_>,
-    target: Option<Target<'_>>,
+    view: Option<View<'_>>,
     history: Option<&'a str>,
 ) -> Result<Option<&'a str>, OrderFault<'a>>
     ensures { MatchResult result
-        (λ kept. (stands_alone run.now target.entry ≡ true) × (kept ≡ history.entry) × IfSome history.entry (λ path. can_keep run.now path.now ≡ true))
-        (IsThreadsFault run.now target.entry true (option_map (λ path. path.now) history.entry)) }
+        (λ kept. (stands_alone run.now view.entry ≡ true) × (kept ≡ history.entry) × IfSome history.entry (λ path. can_keep run.now path.now ≡ true))
+        (IsThreadsFault run.now view.entry true (option_map (λ path. path.now) history.entry)) }
 {
-    if run.schedule.is_some() || run.stats.is_some() || target.is_some() {
+    if run.schedule.is_some() || run.stats.is_some() || view.is_some() {
         return Err(OrderFault::ThreadsAlone);
     }
     match history {
@@ -120,27 +125,60 @@ fn can_keep(run: &Run<'_>, path: &str) -> bool
     !(path == "-" || is_read_by(path, run))
 }
 
-/// Where the trace of a run goes that has one to a path, or has none.
-fn target_given<'a>(
-    path: Option<&'a str>,
+/// What is shown of a run, where a trace goes to the one path, or a timeline to the other.
+fn view_of<'a>(
+    trace: Option<&'a str>,
+    timeline: Option<&'a str>,
     run: &Run<'_>,
-) -> Result<Option<Target<'a>>, OrderFault<'a>>
-    ensures { MatchResult result (HasTarget run.now (option_map (λ p. p.now) path.entry)) (HasTraceFault run.now (option_map (λ p. p.now) path.entry)) }
+) -> Result<Option<View<'a>>, OrderFault<'a>>
+    ensures { MatchResult result (HasView run.now (option_map (λ p. p.now) trace.entry) (option_map (λ p. p.now) timeline.entry))
+        (HasViewFault run.now (option_map (λ p. p.now) trace.entry) (option_map (λ p. p.now) timeline.entry)) }
 {
-    match path {
-        Some(path) => Ok(Some(trace_target(path, run)?)),
-        None => Ok(None),
+    match (trace, timeline) {
+        (None, None) => Ok(None),
+        (Some(_), Some(_)) => Err(OrderFault::TwoViews),
+        (Some(path), None) => Ok(Some(trace_to(path, run)?)),
+        (None, Some(path)) => Ok(Some(timeline_to(path, run)?)),
     }
 }
 
-/// Where the trace of a run goes that isn't counted too.
-fn trace_target<'a>(path: &'a str, run: &Run<'_>) -> Result<Target<'a>, OrderFault<'a>>
-    ensures { MatchResult result (IsTraceTarget run.now path.now) (IsTraceFault run.now path.now) }
+/// The trace that goes to a path, of a run that isn't counted too.
+fn trace_to<'a>(path: &'a str, run: &Run<'_>) -> Result<View<'a>, OrderFault<'a>>
+    ensures { MatchResult result (IsTraceTo run.now path.now) (IsTraceFault run.now path.now) }
 {
     match run.stats {
-        Some(_) => Err(OrderFault::TracedAndCounted),
-        None => target_at(path, run),
+        Some(_) => Err(OrderFault::TwoViews),
+        None => Ok(View::Trace(target_at(path, run)?)),
     }
+}
+
+/// The timeline that goes to a path, of a run that isn't counted too.
+fn timeline_to<'a>(path: &'a str, run: &Run<'_>) -> Result<View<'a>, OrderFault<'a>>
+    ensures { MatchResult result (IsTimelineTo run.now path.now) (IsTimelineFault run.now path.now) }
+{
+    if run.stats.is_some() {
+        return Err(OrderFault::TwoViews);
+    }
+    if is_read_by(path, run) {
+        return Err(OrderFault::Value(path));
+    }
+    drawn_to(path, run.steps)
+}
+
+/// The timeline of a run of so many steps at most, in the form that the path's ending names.
+fn drawn_to<'a>(path: &'a str, steps: u32) -> Result<View<'a>, OrderFault<'a>>
+    ensures { MatchResult result (IsDrawnTo steps path.now) (IsDrawnFault steps path.now) }
+{
+    if path.as_bytes().ends_with(b".json") {
+        return Ok(View::Timeline(path));
+    }
+    if !path.as_bytes().ends_with(b".svg") {
+        return Err(OrderFault::Value(path));
+    }
+    if steps > MOST_DRAWN {
+        return Err(OrderFault::LongPicture);
+    }
+    Ok(View::Picture(path))
 }
 
 /// Where the trace of a run goes: no file that the run reads.

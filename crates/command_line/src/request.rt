@@ -3,8 +3,8 @@
 pub enum Request<'a> {
     /// What is carried out at once.
     Order(Order<'a>),
-    /// To run a program, write its trace, and report what became of it.
-    Traced(Traced<'a>),
+    /// To run a program, show more of the run, and report what became of it.
+    Shown(Shown<'a>),
     /// To run each hart of a program in a thread of its own, and report what became of it.
     Threaded(Threaded<'a>),
     /// To play a program by hand.
@@ -78,13 +78,26 @@ pub struct Run<'a> {
     pub words: Vec<Word<'a>>,
 }
 
-/// A run of a program with a trace, and without counts.
+/// A run of a program of which more is shown than the report, and which isn't counted.
 #[derive(Debug, Drop)]
-pub struct Traced<'a> {
+pub struct Shown<'a> {
     pub run: Run<'a>,
-    /// Where the trace goes.
-    pub target: Target<'a>,
+    pub view: View<'a>,
 }
+
+/// What is shown of a run beside its report.
+#[derive(Clone, Copy, Debug)]
+pub enum View<'a> {
+    /// Its trace, which goes there.
+    Trace(Target<'a>),
+    /// Its timeline, in the Trace Event format, which goes to the file with this path.
+    Timeline(&'a str),
+    /// Its timeline as a picture, in SVG, which goes to the file with this path. Such a run takes at most [`MOST_DRAWN`] steps.
+    Picture(&'a str),
+}
+
+/// The most steps of a run that a picture shows.
+pub const MOST_DRAWN: u32 = 2000;
 
 /// Where a trace goes.
 #[derive(Clone, Copy, Debug)]
@@ -95,7 +108,7 @@ pub enum Target<'a> {
     File(&'a str),
 }
 
-/// A run of a program in threads, without a schedule, a trace and counts.
+/// A run of a program in threads, without a schedule and counts, of which nothing more is shown.
 #[derive(Debug, Drop)]
 pub struct Threaded<'a> {
     pub run: Run<'a>,

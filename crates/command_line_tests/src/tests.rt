@@ -1,5 +1,6 @@
 //! What the words of a command line ask for, and how they are refused.
-use command_line::{Cache, Debug, Order, OrderFault, Request, Run, Target, number, parse};
+use command_line::{Cache, Debug, Order, OrderFault, Request, Run, Target, View, parse};
+use numerals::number;
 use simulate::Fault;
 use std::alloc::Global;
 use std::test::Fail;
@@ -314,7 +315,7 @@ fn gives(alloc: Global, words: &'static [&'static str], count: usize) -> bool {
         Err(fault) => match fault {
             OrderFault::NoMemory => true,
             OrderFault::Value(_value) => false,
-            OrderFault::TracedAndCounted | OrderFault::ThreadsAlone => false,
+            OrderFault::TwoViews | OrderFault::LongPicture | OrderFault::ThreadsAlone => false,
             OrderFault::Refused(_text) => false,
         },
     }
@@ -328,7 +329,7 @@ fn assembles(alloc: Global, words: &'static [&'static str], from: &str, to: &str
         Err(fault) => match fault {
             OrderFault::NoMemory => true,
             OrderFault::Value(_value) => false,
-            OrderFault::TracedAndCounted | OrderFault::ThreadsAlone => false,
+            OrderFault::TwoViews | OrderFault::LongPicture | OrderFault::ThreadsAlone => false,
             OrderFault::Refused(_text) => false,
         },
     }
@@ -341,7 +342,7 @@ fn fails(alloc: Global, words: &'static [&'static str], part: &str) -> bool {
         Ok(_request) => false,
         Err(fault) => match fault {
             OrderFault::NoMemory => true,
-            OrderFault::TracedAndCounted | OrderFault::ThreadsAlone => false,
+            OrderFault::TwoViews | OrderFault::LongPicture | OrderFault::ThreadsAlone => false,
             OrderFault::Value(value) => value == part,
             OrderFault::Refused(text) => text.contains(part),
         },
@@ -405,7 +406,7 @@ fn reads_what_is_played_by_hand(rt: HostRuntime) -> Result<(), Fail> {
 // What the user is told of words that are refused, with the status.
 #[test]
 fn tells_of_refused_words(rt: HostRuntime) -> Result<(), Fail> {
-    let cases: [(&[&str], &str); 7] = [
+    let cases: [(&[&str], &str); 11] = [
         (
             &["logtm", "debug", "f", "--harts", "two"],
             "logtm: value two\n",
@@ -421,12 +422,28 @@ fn tells_of_refused_words(rt: HostRuntime) -> Result<(), Fail> {
         (&["logtm", "run", "f", "0X10"], "logtm: value 0X10\n"),
         (&["logtm", "run", "f", "--trace", "f"], "logtm: value f\n"),
         (
+            &["logtm", "run", "f", "--timeline", "t.png"],
+            "logtm: value t.png\n",
+        ),
+        (
+            &["logtm", "run", "f.json", "--timeline", "f.json"],
+            "logtm: value f.json\n",
+        ),
+        (
+            &["logtm", "run", "f", "--timeline", "t.json", "--stats=table"],
+            "logtm: --trace, --timeline and --stats exclude each other\n",
+        ),
+        (
+            &["logtm", "run", "f", "--timeline", "t.svg"],
+            "logtm: a picture takes --steps of at most 2000\n",
+        ),
+        (
             &["logtm", "run", "f", "--schedule=l", "--trace=l"],
             "logtm: value l\n",
         ),
         (
             &["logtm", "run", "f", "--history", "h"],
-            "logtm: --threads excludes --schedule, --trace and --stats, and --history needs --threads\n",
+            "logtm: --threads excludes --schedule, --trace, --timeline and --stats, and --history needs --threads\n",
         ),
     ];
     for (words, text) in cases {
@@ -449,9 +466,10 @@ fn tells_of_refused_words(rt: HostRuntime) -> Result<(), Fail> {
 // Where the trace of a run of `f` goes: to standard output as a dash.
 fn target(alloc: Global, words: &'static [&'static str]) -> Option<&'static str> {
     match parse(alloc, words) {
-        Ok(Request::Traced(traced)) => match traced.target {
-            Target::Output => Some("-"),
-            Target::File(path) => Some(path),
+        Ok(Request::Shown(shown)) => match shown.view {
+            View::Trace(Target::Output) => Some("-"),
+            View::Trace(Target::File(path)) => Some(path),
+            View::Timeline(_) | View::Picture(_) => None,
         },
         _ => None,
     }
@@ -473,6 +491,75 @@ fn reads_where_a_trace_goes(rt: HostRuntime) {
     ];
     for (words, path) in cases {
         assert_eq!(rt; target(rt.alloc(), words), path);
+    }
+}
+
+// Where the timeline of a run goes.
+fn timeline(alloc: Global, words: &'static [&'static str]) -> Option<&'static str> {
+    match parse(alloc, words) {
+        Ok(Request::Shown(shown)) => match shown.view {
+            View::Timeline(path) => Some(path),
+            View::Trace(_) | View::Picture(_) => None,
+        },
+        _ => None,
+    }
+}
+
+#[test]
+fn reads_where_a_timeline_goes(rt: HostRuntime) {
+    let cases: [(&[&str], Option<&str>); 7] = [
+        (&["logtm", "run", "f"], None),
+        (
+            &["logtm", "run", "f", "--timeline", "t.json"],
+            Some("t.json"),
+        ),
+        (&["logtm", "run", "--timeline=.json", "f"], Some(".json")),
+        (&["logtm", "run", "f", "--trace", "t.json"], None),
+        (&["logtm", "run", "f", "--timeline", "t.svg"], None),
+        (&["logtm", "run", "f.json", "--timeline", "f.json"], None),
+        (
+            &[
+                "logtm",
+                "run",
+                "f",
+                "--schedule=l.json",
+                "--timeline=l.json",
+            ],
+            None,
+        ),
+    ];
+    for (words, path) in cases {
+        assert_eq!(rt; timeline(rt.alloc(), words), path);
+    }
+}
+
+// Where the picture of a run goes.
+fn picture(alloc: Global, words: &'static [&'static str]) -> Option<&'static str> {
+    match parse(alloc, words) {
+        Ok(Request::Shown(shown)) => match shown.view {
+            View::Picture(path) => Some(path),
+            View::Trace(_) | View::Timeline(_) => None,
+        },
+        _ => None,
+    }
+}
+
+#[test]
+fn reads_where_a_picture_goes(rt: HostRuntime) {
+    let cases: [(&[&str], Option<&str>); 4] = [
+        (
+            &["logtm", "run", "f", "--steps=2000", "--timeline=t.svg"],
+            Some("t.svg"),
+        ),
+        (
+            &["logtm", "run", "f", "--steps=2001", "--timeline=t.svg"],
+            None,
+        ),
+        (&["logtm", "run", "f", "--timeline=t.svg"], None),
+        (&["logtm", "run", "f", "--trace=t.svg", "--steps=1"], None),
+    ];
+    for (words, path) in cases {
+        assert_eq!(rt; picture(rt.alloc(), words), path);
     }
 }
 
@@ -506,18 +593,18 @@ fn reads_a_run_in_threads(rt: HostRuntime) {
     }
 }
 
-// Why threads and what else is asked for don't go together: 1 for the threads, 2 for a trace and counts.
+// Why threads and what else is asked for don't go together: 1 for the threads, 2 for two of a trace, a timeline and counts.
 fn apart(alloc: Global, words: &'static [&'static str]) -> u32 {
     match parse(alloc, words) {
         Err(OrderFault::ThreadsAlone) => 1,
-        Err(OrderFault::TracedAndCounted) => 2,
+        Err(OrderFault::TwoViews) => 2,
         _ => 0,
     }
 }
 
 #[test]
 fn threads_stand_alone(rt: HostRuntime) {
-    let cases: [(&[&str], u32); 9] = [
+    let cases: [(&[&str], u32); 13] = [
         (&["logtm", "run", "f", "--threads", "--schedule", "l"], 1),
         (&["logtm", "run", "f", "--threads", "--trace", "t"], 1),
         (&["logtm", "run", "f", "--trace", "-", "--threads"], 1),
@@ -537,6 +624,10 @@ fn threads_stand_alone(rt: HostRuntime) {
             ],
             1,
         ),
+        (&["logtm", "run", "f", "--threads", "--timeline=t.json"], 1),
+        (&["logtm", "run", "f", "--timeline=t.json", "--trace=t"], 2),
+        (&["logtm", "run", "f", "--trace=f", "--timeline=f"], 2),
+        (&["logtm", "run", "f", "--timeline=f", "--stats=csv"], 2),
         (&["logtm", "run", "f", "--history", "h"], 1),
         (&["logtm", "run", "f", "--history", "f"], 1),
         (&["logtm", "run", "f", "--trace=t", "--history", "h"], 1),

@@ -4,7 +4,7 @@ use Rattle.std.specs.Borrow.{Bor}
 use Rattle.std.specs.List.{starts_with}
 use Rattle.std.specs.Option.{option_and_then}
 use Rattle.std.specs.Str.{bytes_eq}
-use Rattle.command_line.specs.Numbers.{number_of}
+use Rattle.numerals.specs.Numbers.{number_of}
 use Rattle.schedule.specs.Spelling.{words_of, sort_of}
 use Rattle.commands.specs.declared.command.Command.{Command}
 use Rattle.commands.specs.declared.command.Command.TheVariants as command

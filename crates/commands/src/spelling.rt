@@ -3,7 +3,7 @@ ghost use Rattle.schedule.specs.Spelling.{words_of};
 ghost use Rattle.commands.specs.Spelling as spec;
 
 use crate::command::{Command, Look};
-use command_line::number;
+use numerals::number;
 use schedule::{one_word, sort_of, split, three_words, two_words};
 
 /// What no word stands behind.

@@ -6,7 +6,7 @@ ghost use Rattle.board.specs.Boards.{IsRunning};
 ghost use Rattle.hub.specs.Hubs.{IsFirst, IsLent, Fits, IsRefusedFor, IsSettled, IsAsBefore, IsEnd};
 
 use crate::lending::take_over;
-use board::{Lease, Refusal, fits, running};
+use board::{Code, Lease, Refusal, fits, running};
 use flat::BootFault;
 use history::Journal;
 use loader::Program;
@@ -18,7 +18,7 @@ use words::HartId;
 /// A machine that harts are lent from. A journal keeps the choices that have led to it.
 #[derive(Drop)]
 pub struct Hub<'p, const SETS: usize, const WAYS: usize, J: Journal> {
-    pub(crate) program: &'p Program,
+    pub(crate) code: Code<'p>,
     pub(crate) harts: u32,
     pub(crate) size: u32,
     pub(crate) machine: Machine<SETS, WAYS>,
@@ -31,7 +31,7 @@ impl<'p, const SETS: usize, const WAYS: usize, J: Journal> Model for Hub<'p, SET
     ghost Value = { Held J };
 
     ghost view = { λ h. record {
-      program = h.program.now;
+      program = h.code.program.now;
       harts = h.harts;
       size = h.size;
       machine = h.machine;
@@ -43,8 +43,8 @@ impl<'p, const SETS: usize, const WAYS: usize, J: Journal> Model for Hub<'p, SET
     ghost use Rattle.table.specs.Program.{AreBytes};
     ghost use Rattle.hub.specs.Hubs.{IsKept};
 
-    ghost invariant = { λ h. IsKept (geometry SETS WAYS) h.program.now h.harts h.size (J.tells h.journal) h.machine
-        × (h.machine.program.segments ≡ h.program.now.segments) × AreBytes h.program.now.segments × (SETS * WAYS < 2 ^ 32) × (h.size < 2 ^ 32) };
+    ghost invariant = { λ h. IsKept (geometry SETS WAYS) h.code.program.now h.harts h.size (J.tells h.journal) h.machine
+        × (h.machine.program.segments ≡ h.code.program.now.segments) × AreBytes h.code.program.now.segments × (SETS * WAYS < 2 ^ 32) × (h.size < 2 ^ 32) };
 }
 
 /// What a hub was.
@@ -61,7 +61,7 @@ impl<'p, const SETS: usize, const WAYS: usize, J: Journal> Hub<'p, SETS, WAYS, J
     /// The hub that a program begins with, in a machine with a number of harts and of bytes of memory. Its journal tells of no choice yet.
     pub fn boot(
         alloc: Global,
-        program: &'p Program,
+        code: Code<'p>,
         harts: u32,
         size: u32,
         journal: J,
@@ -70,12 +70,12 @@ impl<'p, const SETS: usize, const WAYS: usize, J: Journal> Hub<'p, SETS, WAYS, J
         requires ways { 0 < WAYS }
         requires lines { SETS * WAYS < 2 ^ 32 }
         requires told { J.tells journal [] }
-        ensures ok { IfOk result (IsFirst (geometry SETS WAYS) program.now harts size journal) }
-        ensures err { IfErr result (λ e. (e ≡ fault.NoMemory) ⊎ (boot_fault program.now.segments harts size ≡ Some e)) }
+        ensures ok { IfOk result (IsFirst (geometry SETS WAYS) code.entry.program.now harts size journal) }
+        ensures err { IfErr result (λ e. (e ≡ fault.NoMemory) ⊎ (boot_fault code.entry.program.now.segments harts size ≡ Some e)) }
     {
-        let machine = Machine::boot(alloc, program.copy(alloc)?, harts, size)?;
+        let machine = Machine::boot(alloc, code.program.copy(alloc)?, harts, size)?;
         Ok(Hub {
-            program,
+            code,
             harts,
             size,
             machine,
@@ -96,7 +96,7 @@ impl<'p, const SETS: usize, const WAYS: usize, J: Journal> Hub<'p, SETS, WAYS, J
         ensures none { IfNone result (IsRunning self.now.machine id → ⊥) }
     {
         let hart = running(&self.machine, id)?;
-        Some(Lease::new(self.program, self.harts, self.size, id, hart))
+        Some(Lease::new(self.code, self.harts, self.size, id, hart))
     }
 
     /// Takes over the steps of a lease, if its hart is still as it was lent.
@@ -109,7 +109,13 @@ impl<'p, const SETS: usize, const WAYS: usize, J: Journal> Hub<'p, SETS, WAYS, J
         ensures back { IfErr result (λ r. r.0 ≡ lease.entry) }
         ensures refused { IfErr result (λ r. IsRefusedFor self.old lease.entry r.1) }
     {
-        if !fits(self.program, self.harts, self.size, &self.machine, &lease) {
+        if !fits(
+            self.code.program,
+            self.harts,
+            self.size,
+            &self.machine,
+            &lease,
+        ) {
             return Err((lease, Refusal::Stale));
         }
         match self.take_in(&lease) {
@@ -138,7 +144,7 @@ impl<'p, const SETS: usize, const WAYS: usize, J: Journal> Hub<'p, SETS, WAYS, J
         ensures end { IsEnd (geometry SETS WAYS) result.program.now result.harts result.size (J.tells result.journal) result.machine }
     {
         Ended {
-            program: self.program,
+            program: self.code.program,
             harts: self.harts,
             size: self.size,
             machine: self.machine,

@@ -1,4 +1,4 @@
-use board::{Lease, Refusal};
+use board::{Code, Lease, Refusal};
 use elf_samples::program;
 use history::{History, Unkept, put_history};
 use hub::{Ended, Hub};
@@ -8,6 +8,7 @@ use std::process::Abort;
 use std::str;
 use std::sync::Mutex;
 use std::test::Fail;
+use table::DecodedText;
 use words::{Addr, HartId, Taken};
 use workers::{End, Gate, serve};
 
@@ -94,7 +95,9 @@ fn check_again(
 #[test]
 fn history_of_threads_plays_again(rt: HostRuntime) -> Result<(), Fail> {
     let program = program(rt.alloc(), &WAITS)?;
-    let hub: Kept = Hub::boot(rt.alloc(), &program, 4, SIZE, History::new(rt.alloc()))?;
+    let words = DecodedText::new(rt.alloc(), program.segments(), program.entry())?;
+    let code = Code::decoded(&program, &words);
+    let hub: Kept = Hub::boot(rt.alloc(), code, 4, SIZE, History::new(rt.alloc()))?;
     let desk = Mutex::new(hub);
     let ends = serve::<Kept, Whole, HostRuntime>(&rt, &desk, 4, &Whole, TURNS)?;
     assert_eq!(rt; ends.as_slice(), [End::Stopped; 4].as_slice());
@@ -106,7 +109,7 @@ fn history_of_threads_plays_again(rt: HostRuntime) -> Result<(), Fail> {
 #[test]
 fn threads_run_where_nothing_is_kept(rt: HostRuntime) -> Result<(), Fail> {
     let program = program(rt.alloc(), &WAITS)?;
-    let hub: Plain = Hub::boot(rt.alloc(), &program, 2, SIZE, Unkept)?;
+    let hub: Plain = Hub::boot(rt.alloc(), Code::new(&program), 2, SIZE, Unkept)?;
     let desk = Mutex::new(hub);
     let ends = serve::<Plain, Whole, HostRuntime>(&rt, &desk, 2, &Whole, TURNS)?;
     assert_eq!(rt; ends.as_slice(), [End::Stopped; 2].as_slice());
@@ -120,7 +123,8 @@ fn threads_run_where_nothing_is_kept(rt: HostRuntime) -> Result<(), Fail> {
 #[test]
 fn stale_lease_comes_back(rt: HostRuntime) -> Result<(), Fail> {
     let program = program(rt.alloc(), &WAITS)?;
-    let mut hub: Kept = Hub::boot(rt.alloc(), &program, 1, SIZE, History::new(rt.alloc()))?;
+    let code = Code::new(&program);
+    let mut hub: Kept = Hub::boot(rt.alloc(), code, 1, SIZE, History::new(rt.alloc()))?;
     let zero = HartId::new(0);
     let lent = hub.lend(zero);
     let ran = hub.lend(zero);

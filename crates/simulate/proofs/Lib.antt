@@ -5,4 +5,4 @@ pub mod Refusing
 pub mod Performing
 mod CountedRuns
 pub mod Quoting
-mod TracedRuns
+mod ShownRuns

@@ -13,7 +13,7 @@ use Rattle.simulate.specs.Refusals.{IsFaultOf, IsListingFault, IsRunFault}
 use Rattle.simulate.specs.Sources.{IsProgramFault, IsSourceFault}
 use Rattle.simulate.specs.Statuses.{status_for, IsGreatest, IsReported, IsRefused}
 use Rattle.simulate.specs.declared.fault.Fault.{Fault}
-use Rattle.simulate.specs.declared.fault.Fault.TheVariants.{NotText, Refused, Value, TracedAndCounted, ThreadsAlone, Unread, NotSource, Source, Load, Boot, Word, NotSchedule, Schedule, Unwritten, Unmade, NoMemory}
+use Rattle.simulate.specs.declared.fault.Fault.TheVariants.{NotText, Refused, Value, TwoViews, LongPicture, ThreadsAlone, Unread, NotSource, Source, Load, Boot, Word, NotSchedule, Schedule, Unwritten, Unmade, NoMemory}
 use Rattle.std.specs.Prelude.{List}
 
 exit_status : (b : Bool) → IsReported (cond b 0 1)
@@ -67,7 +67,8 @@ pub fault-not_reported : (e : Fault) → IsReported (fault_status e) → ⊥
 fault-not_reported NotText h = omega (arith, h)
 fault-not_reported (Refused text) h = omega (arith, h)
 fault-not_reported (Value text) h = omega (arith, h)
-fault-not_reported TracedAndCounted h = omega (arith, h)
+fault-not_reported TwoViews h = omega (arith, h)
+fault-not_reported LongPicture h = omega (arith, h)
 fault-not_reported ThreadsAlone h = omega (arith, h)
 fault-not_reported (Unread file) h = omega (arith, h)
 fault-not_reported NotSource h = omega (arith, h)
@@ -86,7 +87,8 @@ program_unwritten : (path file : List ℕ) (e : Fault) → IsProgramFault path f
 program_unwritten path file NotText why h = absurd (omega (arith, h))
 program_unwritten path file (Refused text) why h = absurd (omega (arith, h))
 program_unwritten path file (Value text) why h = absurd (omega (arith, h))
-program_unwritten path file TracedAndCounted why h = absurd (omega (arith, h))
+program_unwritten path file TwoViews why h = absurd (omega (arith, h))
+program_unwritten path file LongPicture why h = absurd (omega (arith, h))
 program_unwritten path file ThreadsAlone why h = absurd (omega (arith, h))
 program_unwritten path file (Unread other) why h = elim why [ inl x ↦ x.1 | inr x ↦ x.1 ]
 program_unwritten path file NotSource why h = absurd (omega (arith, h))
@@ -105,7 +107,8 @@ run_unwritten : (run : Run) (file list : List ℕ) (e : Fault) → IsRunFault ru
 run_unwritten run file list NotText why h = absurd (omega (arith, h))
 run_unwritten run file list (Refused text) why h = absurd (omega (arith, h))
 run_unwritten run file list (Value text) why h = absurd (omega (arith, h))
-run_unwritten run file list TracedAndCounted why h = absurd (omega (arith, h))
+run_unwritten run file list TwoViews why h = absurd (omega (arith, h))
+run_unwritten run file list LongPicture why h = absurd (omega (arith, h))
 run_unwritten run file list ThreadsAlone why h = absurd (omega (arith, h))
 run_unwritten run file list (Unread path) why h = absurd (program_unwritten run.file.now file (Unread path) why h)
 run_unwritten run file list NotSource why h = absurd (omega (arith, h))
@@ -124,7 +127,8 @@ listing_unwritten : (file : List ℕ) (e : Fault) → IsListingFault file e → 
 listing_unwritten file NotText why h = absurd (omega (arith, h))
 listing_unwritten file (Refused text) why h = absurd (omega (arith, h))
 listing_unwritten file (Value text) why h = absurd (omega (arith, h))
-listing_unwritten file TracedAndCounted why h = absurd (omega (arith, h))
+listing_unwritten file TwoViews why h = absurd (omega (arith, h))
+listing_unwritten file LongPicture why h = absurd (omega (arith, h))
 listing_unwritten file ThreadsAlone why h = absurd (omega (arith, h))
 listing_unwritten file (Unread path) why h = absurd why
 listing_unwritten file NotSource why h = absurd (omega (arith, h))
@@ -143,7 +147,8 @@ source_unwritten : (file : List ℕ) (e : Fault) → IsSourceFault file e → fa
 source_unwritten file NotText why h = absurd (omega (arith, h))
 source_unwritten file (Refused text) why h = absurd (omega (arith, h))
 source_unwritten file (Value text) why h = absurd (omega (arith, h))
-source_unwritten file TracedAndCounted why h = absurd (omega (arith, h))
+source_unwritten file TwoViews why h = absurd (omega (arith, h))
+source_unwritten file LongPicture why h = absurd (omega (arith, h))
 source_unwritten file ThreadsAlone why h = absurd (omega (arith, h))
 source_unwritten file (Unread path) why h = why
 source_unwritten file NotSource why h = absurd (omega (arith, h))

@@ -19,14 +19,15 @@ use Rattle.simulate.specs.Quotes.{quotation}
 use Rattle.simulate.specs.Reports.{line_end}
 use Rattle.simulate.specs.declared.fault.Fault.{Fault}
 use Rattle.simulate.specs.declared.fault.RefusedLine.{RefusedLine}
-use Rattle.simulate.specs.declared.fault.Fault.TheVariants.{NotText, Refused, Value, TracedAndCounted, ThreadsAlone, Unread, NotSource, Source, Load, Boot, Word, NotSchedule, Schedule, Unwritten, Unmade, NoMemory}
+use Rattle.simulate.specs.declared.fault.Fault.TheVariants.{NotText, Refused, Value, TwoViews, LongPicture, ThreadsAlone, Unread, NotSource, Source, Load, Boot, Word, NotSchedule, Schedule, Unwritten, Unmade, NoMemory}
 
 -- 2 for the command line and a schedule, 3 for a file, 4 for what is in the file and for the machine that is asked for, 6 if memory ran out
 abbrev pub fault_status : Fault → ℕ
 fault_status NotText = 2
 fault_status (Refused text) = 2
 fault_status (Value text) = 2
-fault_status TracedAndCounted = 2
+fault_status TwoViews = 2
+fault_status LongPicture = 2
 fault_status ThreadsAlone = 2
 fault_status (Unread file) = 3
 fault_status NotSource = 4
@@ -65,8 +66,9 @@ abbrev pub fault_text : Fault → List ℕ
 fault_text NotText = line (codes "an argument is not text") []
 fault_text (Refused text) = concat (string_bytes text ∷ [])
 fault_text (Value text) = line (codes "value ") text.now
-fault_text TracedAndCounted = line (codes "--trace and --stats exclude each other") []
-fault_text ThreadsAlone = line (codes "--threads excludes --schedule, --trace and --stats, and --history needs --threads") []
+fault_text TwoViews = line (codes "--trace, --timeline and --stats exclude each other") []
+fault_text LongPicture = line (codes "a picture takes --steps of at most 2000") []
+fault_text ThreadsAlone = line (codes "--threads excludes --schedule, --trace, --timeline and --stats, and --history needs --threads") []
 fault_text (Unread file) = line (codes "cannot read ") file.now
 fault_text NotSource = line (codes "source is not text") []
 fault_text (Source refused) = refused_line refused
@@ -83,7 +85,8 @@ fault_text NoMemory = line (codes "no memory") []
 abbrev pub of_order : OrderFault → Fault
 of_order (order.Refused text) = Refused text
 of_order (order.Value text) = Value text
-of_order order.TracedAndCounted = TracedAndCounted
+of_order order.TwoViews = TwoViews
+of_order order.LongPicture = LongPicture
 of_order order.ThreadsAlone = ThreadsAlone
 of_order order.NoMemory = NoMemory
 

@@ -11,7 +11,7 @@ pub mod Runs
 pub mod Unreadable
 pub mod Starts
 pub mod Begins
-pub mod Traced
+pub mod Shown
 pub mod Orders
 pub mod Answers
 pub mod Refusals

@@ -33,9 +33,11 @@ pub enum Fault<'a> {
     Refused(String),
     /// The first malformed value, as the user wrote it.
     Value(&'a str),
-    /// A run is to be traced and counted.
-    TracedAndCounted,
-    /// A run in threads is given a schedule, or is to be traced or counted; or the history is asked for of a run that isn't in threads.
+    /// More than one is asked for of a trace, a timeline and counts.
+    TwoViews,
+    /// A picture is asked for of a run that may take more steps than a picture shows.
+    LongPicture,
+    /// A run in threads is given a schedule, or more is to be shown of it, or it is to be counted; or the history is asked for of a run that isn't in threads.
     ThreadsAlone,
     /// The path of a file that can't be read.
     Unread(&'a str),
@@ -68,7 +70,7 @@ impl<'a> Fault<'a> {
     {
         match self {
             Fault::NotText | Fault::Refused(_) | Fault::Value(_) | Fault::Word(_) => 2,
-            Fault::TracedAndCounted | Fault::ThreadsAlone => 2,
+            Fault::TwoViews | Fault::LongPicture | Fault::ThreadsAlone => 2,
             Fault::NotSchedule | Fault::Schedule(_) => 2,
             Fault::Unread(_) | Fault::Unwritten | Fault::Unmade(_) => 3,
             Fault::NotSource | Fault::Source(_) | Fault::Load(_) | Fault::Boot(_) => 4,
@@ -84,14 +86,15 @@ impl<'a> Fault<'a> {
             Fault::NotText => put_line(sink, b"an argument is not text", ""),
             Fault::Refused(text) => put_all(sink, &[text.as_bytes()]),
             Fault::Value(text) => put_line(sink, b"value ", text),
-            Fault::TracedAndCounted => put_line(
+            Fault::TwoViews => put_line(
                 sink,
-                b"--trace and --stats exclude each other",
+                b"--trace, --timeline and --stats exclude each other",
                 "",
             ),
+            Fault::LongPicture => put_line(sink, b"a picture takes --steps of at most 2000", ""),
             Fault::ThreadsAlone => put_line(
                 sink,
-                b"--threads excludes --schedule, --trace and --stats, and --history needs --threads",
+                b"--threads excludes --schedule, --trace, --timeline and --stats, and --history needs --threads",
                 "",
             ),
             Fault::Unread(file) => put_line(sink, b"cannot read ", file),
@@ -196,7 +199,8 @@ impl<'a> From<OrderFault<'a>> for Fault<'a> {
         match fault {
             OrderFault::Refused(text) => Fault::Refused(text),
             OrderFault::Value(text) => Fault::Value(text),
-            OrderFault::TracedAndCounted => Fault::TracedAndCounted,
+            OrderFault::TwoViews => Fault::TwoViews,
+            OrderFault::LongPicture => Fault::LongPicture,
             OrderFault::ThreadsAlone => Fault::ThreadsAlone,
             OrderFault::NoMemory => Fault::NoMemory,
         }

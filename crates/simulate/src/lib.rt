@@ -8,8 +8,8 @@ pub mod perform;
 mod quote;
 pub mod readable;
 pub mod report;
+pub mod showing;
 pub mod source;
 pub mod status;
-pub mod tracing;
 
 pub use fault::{Fault, RefusedLine};

@@ -2,6 +2,7 @@ mod calls;
 mod checks;
 mod counting;
 mod debugging;
+mod drawing;
 mod memory;
 mod paper;
 mod running;

@@ -34,6 +34,13 @@ impl<S: Sink> Chart<S> {
     {
         Chart { sink, time: 0 }
     }
+
+    /// The sink, with all that was put into it.
+    pub fn into_sink(self) -> S
+        ensures { result ≡ self.sink }
+    {
+        self.sink
+    }
 }
 
 /// Notes steps as events.

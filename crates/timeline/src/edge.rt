@@ -39,7 +39,7 @@ fn edge_of_word(word: u32, depth: u8) -> Edge
 }
 
 /// What an entry did to the transaction of its hart, on the machine behind it.
-pub(crate) fn edge_at<const SETS: usize, const WAYS: usize>(
+pub fn edge_at<const SETS: usize, const WAYS: usize>(
     entry: &Option<Entry>,
     machine: &Machine<SETS, WAYS>,
 ) -> Edge

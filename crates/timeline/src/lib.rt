@@ -11,4 +11,5 @@ mod events;
 mod label;
 
 pub use chart::{Chart, put_timeline};
-pub use edge::Edge;
+pub use edge::{Edge, edge_at};
+pub use label::{lane, put_label};

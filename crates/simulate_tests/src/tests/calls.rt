@@ -5,10 +5,11 @@ use console::Typed;
 use elf_samples::elf_file;
 use simulate::debugging::play;
 use simulate::perform::perform;
-use simulate::tracing::{trace_apart, trace_before};
+use simulate::showing::{Form, show_apart, trace_before};
 use std::alloc::{AllocError, Global};
 use std::io;
 use std::io::{ErrorKind, Read};
+use timeline::Chart;
 
 /// The ELF file of a program of these words.
 pub(crate) fn file_of(alloc: Global, words: &[u32]) -> Result<Vec<u8>, AllocError> {
@@ -80,11 +81,24 @@ pub(crate) fn traced_apart(
     run: &Run<'_>,
     file: &[u8],
     schedule: &[u8],
-    mut trace: Paper,
+    trace: Paper,
+) -> (Told, Paper) {
+    shown_apart(alloc, run, Form::Trace, file, schedule, trace)
+}
+
+/// A run of which this is shown in the file `t`, and what is shown.
+pub(crate) fn shown_apart(
+    alloc: Global,
+    run: &Run<'_>,
+    form: Form,
+    file: &[u8],
+    schedule: &[u8],
+    paper: Paper,
 ) -> (Told, Paper) {
     let (mut out, mut error) = (Paper::endless(alloc), Paper::endless(alloc));
-    let status = trace_apart(
-        alloc, run, "t", file, schedule, &mut trace, &mut out, &mut error,
+    let mut chart = Chart::new(paper);
+    let status = show_apart(
+        alloc, run, form, "t", file, schedule, &mut chart, &mut out, &mut error,
     );
     let told = Told {
         status,
@@ -92,7 +106,7 @@ pub(crate) fn traced_apart(
         out,
         error,
     };
-    (told, trace)
+    (told, chart.into_sink())
 }
 
 /// A run whose trace stands before the report.

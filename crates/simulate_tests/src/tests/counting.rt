@@ -252,11 +252,11 @@ fn a_form_is_refused(rt: HostRuntime) -> Result<(), Fail> {
         ),
         (
             &["logtm", "run", "f", "--stats=csv", "--trace=f"],
-            "logtm: --trace and --stats exclude each other\n",
+            "logtm: --trace, --timeline and --stats exclude each other\n",
         ),
         (
             &["logtm", "run", "f", "--trace", "-", "--stats", "table"],
-            "logtm: --trace and --stats exclude each other\n",
+            "logtm: --trace, --timeline and --stats exclude each other\n",
         ),
     ];
     for (words, text) in cases {

@@ -1,7 +1,7 @@
 //! A sink that fails.
 ghost use Rattle.std.specs.Prelude.{None};
 
-use simulate::tracing::Page;
+use simulate::showing::Page;
 use std::alloc::Global;
 use words::{Sink, SinkFault};
 

@@ -1,6 +1,6 @@
 ghost use Rattle.std.specs.Prelude.{None};
 
-use simulate::tracing::Page;
+use simulate::showing::Page;
 use std::alloc::Global;
 use words::{Sink, SinkFault};
 

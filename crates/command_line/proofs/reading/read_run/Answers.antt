@@ -1,7 +1,7 @@
 use Rattle.std.proofs.Common.{None, codes}
 use Rattle.std.proofs.lemmas.Result.{err_from_is_err_and}
 use Rattle.clap.specs.Words.{first_of, found_of, rows_of}
-use Rattle.command_line.specs.Numbers.{number_of}
+use Rattle.numerals.specs.Numbers.{number_of}
 use Rattle.command_line.specs.Reading.{cache_of, malformed, stats_of, words_of}
 use Rattle.command_line.specs.declared.request.Cache.TheVariants.{Normal}
 use Rattle.command_line.proofs.Values.{none_malformed, first_of_more, first_behind, none_of_both}

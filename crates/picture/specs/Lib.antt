@@ -1,0 +1,4 @@
+pub mod Rows
+pub mod Shapes
+pub mod Drawings
+pub mod Pictures

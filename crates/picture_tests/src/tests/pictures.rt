@@ -1,0 +1,103 @@
+//! Pictures of programs that store 7 to 0x2000 in a transaction: the store misses, and its hart asks the directory for the block.
+use super::refusing::Refusing;
+use elf_samples::{ABORTS, COMMITS, elf_file};
+use loader::read_elf;
+use machine::Machine;
+use picture::put_picture;
+use std::alloc::Global;
+use std::str;
+use std::test::Fail;
+use watch::Halt;
+use words::{Sink, Taken};
+
+const PICTURE: &str =
+    r##"<svg xmlns="http://www.w3.org/2000/svg" version="1.1" width="980" height="330">
+<style>text{font:11px monospace;paint-order:stroke;stroke:#fff;stroke-width:8px;stroke-linejoin:round}circle{stroke:#fff;stroke-width:1px}path{fill:none}.life{stroke:#bbb}.name{text-anchor:middle;stroke:none}rect.name{fill:#eee;stroke:#999}.number{fill:#888;text-anchor:end}.arrow{stroke:#69c;marker-end:url(#head)}.committed,.aborted,.running{stroke-width:8px;stroke-linecap:round}.committed{stroke:#8c8}.aborted{stroke:#e99}.running{stroke:#ccc}.abort{fill:#c00}.trap{fill:#800}.refuse{fill:#d60}.spill{fill:#83a}.evict{fill:#888}.core{fill:#666}.arrival{fill:#258}</style>
+<defs><marker id="head" viewBox="0 0 8 8" refX="11" refY="4" markerWidth="8" markerHeight="8" orient="auto"><path d="M0,0L8,4L0,8Z" style="fill:#69c"/></marker><pattern id="rows" width="40" height="40" patternUnits="userSpaceOnUse"><rect width="40" height="20" fill="#f7f7f7"/></pattern></defs>
+<rect width="100%" height="100%" fill="#fff"/><rect y="60" width="100%" height="100%" fill="url(#rows)"/>
+<g transform="translate(100,0)"><path class="life" d="M0,40V310"/><rect class="name" x="-45" y="16" width="90" height="24" rx="4"/><text class="name" y="32">hart 0</text></g>
+<g transform="translate(540,0)"><path class="life" d="M0,40V310"/><rect class="name" x="-45" y="16" width="90" height="24" rx="4"/><text class="name" y="32">directory</text></g>
+<path class="committed" d="M100,70V230"/>
+<path class="arrow" d="M100,130L540,150"/>
+<path class="arrow" d="M540,150L100,170"/>
+<path class="arrow" d="M100,170L540,190"/>
+<text class="number" x="46" y="70" dy="4">0</text><g class="retire" transform="translate(100,70)"><circle r="3"/><text x="14" y="4">tbegin 20</text></g>
+<text class="number" x="46" y="90" dy="4">1</text><g class="retire" transform="translate(100,90)"><circle r="3"/><text x="14" y="4">lui t0, 0x2</text></g>
+<text class="number" x="46" y="110" dy="4">2</text><g class="retire" transform="translate(100,110)"><circle r="3"/><text x="14" y="4">addi t1, zero, 7</text></g>
+<text class="number" x="46" y="130" dy="4">3</text><g class="core" transform="translate(100,130)"><circle r="3"/><text x="14" y="4">core</text></g>
+<text class="number" x="46" y="150" dy="4">4</text><g class="arrival" transform="translate(540,150)"><circle r="3"/><text x="14" y="4">get 0 0x00002000 write stamp 0.0</text></g>
+<text class="number" x="46" y="170" dy="4">5</text><g class="arrival" transform="translate(100,170)"><circle r="3"/><text x="14" y="4">grant 0 0x00002000 M expect - content 0x00000000</text></g>
+<text class="number" x="46" y="190" dy="4">6</text><g class="arrival" transform="translate(540,190)"><circle r="3"/><text x="14" y="4">done 0 0x00002000 ok content -</text></g>
+<text class="number" x="46" y="210" dy="4">7</text><g class="retire" transform="translate(100,210)"><circle r="3"/><text x="14" y="4">sw t1, 0(t0)</text></g>
+<text class="number" x="46" y="230" dy="4">8</text><g class="retire" transform="translate(100,230)"><circle r="3"/><text x="14" y="4">tcommit</text></g>
+<text class="number" x="46" y="250" dy="4">9</text><g class="retire" transform="translate(100,250)"><circle r="3"/><text x="14" y="4">addi a7, zero, 93</text></g>
+<text class="number" x="46" y="270" dy="4">10</text><g class="retire" transform="translate(100,270)"><circle r="3"/><text x="14" y="4">addi a0, zero, 0</text></g>
+<text class="number" x="46" y="290" dy="4">11</text><g class="retire" transform="translate(100,290)"><circle r="3"/><text x="14" y="4">ecall</text></g>
+</svg>
+"##;
+
+/// Puts the picture of a program's first steps into a sink.
+fn drawn<S: Sink>(
+    alloc: Global,
+    text: &[u32],
+    steps: u32,
+    sink: &mut S,
+) -> Result<Result<(), Halt>, Fail> {
+    let file = elf_file(alloc, text)?;
+    let mut machine: Machine<16, 4> = Machine::boot(alloc, read_elf(alloc, &file)?, 1, 131_072)?;
+    Ok(put_picture(alloc, &mut machine, &[], steps, sink))
+}
+
+/// A sink in memory.
+fn taken(alloc: Global) -> Taken {
+    Taken {
+        bytes: Vec::new(alloc),
+        failed: 0,
+    }
+}
+
+#[test]
+fn each_step_is_a_row(rt: HostRuntime) -> Result<(), Fail> {
+    let mut sink = taken(rt.alloc());
+    match drawn(rt.alloc(), &COMMITS, 1000, &mut sink)? {
+        Ok(()) => assert_eq!(rt; str::from_utf8(&sink.bytes)?, PICTURE),
+        Err(Halt::NoMemory) => assert_eq!(rt; sink.bytes.len(), 0),
+        Err(Halt::Untold) => assert_eq!(rt; sink.failed, 1),
+    }
+    Ok(())
+}
+
+#[test]
+fn a_bar_ends_with_its_transaction(rt: HostRuntime) -> Result<(), Fail> {
+    // Steps 8 and 9 restore what was stored, and 10 aborts. Behind 5 steps it still runs.
+    for (steps, bar) in [
+        (1000, "\n<path class=\"aborted\" d=\"M100,70V270\"/>\n"),
+        (5, "\n<path class=\"running\" d=\"M100,70V170\"/>\n"),
+    ] {
+        let mut sink = taken(rt.alloc());
+        if drawn(rt.alloc(), &ABORTS, steps, &mut sink)? == Ok(()) {
+            assert!(rt; str::from_utf8(&sink.bytes)?.contains(bar), "{steps}");
+        }
+    }
+    Ok(())
+}
+
+#[test]
+fn each_put_that_is_refused_is_told(rt: HostRuntime) -> Result<(), Fail> {
+    // 13 pieces before the lanes, 8 and 6 of these, a bar of 9, 3 arrows of 9, 12 steps of 14, and the end.
+    let pieces = 232;
+    for left in 0..240 {
+        let mut sink = Refusing { left, failed: 0 };
+        let put = drawn(rt.alloc(), &COMMITS, 1000, &mut sink)?;
+        let want = if left < pieces {
+            Err(Halt::Untold)
+        } else {
+            Ok(())
+        };
+        if put != Err(Halt::NoMemory) {
+            assert_eq!(rt; put, want, "after {left}");
+            assert_eq!(rt; sink.failed, u64::from(left < pieces));
+        }
+    }
+    Ok(())
+}

@@ -1,0 +1,116 @@
+//! Runs with a timeline, and with a picture, apart from the report.
+use super::calls::{file_of, run_of, shown_apart};
+use super::checks::check_told;
+use super::paper::Paper;
+use command_line::Run;
+use elf_samples::COMMITS;
+use simulate::showing::Form;
+use std::process::Abort;
+use std::str;
+use std::test::Fail;
+
+/// Two steps of a program that begins a transaction.
+const TIMELINE: &str = r#"{"traceEvents":[
+{"ph":"M","name":"process_name","pid":0,"args":{"name":"logtm"}},
+{"ph":"M","name":"thread_name","pid":0,"tid":0,"args":{"name":"hart 0"}},
+{"ph":"M","name":"thread_name","pid":0,"tid":8,"args":{"name":"directory"}},
+{"ph":"B","name":"transaction","ts":0,"pid":0,"tid":0},
+{"ph":"X","dur":1,"ts":0,"pid":0,"tid":0,"name":"tbegin 20"},
+{"ph":"X","dur":1,"ts":1,"pid":0,"tid":0,"name":"lui t0, 0x2"}
+]}
+"#;
+
+const REPORT: &str = "hart 0: running\n";
+
+const UNWRITTEN: &str = "logtm: cannot write t\n";
+
+static TWO_STEPS: [&str; 5] = ["logtm", "run", "f", "--steps", "2"];
+
+#[test]
+fn the_timeline_goes_apart(rt: HostRuntime) -> Result<(), Fail> {
+    let file = file_of(rt.alloc(), &COMMITS)?;
+    let run = run_of(rt.alloc(), TWO_STEPS.as_slice()).ok_or("a run")?;
+    let paper = Paper::new(rt.alloc(), 1000);
+    let (told, timeline) = shown_apart(rt.alloc(), &run, Form::Timeline, &file, &[], paper);
+    check_told(&rt, &told, 5, REPORT, "");
+    assert_eq!(rt; timeline.bytes.as_slice(), TIMELINE.as_bytes());
+    Ok(())
+}
+
+/// That a timeline is whole if so many puts are enough: 9 for the names of the lanes, 5 for the transaction's begin, 7 for each step, and the last line;
+/// and else that it is cut, which is told.
+fn check_timeline_cut(rt: &(impl Abort + AllocGlobal), run: &Run<'_>, file: &[u8], left: u32) {
+    let paper = Paper::new(rt.alloc(), left);
+    let (told, timeline) = shown_apart(rt.alloc(), run, Form::Timeline, file, &[], paper);
+    assert!(rt; TIMELINE.as_bytes().starts_with(&timeline.bytes));
+    assert_eq!(rt; told.status == 5, left >= 29);
+    if told.status == 5 {
+        assert_eq!(rt;
+            (timeline.bytes.len(), timeline.failed),
+            (TIMELINE.len(), 0)
+        );
+        assert_eq!(rt; told.out.bytes.len(), REPORT.len());
+    } else {
+        assert_eq!(rt; timeline.failed, 1);
+        check_told(rt, &told, 3, "", UNWRITTEN);
+    }
+}
+
+#[test]
+fn each_put_of_the_timeline_is_refused(rt: HostRuntime) -> Result<(), Fail> {
+    let file = file_of(rt.alloc(), &COMMITS)?;
+    let run = run_of(rt.alloc(), TWO_STEPS.as_slice()).ok_or("a run")?;
+    for left in 0..35 {
+        check_timeline_cut(&rt, &run, &file, left);
+    }
+    Ok(())
+}
+
+#[test]
+fn a_timeline_that_is_not_written_out_is_told(rt: HostRuntime) -> Result<(), Fail> {
+    let file = file_of(rt.alloc(), &COMMITS)?;
+    let run = run_of(rt.alloc(), TWO_STEPS.as_slice()).ok_or("a run")?;
+    let paper = Paper::stuck(rt.alloc());
+    let (told, timeline) = shown_apart(rt.alloc(), &run, Form::Timeline, &file, &[], paper);
+    check_told(&rt, &told, 3, "", UNWRITTEN);
+    assert_eq!(rt; timeline.failed, 1);
+    Ok(())
+}
+
+#[test]
+fn a_refused_run_has_no_timeline(rt: HostRuntime) -> Result<(), Fail> {
+    let run = run_of(rt.alloc(), TWO_STEPS.as_slice()).ok_or("a run")?;
+    let paper = Paper::new(rt.alloc(), 1000);
+    let (told, timeline) = shown_apart(rt.alloc(), &run, Form::Timeline, &[], &[], paper);
+    check_told(&rt, &told, 4, "", "logtm: load 1 Truncated\n");
+    assert_eq!(rt; timeline.bytes.len(), 0);
+    Ok(())
+}
+
+#[test]
+fn the_picture_goes_apart(rt: HostRuntime) -> Result<(), Fail> {
+    let file = file_of(rt.alloc(), &COMMITS)?;
+    let run = run_of(rt.alloc(), TWO_STEPS.as_slice()).ok_or("a run")?;
+    let paper = Paper::new(rt.alloc(), 1000);
+    let (told, picture) = shown_apart(rt.alloc(), &run, Form::Picture, &file, &[], paper);
+    check_told(&rt, &told, 5, REPORT, "");
+    let picture = str::from_utf8(&picture.bytes)?;
+    assert!(rt; picture.starts_with("<svg "));
+    for label in [">hart 0<", ">directory<", ">tbegin 20<", ">lui t0, 0x2<"] {
+        assert!(rt; picture.contains(label));
+    }
+    assert!(rt; picture.ends_with("</svg>\n"));
+    Ok(())
+}
+
+#[test]
+fn a_picture_that_is_cut_is_told(rt: HostRuntime) -> Result<(), Fail> {
+    let file = file_of(rt.alloc(), &COMMITS)?;
+    let run = run_of(rt.alloc(), TWO_STEPS.as_slice()).ok_or("a run")?;
+    for paper in [Paper::new(rt.alloc(), 10), Paper::stuck(rt.alloc())] {
+        let (told, picture) = shown_apart(rt.alloc(), &run, Form::Picture, &file, &[], paper);
+        check_told(&rt, &told, 3, "", UNWRITTEN);
+        assert_eq!(rt; picture.failed, 1);
+    }
+    Ok(())
+}
