@@ -1,5 +1,6 @@
 # Draws sweep.csv, in the folder where it is called: how the steps of a run depend on how long a hart waits.
 set datafile separator ','
+set datafile missing NaN
 set terminal pngcairo size 1000,700 font 'sans,11'
 set output 'sweep.png'
 set title 'A shared counter under LogTM: steps of a run, by the wait after an abort (normal cache)'
