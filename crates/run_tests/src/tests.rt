@@ -1,4 +1,5 @@
 mod booted;
+mod pictures;
 mod refusing;
 mod schedules;
 mod tallies;

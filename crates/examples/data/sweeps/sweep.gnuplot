@@ -4,7 +4,7 @@ set datafile missing NaN
 set terminal pngcairo size 1000,700 font 'sans,11'
 set output 'sweep.png'
 set title 'A shared counter under LogTM: steps of a run, by the wait after an abort (normal cache)'
-set xlabel 'first wait, as a power of 2'
+set xlabel 'FIRST: the wait before it grows, as a power of 2'
 set ylabel 'steps until all harts have exited'
 set logscale y
 set xrange [-0.3:7.3]

@@ -1,8 +1,7 @@
 //! Pictures of programs that store 7 to 0x2000 in a transaction: the store misses, and its hart asks the directory for the block.
+use super::booted::booted;
 use super::refusing::Refusing;
-use elf_samples::{ABORTS, COMMITS, elf_file};
-use loader::read_elf;
-use machine::Machine;
+use elf_samples::{ABORTS, COMMITS};
 use picture::put_picture;
 use std::alloc::Global;
 use std::str;
@@ -43,8 +42,7 @@ fn drawn<S: Sink>(
     steps: u32,
     sink: &mut S,
 ) -> Result<Result<(), Halt>, Fail> {
-    let file = elf_file(alloc, text)?;
-    let mut machine: Machine<16, 4> = Machine::boot(alloc, read_elf(alloc, &file)?, 1, 131_072)?;
+    let mut machine = booted(alloc, text, 1)?;
     Ok(put_picture(alloc, &mut machine, &[], steps, sink))
 }
 

@@ -1,2 +1,0 @@
-mod pictures;
-mod refusing;
