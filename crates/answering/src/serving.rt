@@ -6,25 +6,22 @@ ghost use Rattle.simulate.specs.declared.fault.Fault.TheVariants.{NoMemory};
 ghost use Rattle.answering.specs.declared.stop.Stop.TheVariants.{Refused, Exchanged};
 
 use crate::stop::Stop;
-use board::Lease;
+use board::STEPS;
 use history::Journal;
-use hub::{Ended, Hub};
+use hub::{Ended, Hub, Loan};
 use loader::Program;
 use std::sync::{Mutex, Wait};
 use std::thread::Threads;
 use words::HartId;
 use workers::{Gate, serve};
 
-/// The most steps of a lease.
-const STEPS: usize = 64;
-
-/// Runs each lease as far as it goes.
+/// Runs each loan as far as it goes.
 #[derive(Drop)]
 struct Whole;
 
-impl<'p, const SETS: usize, const WAYS: usize> Gate<Lease<'p, SETS, WAYS>> for Whole {
-    fn lent(&self, _hart: HartId, _turn: u64, lease: &mut Lease<'p, SETS, WAYS>) -> bool {
-        lease.run(STEPS);
+impl<'p, const SETS: usize, const WAYS: usize> Gate<Loan<'p, SETS, WAYS>> for Whole {
+    fn lent(&self, _hart: HartId, _turn: u64, loan: &mut Loan<'p, SETS, WAYS>) -> bool {
+        loan.run(STEPS);
         true
     }
 

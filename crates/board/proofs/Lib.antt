@@ -1,3 +1,3 @@
 pub mod Replays
-mod Locals
+pub mod Locals
 mod Payments

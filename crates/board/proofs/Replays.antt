@@ -4,7 +4,7 @@ use Rattle.std.specs.Prelude.{option_to_list, is_err, OnOk}
 use Rattle.words.specs.declared.entry.Entry.{Entry}
 use Rattle.words.specs.declared.entry.Step.{Step}
 use Rattle.words.specs.declared.entry.Step.TheVariants.{Core}
-use Rattle.table.specs.Program.{Segment, AreBytes}
+use Rattle.table.specs.Program.{AreBytes}
 use Rattle.loader.specs.Programs.{Program}
 use Rattle.flat.specs.State.{Setting, Flat}
 use Rattle.flat.specs.Steps.{IsRun}
@@ -18,8 +18,7 @@ use Rattle.protocol.proofs.Splits.{runs_then}
 use Rattle.isolation.specs.Belongs.{Belongs}
 use Rattle.isolation.proofs.Belongs.Belonging.{belongs_after}
 use Rattle.machine.specs.States.{State, shown}
-use Rattle.machine.specs.Lent.{hart_if, RunsAlone}
-use Rattle.board.specs.Leases.{Lent, IsSound}
+use Rattle.board.specs.Leases.{Lent}
 use Rattle.board.specs.Boards.{first_flat, IsReplay, IsFirst}
 
 -- a run changes neither text, size nor the number of harts
@@ -98,10 +97,6 @@ replay_turn g p n size steps later x m next es after e r step hs ts =
 -- no entry adds nothing
 pub told_none : (es : List Entry) (e : Option Entry) → e ≡ None → es ≡ es ++ option_to_list e
 told_none es e is = sym (append-nil es) ∙ ap (λ o. es ++ option_to_list o) (sym is)
-
--- a lease whose program has the text of a machine has run there
-pub may_come_back : (sets : ℕ) (m : State) (l : Lent) → m.program.segments ≡ l.program.segments → IsSound sets l → hart_if m l.id ≡ Some l.before → RunsAlone sets m.program.segments l.before l.entries l.after
-may_come_back sets m l text sound at = subst (λ (ss : List Segment). RunsAlone sets ss l.before l.entries l.after) (sym text) sound
 
 -- the entries of a replay are a run of the flat machine, and where it ends belongs to the machine
 pub replay_flat : (g : Geometry) (p : Program) (n size : ℕ) (steps : List Step) (m : State) (es : List Entry) → AreBytes p.segments → IsReplay g p n size steps m es

@@ -13,7 +13,7 @@ use Rattle.protocol.specs.Machine.{Steps, Runs}
 use Rattle.hart.specs.Parts.{Parts}
 use Rattle.machine.specs.States.{State, shown}
 use Rattle.machine.specs.Lent.{hart_if, with_hart}
-use Rattle.board.specs.Leases.{Lent}
+use Rattle.board.specs.Leases.{Lent, as_lent}
 use Rattle.board.specs.declared.refusal.Refusal.{Refusal}
 use Rattle.board.specs.declared.refusal.Refusal.TheVariants.{Stale, NoMemory}
 
@@ -52,7 +52,7 @@ IsRunning m i = (h : Parts) × (hart_if m i ≡ Some h) × (h.status ≡ Running
 pub record IsLent (b : Recorded) (i : ℕ) (l : Lent) : Type 0 where
   pub hart : hart_if b.machine i ≡ Some l.before
   pub runs : l.before.status ≡ Running
-  pub rest : l ≡ record { program = b.program; harts = b.harts; size = b.size; id = i; before = l.before; after = l.before; entries = [] }
+  pub rest : l ≡ as_lent b.program b.harts b.size i l.before
 
 -- a lease of this program, number of harts and size of memory, whose hart is still as it was lent, in all that it keeps
 pub record FitsIn (p : Program) (n bytes : ℕ) (m : State) (l : Lent) : Type 0 where

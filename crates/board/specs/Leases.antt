@@ -1,5 +1,5 @@
 -- What contracts see of a lease.
-use Rattle.std.specs.Prelude.{ℕ, List}
+use Rattle.std.specs.Prelude.{ℕ, List, []}
 use Rattle.words.specs.declared.entry.Entry.{Entry}
 use Rattle.loader.specs.Programs.{Program}
 use Rattle.hart.specs.Parts.{Parts}
@@ -19,6 +19,10 @@ pub record Lent : Type 0 where
   pub before : Parts
   pub after : Parts
   pub entries : List Entry
+
+-- a hart lent with no step made
+abbrev pub as_lent : Program → ℕ → ℕ → ℕ → Parts → Lent
+as_lent p n size i hart = record { program = p; harts = n; size = size; id = i; before = hart; after = hart; entries = [] }
 
 -- with these entries the hart, in a cache of so many sets, has become by itself what it is now
 abbrev pub IsSound : ℕ → Lent → Type 0

@@ -1,4 +1,4 @@
-ghost use Rattle.std.specs.Prelude.{◌≡◌, ◌≤◌, ◌<◌, ◌+◌, ◌*◌, ◌^◌, ◌⊎◌, ◌↔◌, ◌++◌, ◌∷◌, ℕ, IsTrue, IfOk, IfErr, IfSome, IfNone, OnOk, OnErr, Some, None, [], length, replicate, option_to_list, vec_len, vec_capacity};
+ghost use Rattle.std.specs.Prelude.{◌≡◌, ◌≤◌, ◌<◌, ◌+◌, ◌*◌, ◌^◌, ◌⊎◌, ◌↔◌, ◌++◌, ◌∷◌, ℕ, IsTrue, IsFalse, IfOk, IfErr, IfSome, IfNone, OnOk, OnErr, Some, None, [], length, replicate, option_to_list, vec_len, vec_capacity};
 ghost use Rattle.words.specs.declared.entry.Step.TheVariants.{Core};
 ghost use Rattle.words.specs.declared.cause.Status.TheVariants.{Running};
 ghost use Rattle.flat.specs.State.{Flat};
@@ -11,13 +11,13 @@ ghost use Rattle.hart.specs.Parts.{Parts};
 ghost use Rattle.machine.specs.States.{State, shown, geometry};
 ghost use Rattle.machine.specs.Lent.{hart_if, with_hart};
 ghost use Rattle.protocol.specs.Machine.{Runs};
-ghost use Rattle.board.specs.Leases.{most_steps, IsSound};
+ghost use Rattle.board.specs.Leases.{most_steps};
 ghost use Rattle.board.specs.Boards.{first_flat, IsReplay, IsFirst, IsRunning, IsLent, FitsIn, Fits, settled, IsRefusedFor, IsTurn};
 
 use crate::code::Code;
 use crate::lease::{Lease, Retired};
 use crate::refusal::Refusal;
-use crate::status::{is_running, running};
+use crate::status::{is_hart, is_running, running};
 use flat::BootFault;
 use hart::Hart;
 use loader::Program;
@@ -137,8 +137,8 @@ impl<'p, const SETS: usize, const WAYS: usize, A: Allocator + Copy> Board<'p, SE
     }
 
     /// A hart, if it runs.
-    pub(crate) fn running(&self, id: HartId) -> Option<Hart<SETS, WAYS>>
-        ensures some { IfSome result (λ h. (hart_if self.now.machine id ≡ Some h) × (h.status ≡ Running)) }
+    pub(crate) fn running(&self, id: HartId) -> Option<&Hart<SETS, WAYS>>
+        ensures some { IfSome result (λ h. (hart_if self.now.machine id ≡ Some h.now) × (h.now.status ≡ Running)) }
         ensures none { IfNone result (IsRunning self.now.machine id → ⊥) }
     {
         running(&self.machine, id)
@@ -161,24 +161,33 @@ impl<'p, const SETS: usize, const WAYS: usize, A: Allocator + Copy> Board<'p, SE
         Some(Lease::new(code, self.harts, self.size, id, hart))
     }
 
-    /// Takes over the steps of a lease, if its hart is still as it was lent.
-    pub fn settle(
-        &mut self,
-        lease: Lease<'p, SETS, WAYS>,
-    ) -> Result<(), (Lease<'p, SETS, WAYS>, Refusal)>
-        ensures ok { OnOk result (Fits self.old lease.entry × (self.new ≡ settled self.old lease.entry)) }
-        ensures unchanged { OnErr result (self.new ≡ self.old) }
-        ensures back { IfErr result (λ r. r.0 ≡ lease.entry) }
-        ensures refused { IfErr result (λ r. IsRefusedFor self.old lease.entry r.1) }
+    /// Lends a hart in place of a lease that isn't needed any more. The answer is whether there is such a hart, and it runs.
+    pub fn lend_again(&self, id: HartId, lease: &mut Lease<'p, SETS, WAYS>) -> bool
+        ensures lent { IsTrue result → IsLent self.now id lease.new }
+        ensures not_lent { IsFalse result → (IsRunning self.now.machine id → ⊥) × (lease.new ≡ lease.old) }
     {
-        if !fits(self.program, self.harts, self.size, &self.machine, &lease) {
-            return Err((lease, Refusal::Stale));
+        let Some(hart) = self.running(id) else {
+            return false;
+        };
+        let code = Code::new(self.program);
+        lease.renew(code, self.harts, self.size, id, hart);
+        true
+    }
+
+    /// Takes over the steps of a lease, if its hart is still as it was lent.
+    pub fn settle(&mut self, lease: &Lease<'p, SETS, WAYS>) -> Result<(), Refusal>
+        ensures ok { OnOk result (Fits self.old lease.now × (self.new ≡ settled self.old lease.now)) }
+        ensures unchanged { OnErr result (self.new ≡ self.old) }
+        ensures refused { IfErr result (IsRefusedFor self.old lease.now) }
+    {
+        if !fits(self.program, self.harts, self.size, &self.machine, lease) {
+            return Err(Refusal::Stale);
         }
         if reserve(&mut self.history, &mut self.entries, lease.len()).is_err() {
-            return Err((lease, Refusal::NoMemory));
+            return Err(Refusal::NoMemory);
         }
-        take_back(&mut self.machine, &lease);
-        append_lease(&mut self.history, &mut self.entries, &lease);
+        take_back(&mut self.machine, lease);
+        append_lease(&mut self.history, &mut self.entries, lease);
         Ok(())
     }
 
@@ -220,7 +229,7 @@ impl<'p, const SETS: usize, const WAYS: usize, A: Allocator + Copy> Board<'p, SE
 }
 
 /// Whether a lease is of this program, number of harts and size of memory, and its hart is as it was lent.
-pub fn fits<const SETS: usize, const WAYS: usize>(
+fn fits<const SETS: usize, const WAYS: usize>(
     program: &Program,
     harts: u32,
     size: u32,
@@ -233,11 +242,7 @@ pub fn fits<const SETS: usize, const WAYS: usize>(
     ensures hart { IsTrue result → hart_if machine.now lease.now.id ≡ Some lease.now.before }
     ensures text { IsTrue result → machine.now.program.segments ≡ lease.now.program.segments }
 {
-    let as_lent = match machine.hart(lease.hart()) {
-        Some(hart) => hart.same(lease.before()),
-        None => false,
-    };
-    as_lent && lease.is_of(program, harts, size)
+    is_hart(machine, lease.hart(), lease.before()) && lease.is_of(program, harts, size)
 }
 
 /// Makes room for so many steps and entries more.
@@ -256,7 +261,7 @@ fn reserve<A: Allocator>(
 }
 
 /// Puts the hart of a lease back in its place. What it is now it has become by itself.
-pub fn take_back<const SETS: usize, const WAYS: usize>(
+fn take_back<const SETS: usize, const WAYS: usize>(
     machine: &mut Machine<SETS, WAYS>,
     lease: &Lease<'_, SETS, WAYS>,
 )
@@ -265,7 +270,6 @@ pub fn take_back<const SETS: usize, const WAYS: usize>(
     requires text { machine.old.program.segments ≡ lease.now.program.segments }
     ensures hart { machine.new ≡ with_hart machine.old lease.now.id lease.now.after }
     ensures runs { Runs (geometry SETS WAYS) (shown SETS machine.old) (replicate (length lease.now.entries) (Core lease.now.id)) lease.now.entries (shown SETS machine.new) }
-    ensures alone { IsSound SETS lease.now }
 {
     machine.adopt(lease.hart(), lease.after(), lease.len());
 }

@@ -4,7 +4,7 @@ ghost use Rattle.hart.specs.declared.reply.Local.TheVariants.{NeedsHub};
 ghost use Rattle.hart.specs.Locals.{FollowsAlone};
 ghost use Rattle.hart.specs.Rows.{setting_of};
 ghost use Rattle.machine.specs.Lent.{RetiresAlone, RunsAlone};
-ghost use Rattle.board.specs.Leases.{most_steps, IsSound};
+ghost use Rattle.board.specs.Leases.{most_steps, as_lent, IsSound};
 
 use crate::code::Code;
 use arrayvec::ArrayVec;
@@ -78,19 +78,44 @@ impl<'p, const SETS: usize, const WAYS: usize> Model for Lease<'p, SETS, WAYS> {
 
 impl<'p, const SETS: usize, const WAYS: usize> Lease<'p, SETS, WAYS> {
     /// A hart as it is lent.
-    pub fn new(code: Code<'p>, harts: u32, size: u32, id: HartId, hart: Hart<SETS, WAYS>) -> Self
-        ensures { result ≡ record { program = code.entry.program.now; harts = harts; size = size; id = id; before = hart.entry; after = hart.entry; entries = [] } }
+    pub(crate) fn new(
+        code: Code<'p>,
+        harts: u32,
+        size: u32,
+        id: HartId,
+        hart: &Hart<SETS, WAYS>,
+    ) -> Self
+        ensures { result ≡ as_lent code.entry.program.now harts size id hart.now }
     {
-        let after = hart;
         Lease {
             code,
             harts,
             size,
             id,
-            before: hart,
-            after,
+            before: *hart,
+            after: *hart,
             entries: ArrayVec::new(),
         }
+    }
+
+    /// Becomes a lease of this hart, as it is lent. What it was a lease of before is forgotten.
+    pub(crate) fn renew(
+        &mut self,
+        code: Code<'p>,
+        harts: u32,
+        size: u32,
+        id: HartId,
+        hart: &Hart<SETS, WAYS>,
+    )
+        ensures { self.new ≡ as_lent code.entry.program.now harts size id hart.now }
+    {
+        self.code = code;
+        self.harts = harts;
+        self.size = size;
+        self.id = id;
+        self.before = *hart;
+        self.after = *hart;
+        self.entries.clear();
     }
 
     /// How many steps the hart has made since it was lent.
@@ -130,11 +155,11 @@ impl<'p, const SETS: usize, const WAYS: usize> Lease<'p, SETS, WAYS> {
     }
 
     /// The hart as it is now.
-    pub(crate) fn after(&self) -> Hart<SETS, WAYS>
-        ensures value { result ≡ self.now.after }
+    pub(crate) fn after(&self) -> &Hart<SETS, WAYS>
+        ensures value { result.now ≡ self.now.after }
         ensures sound { IsSound SETS self.now }
     {
-        self.after
+        &self.after
     }
 
     /// The entries of its steps.

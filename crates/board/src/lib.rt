@@ -8,8 +8,8 @@ mod refusal;
 mod status;
 mod visit;
 
-pub use board::{Board, Finished, fits, take_back};
+pub use board::{Board, Finished};
 pub use code::Code;
-pub use lease::Lease;
+pub use lease::{Lease, STEPS};
 pub use refusal::Refusal;
-pub use status::{is_running, running};
+pub use status::{is_hart, is_running, running};

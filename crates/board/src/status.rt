@@ -11,9 +11,9 @@ use words::{HartId, Status};
 pub fn running<const SETS: usize, const WAYS: usize>(
     machine: &Machine<SETS, WAYS>,
     id: HartId,
-) -> Option<Hart<SETS, WAYS>>
+) -> Option<&Hart<SETS, WAYS>>
     requires { SETS * WAYS < 2 ^ 32 }
-    ensures some { IfSome result (λ h. (hart_if machine.now id ≡ Some h) × (h.status ≡ Running)) }
+    ensures some { IfSome result (λ h. (hart_if machine.now id ≡ Some h.now) × (h.now.status ≡ Running)) }
     ensures none { IfNone result (IsRunning machine.now id → ⊥) }
 {
     let hart = machine.hart(id)?;
@@ -36,6 +36,21 @@ pub fn is_running<const SETS: usize, const WAYS: usize>(
             Status::Running => true,
             Status::Exited(_) | Status::Stopped(..) => false,
         },
+        None => false,
+    }
+}
+
+/// Whether a hart of a machine is just like this one.
+pub fn is_hart<const SETS: usize, const WAYS: usize>(
+    machine: &Machine<SETS, WAYS>,
+    id: HartId,
+    hart: &Hart<SETS, WAYS>,
+) -> bool
+    requires { SETS * WAYS < 2 ^ 32 }
+    ensures { IsTrue result ↔ (hart_if machine.now id ≡ Some hart.now) }
+{
+    match machine.hart(id) {
+        Some(here) => here.same(hart),
         None => false,
     }
 }

@@ -1,6 +1,7 @@
 mod calls;
 mod counters;
 mod gates;
+mod lending;
 mod memory;
 mod play;
 mod rows;

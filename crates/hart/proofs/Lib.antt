@@ -7,3 +7,4 @@ pub mod Words
 pub mod Victims
 pub mod Alone
 pub mod Stores
+pub mod Plain

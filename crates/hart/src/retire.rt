@@ -171,7 +171,7 @@ impl<const SETS: usize, const WAYS: usize> Hart<SETS, WAYS> {
     }
 
     /// An access to a line that is enough.
-    #[inline(always)]
+    #[inline(never)]
     pub(crate) fn access_line(
         &mut self,
         word: u32,

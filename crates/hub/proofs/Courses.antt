@@ -126,10 +126,10 @@ module _ (g : Geometry) (p : Program) (n size : ℕ) where
       (All-cons IsWritable c [] (kept_writable tells m c less k within) (All-nil IsWritable)) told
   kept_made tells later m next step c (Err _) less k chosen within made told same still = kept_still tells later m next k same still
 
-  -- a lease's steps, that were taken over and told, or were not
-  pub kept_lent : {E : Type 0} (tells later : List Choice → Type 0) (m next : State) (i : ℕ) (es : List Entry) (r : Result Unit E) → IsKept g p n size tells m → i < most_harts
-      → OnOk r (Leads g (replicate (length es) (Core i)) m es next) → OnOk r ((cs : List Choice) → tells cs → later (cs ++ replicate (length es) (Core i))) → OnErr r (next ≡ m)
+  -- a loan's steps, that were taken over and told, or were not
+  pub kept_lent : {E : Type 0} (tells later : List Choice → Type 0) (m next : State) (i steps : ℕ) (r : Result Unit E) → IsKept g p n size tells m → i < most_harts
+      → OnOk r ((es : List Entry) × Leads g (replicate steps (Core i)) m es next) → OnOk r ((cs : List Choice) → tells cs → later (cs ++ replicate steps (Core i))) → OnErr r (next ≡ m)
       → OnErr r ((cs : List Choice) → tells cs → later cs) → IsKept g p n size later next
-  kept_lent tells later m next i es (Ok _) k few leads told same still =
-      kept_on tells later m next (replicate (length es) (Core i)) es k leads (All-replicate IsWritable (length es) (Core i) few) told
-  kept_lent tells later m next i es (Err _) k few leads told same still = kept_still tells later m next k same still
+  kept_lent tells later m next i steps (Ok _) k few leads told same still =
+      kept_on tells later m next (replicate steps (Core i)) leads.0 k leads.1 (All-replicate IsWritable steps (Core i) few) told
+  kept_lent tells later m next i steps (Err _) k few leads told same still = kept_still tells later m next k same still

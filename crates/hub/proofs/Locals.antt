@@ -1,5 +1,5 @@
 -- The words that a lent hart has retired are choices of its core.
-use Rattle.std.proofs.Common.{◌≡◌, ◌<◌, ℕ, zero, suc, Some, List, [], ◌∷◌, length, replicate, refl, sym, ap, subst, ◌∙◌, arith, inl}
+use Rattle.std.proofs.Common.{◌≡◌, ◌<◌, ℕ, zero, suc, Some, List, [], ◌∷◌, ◌+◌, ◌++◌, length, replicate, length-append, refl, sym, ap, subst, ◌∙◌, arith, inl}
 use Rattle.std.specs.Prelude.{slice_get, slice_set}
 use Rattle.words.specs.declared.entry.Entry.{Entry}
 use Rattle.words.specs.declared.entry.Step.TheVariants as step
@@ -7,10 +7,11 @@ use Rattle.table.specs.Program.{Segment}
 use Rattle.hart.specs.Parts.{Parts}
 use Rattle.machine.specs.Mail.{NumbersOn}
 use Rattle.machine.specs.States.{Seat, State, geometry, IsSound}
-use Rattle.machine.specs.Lent.{hart_if, with_hart, RunsAlone}
+use Rattle.machine.specs.Lent.{hart_if, with_hart, RetiresAlone, RunsAlone}
 use Rattle.machine.proofs.Returning.{is_within, seated, with, with_hart_is, retires, seat_of}
-use Rattle.board.specs.Leases.{Lent, IsSound as IsLeaseSound}
+use Rattle.board.proofs.Locals.{runs_more}
 use Rattle.schedule.specs.declared.choices.Choice.TheVariants.{Core}
+use Rattle.hub.specs.Loans.{Loaned, RunsFor}
 use Rattle.hub.specs.Hubs.{Leads}
 
 there : {A : Type 0} (xs : List A) (i : ℕ) (x : A) → i < length xs → slice_get (slice_set xs i x) i ≡ Some x
@@ -55,9 +56,25 @@ module _ (sets ways i : ℕ) where
       subst (λ (m : State). Leads (geometry sets ways) (replicate (length es) (Core i)) v es m) (sym is_with)
       (leads_alone es v s.0 new sound s.1 (subst (λ h. RunsAlone sets v.program.segments h es new) (sym s.2) r))
 
--- a lease's steps
-pub lease_leads : (sets ways : ℕ) (v w : State) (l : Lent) → IsSound sets ways v → hart_if v l.id ≡ Some l.before → v.program.segments ≡ l.program.segments → IsLeaseSound sets l
-    → w ≡ with_hart v l.id l.after → Leads (geometry sets ways) (replicate (length l.entries) (Core l.id)) v l.entries w
-lease_leads sets ways v w l sound at text alone is =
-    let there : RunsAlone sets v.program.segments l.before l.entries l.after = subst (λ (ss : List Segment). RunsAlone sets ss l.before l.entries l.after) (sym text) alone in
-    subst (λ (m : State). Leads (geometry sets ways) (replicate (length l.entries) (Core l.id)) v l.entries m) (sym is) (leads_back sets ways l.id v l.before l.after l.entries sound at there)
+-- a loan's steps
+pub loan_leads : (sets ways : ℕ) (v w : State) (l : Loaned) → IsSound sets ways v → hart_if v l.id ≡ Some l.before → v.program.segments ≡ l.program.segments
+    → RunsFor sets l.program.segments l.steps l.before l.after → w ≡ with_hart v l.id l.after → (es : List Entry) × Leads (geometry sets ways) (replicate l.steps (Core l.id)) v es w
+loan_leads sets ways v w l sound at text (es, run, count) is =
+    let there : RunsAlone sets v.program.segments l.before es l.after = subst (λ (ss : List Segment). RunsAlone sets ss l.before es l.after) (sym text) run in
+    let back = leads_back sets ways l.id v l.before l.after es sound at there in
+    let leads : Leads (geometry sets ways) (replicate (length es) (Core l.id)) v es w =
+    subst (λ (m : State). Leads (geometry sets ways) (replicate (length es) (Core l.id)) v es m) (sym is) back in
+    (es, subst (λ (k : ℕ). Leads (geometry sets ways) (replicate k (Core l.id)) v es w) count leads)
+
+-- one word more, on the same text
+pub runs_for_more : (sets : ℕ) (ss ts : List Segment) (n : ℕ) (h k m : Parts) (e : Entry) → ts ≡ ss → RunsFor sets ss n h k → RetiresAlone sets ts k e m → RunsFor sets ss (n + 1) h m
+runs_for_more sets ss ts n h k m e same (es, run, count) one =
+    let there : RetiresAlone sets ss k e m = subst (λ (rs : List Segment). RetiresAlone sets rs k e m) same one in
+    (es ++ e ∷ [], runs_more sets ss h k m es e run there, omega (arith, length-append es (e ∷ []), count))
+
+-- all else of a loan stays with one step more
+pub rest_more : (l m n : Loaned) (steps : ℕ) → m ≡ record l { after = m.after; steps = l.steps + steps } → n ≡ record m { after = n.after; steps = n.steps } → n.steps ≡ m.steps + 1
+    → n ≡ record l { after = n.after; steps = l.steps + (steps + 1) }
+rest_more l m n steps before rest one =
+    let all : n.steps ≡ l.steps + (steps + 1) = omega (arith, one, ap (λ (x : Loaned). x.steps) before) in
+    rest ∙ (ap (λ (x : Loaned). record x { after = n.after; steps = n.steps }) before ∙ ap (λ k. record l { after = n.after; steps = k }) all)

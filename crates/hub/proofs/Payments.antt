@@ -12,8 +12,8 @@ use Rattle.schedule.specs.Follows.{Makes}
 use Rattle.hub.specs.Hubs.{Held, IsChoiceOf, TellsMore, TellsStill, IsSettled, IsAsBefore}
 use Rattle.machine.specs.States.{State}
 use Rattle.machine.specs.Lent.{with_hart}
-use Rattle.board.specs.Leases.{Lent}
-use Rattle.std.proofs.Common.{replicate, length}
+use Rattle.hub.specs.Loans.{Loaned}
+use Rattle.std.proofs.Common.{replicate}
 use Rattle.hub.specs.Visits.{IsTurn, PaysOff, PaysOne, IsVisitOf}
 
 module _ {J : Type 0} (g : Geometry) (tells : J → List Choice → Type 0) (i : ℕ) where
@@ -45,9 +45,9 @@ pub turned : {J E : Type 0} (g : Geometry) (tells : J → List Choice → Type 0
 turned g tells h m j step c (Ok _) chosen made told = record { entry = made.0; made = made.1; choice = c; chosen = chosen; told = told; rest = refl }
 turned g tells h m j step c (Err _) chosen made told = tt {0}
 
--- a lease's steps
-pub settled : {J E : Type 0} (tells : J → List Choice → Type 0) (h : Held J) (m : State) (j : J) (l : Lent) (r : Result Unit E) → OnOk r (m ≡ with_hart h.machine l.id l.after)
-    → OnOk r (TellsMore tells h.journal (replicate (length l.entries) (choice.Core l.id)) j) → OnOk r (IsSettled tells h l (record h { machine = m; journal = j }))
+-- a loan's steps
+pub settled : {J E : Type 0} (tells : J → List Choice → Type 0) (h : Held J) (m : State) (j : J) (l : Loaned) (r : Result Unit E) → OnOk r (m ≡ with_hart h.machine l.id l.after)
+    → OnOk r (TellsMore tells h.journal (replicate l.steps (choice.Core l.id)) j) → OnOk r (IsSettled tells h l (record h { machine = m; journal = j }))
 settled tells h m j l (Ok _) is told = record { told = told; rest = λ k. record h { machine = is k; journal = j } }
 settled tells h m j l (Err _) is told = tt {0}
 

@@ -1,5 +1,5 @@
 -- What contracts see of a hub: a machine, and a journal of the choices that have led to it.
-use Rattle.std.specs.Prelude.{ℕ, ◌≡◌, ◌<◌, ◌-◌, ◌++◌, All, List, [], length, replicate, Some, None}
+use Rattle.std.specs.Prelude.{ℕ, ◌≡◌, ◌<◌, ◌-◌, ◌++◌, All, List, length, replicate, Some, None}
 use Rattle.words.specs.Limits.{most_harts}
 use Rattle.words.specs.declared.cause.Status.TheVariants.{Running}
 use Rattle.words.specs.declared.entry.Entry.{Entry}
@@ -14,8 +14,7 @@ use Rattle.bounds.specs.Memory.{LiesInMemory}
 use Rattle.isolation.specs.Belongs.{Belongs}
 use Rattle.machine.specs.States.{State, setting_of, shown}
 use Rattle.machine.specs.Lent.{hart_if, with_hart}
-use Rattle.board.specs.Leases.{Lent}
-use Rattle.board.specs.Boards.{first_flat, FitsIn}
+use Rattle.board.specs.Boards.{first_flat}
 use Rattle.board.specs.declared.refusal.Refusal.{Refusal}
 use Rattle.board.specs.declared.refusal.Refusal.TheVariants.{Stale, NoMemory}
 use Rattle.schedule.specs.declared.choices.Name.{Name}
@@ -24,6 +23,7 @@ use Rattle.schedule.specs.declared.choices.Choice.TheVariants.{Core, Evict, Deli
 use Rattle.schedule.specs.Steps.{IsStepOf}
 use Rattle.schedule.specs.Follows.{Follows}
 use Rattle.history.specs.Lines.{IsWritable}
+use Rattle.hub.specs.Loans.{Loaned, as_lent}
 
 -- a program with a number of harts and of bytes of memory, the machine, and the journal
 pub record Held (J : Type 0) : Type 0 where
@@ -100,21 +100,24 @@ module _ {J : Type 0} where
     pub rest : k ≡ record h { journal = k.journal }
 
   -- hart i as it is, lent with no step made
-  pub record IsLent (h : Held J) (i : ℕ) (l : Lent) : Type 0 where
+  pub record IsLent (h : Held J) (i : ℕ) (l : Loaned) : Type 0 where
     pub hart : hart_if h.machine i ≡ Some l.before
     pub runs : l.before.status ≡ Running
-    pub rest : l ≡ record { program = h.program; harts = h.harts; size = h.size; id = i; before = l.before; after = l.before; entries = [] }
+    pub rest : l ≡ as_lent h.program h.harts h.size i l.before
 
-  -- a lease of this program, number of harts and size of memory, whose hart is still as it was lent, in all that it keeps
-  abbrev pub Fits : Held J → Lent → Type 0
-  Fits h l = FitsIn h.program h.harts h.size h.machine l
+  -- a loan of this program, number of harts and size of memory, whose hart is still as it was lent, in all that it keeps
+  pub record Fits (h : Held J) (l : Loaned) : Type 0 where
+    pub program : l.program ≡ h.program
+    pub harts : l.harts ≡ h.harts
+    pub size : l.size ≡ h.size
+    pub hart : hart_if h.machine l.id ≡ Some l.before
 
-  -- the hub when a lease is settled: the hart is what it has become, and its steps were told
-  pub record IsSettled (tells : J → List Choice → Type 0) (h : Held J) (l : Lent) (k : Held J) : Type 0 where
-    pub told : TellsMore tells h.journal (replicate (length l.entries) (Core l.id)) k.journal
+  -- the hub when a loan is settled: the hart is what it has become, and its steps were told
+  pub record IsSettled (tells : J → List Choice → Type 0) (h : Held J) (l : Loaned) (k : Held J) : Type 0 where
+    pub told : TellsMore tells h.journal (replicate l.steps (Core l.id)) k.journal
     pub rest : k ≡ record h { machine = with_hart h.machine l.id l.after; journal = k.journal }
 
-  -- a lease is stale if it doesn't fit; only one that fits is refused for want of memory
-  abbrev pub IsRefusedFor : Held J → Lent → Refusal → Type 0
+  -- a loan is stale if it doesn't fit; only one that fits is refused for want of memory
+  abbrev pub IsRefusedFor : Held J → Loaned → Refusal → Type 0
   IsRefusedFor h l Stale = Fits h l → ⊥
   IsRefusedFor h l NoMemory = Fits h l

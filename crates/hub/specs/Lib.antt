@@ -1,2 +1,3 @@
+pub mod Loans
 pub mod Hubs
 pub mod Visits

@@ -1,4 +1,4 @@
-ghost use Rattle.std.specs.Prelude.{◌≡◌, ◌<◌, ◌*◌, ◌^◌, ◌⊎◌, IfOk, IfErr, IfSome, IfNone, OnOk, OnErr, Some, []};
+ghost use Rattle.std.specs.Prelude.{◌≡◌, ◌<◌, ◌*◌, ◌^◌, ◌⊎◌, ◌↔◌, IsTrue, IsFalse, IfOk, IfErr, IfSome, IfNone, OnOk, OnErr, Some, []};
 ghost use Rattle.flat.specs.Boots.{boot_fault};
 ghost use Rattle.flat.specs.declared.boot_fault.BootFault.TheVariants as fault;
 ghost use Rattle.machine.specs.States.{geometry};
@@ -6,7 +6,8 @@ ghost use Rattle.board.specs.Boards.{IsRunning};
 ghost use Rattle.hub.specs.Hubs.{IsFirst, IsLent, Fits, IsRefusedFor, IsSettled, IsAsBefore, IsEnd};
 
 use crate::lending::take_over;
-use board::{Code, Lease, Refusal, fits, running};
+use crate::loan::Loan;
+use board::{Code, Refusal, is_hart, running};
 use flat::BootFault;
 use history::Journal;
 use loader::Program;
@@ -91,46 +92,56 @@ impl<'p, const SETS: usize, const WAYS: usize, J: Journal> Hub<'p, SETS, WAYS, J
     }
 
     /// Lends a hart. `None` where there is no such hart, or it doesn't run.
-    pub fn lend(&self, id: HartId) -> Option<Lease<'p, SETS, WAYS>>
+    pub fn lend(&self, id: HartId) -> Option<Loan<'p, SETS, WAYS>>
         ensures some { IfSome result (IsLent self.now id) }
         ensures none { IfNone result (IsRunning self.now.machine id → ⊥) }
     {
         let hart = running(&self.machine, id)?;
-        Some(Lease::new(self.code, self.harts, self.size, id, hart))
+        Some(Loan::new(self.code, self.harts, self.size, id, hart))
     }
 
-    /// Takes over the steps of a lease, if its hart is still as it was lent.
-    pub fn settle(
-        &mut self,
-        lease: Lease<'p, SETS, WAYS>,
-    ) -> Result<(), (Lease<'p, SETS, WAYS>, Refusal)>
-        ensures ok { OnOk result (Fits self.old lease.entry × IsSettled J.tells self.old lease.entry self.new) }
-        ensures unchanged { OnErr result (IsAsBefore J.tells self.old self.new) }
-        ensures back { IfErr result (λ r. r.0 ≡ lease.entry) }
-        ensures refused { IfErr result (λ r. IsRefusedFor self.old lease.entry r.1) }
+    /// Lends a hart in place of a loan that isn't needed any more. The answer is whether there is such a hart, and it runs.
+    pub fn lend_again(&self, id: HartId, loan: &mut Loan<'p, SETS, WAYS>) -> bool
+        ensures lent { IsTrue result → IsLent self.now id loan.new }
+        ensures not_lent { IsFalse result → (IsRunning self.now.machine id → ⊥) × (loan.new ≡ loan.old) }
     {
-        if !fits(
-            self.code.program,
-            self.harts,
-            self.size,
-            &self.machine,
-            &lease,
-        ) {
-            return Err((lease, Refusal::Stale));
+        let Some(hart) = running(&self.machine, id) else {
+            return false;
+        };
+        loan.renew(self.code, self.harts, self.size, id, hart);
+        true
+    }
+
+    /// Takes over the steps of a loan, if its hart is still as it was lent.
+    pub fn settle(&mut self, loan: &Loan<'p, SETS, WAYS>) -> Result<(), Refusal>
+        ensures ok { OnOk result (Fits self.old loan.now × IsSettled J.tells self.old loan.now self.new) }
+        ensures unchanged { OnErr result (IsAsBefore J.tells self.old self.new) }
+        ensures refused { IfErr result (IsRefusedFor self.old loan.now) }
+    {
+        if !self.fits(loan) {
+            return Err(Refusal::Stale);
         }
-        match self.take_in(&lease) {
+        match self.take_in(loan) {
             Ok(()) => Ok(()),
-            Err(_) => Err((lease, Refusal::NoMemory)),
+            Err(_) => Err(Refusal::NoMemory),
         }
     }
 
-    /// Takes over the steps of a lease that fits.
-    fn take_in(&mut self, lease: &Lease<'p, SETS, WAYS>) -> Result<(), AllocError>
-        requires { Fits self.old lease.now }
-        ensures ok { OnOk result (IsSettled J.tells self.old lease.now self.new) }
+    /// Whether a loan is of this hub's program, number of harts and size of memory, and its hart is as it was lent.
+    fn fits(&self, loan: &Loan<'p, SETS, WAYS>) -> bool
+        ensures { IsTrue result ↔ Fits self.now loan.now }
+    {
+        is_hart(&self.machine, loan.hart(), loan.before())
+            && loan.is_of(self.code.program, self.harts, self.size)
+    }
+
+    /// Takes over the steps of a loan that fits.
+    fn take_in(&mut self, loan: &Loan<'p, SETS, WAYS>) -> Result<(), AllocError>
+        requires { Fits self.old loan.now }
+        ensures ok { OnOk result (IsSettled J.tells self.old loan.now self.new) }
         ensures err { OnErr result (IsAsBefore J.tells self.old self.new) }
     {
-        take_over(&mut self.machine, &mut self.journal, lease)
+        take_over(&mut self.machine, &mut self.journal, loan)
     }
 
     /// The hub's parts. The journal tells choices that lead from where the program begins to the machine, as a schedule of them does, and their

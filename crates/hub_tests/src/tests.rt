@@ -1,7 +1,7 @@
-use board::{Code, Lease, Refusal};
+use board::{Code, Refusal};
 use elf_samples::program;
 use history::{History, Unkept, put_history};
-use hub::{Ended, Hub};
+use hub::{Ended, Hub, Loan};
 use machine::Machine;
 use schedule::{follow, read};
 use std::process::Abort;
@@ -49,13 +49,13 @@ type Kept<'p> = Hub<'p, 2, 1, History>;
 
 type Plain<'p> = Hub<'p, 2, 1, Unkept>;
 
-/// Runs each lease as far as it goes.
+/// Runs each loan as far as it goes.
 #[derive(Drop)]
 struct Whole;
 
-impl<'p, const SETS: usize, const WAYS: usize> Gate<Lease<'p, SETS, WAYS>> for Whole {
-    fn lent(&self, _hart: HartId, _turn: u64, lease: &mut Lease<'p, SETS, WAYS>) -> bool {
-        lease.run(64);
+impl<'p, const SETS: usize, const WAYS: usize> Gate<Loan<'p, SETS, WAYS>> for Whole {
+    fn lent(&self, _hart: HartId, _turn: u64, loan: &mut Loan<'p, SETS, WAYS>) -> bool {
+        loan.run(64);
         true
     }
 
@@ -121,7 +121,7 @@ fn threads_run_where_nothing_is_kept(rt: HostRuntime) -> Result<(), Fail> {
 }
 
 #[test]
-fn stale_lease_comes_back(rt: HostRuntime) -> Result<(), Fail> {
+fn stale_loan_is_refused(rt: HostRuntime) -> Result<(), Fail> {
     let program = program(rt.alloc(), &WAITS)?;
     let code = Code::new(&program);
     let mut hub: Kept = Hub::boot(rt.alloc(), code, 1, SIZE, History::new(rt.alloc()))?;
@@ -131,12 +131,13 @@ fn stale_lease_comes_back(rt: HostRuntime) -> Result<(), Fail> {
     assert!(rt; lent.is_some());
     assert!(rt; hub.lend(HartId::new(1)).is_none());
     if let (Some(late), Some(mut first)) = (lent, ran) {
-        first.run(3);
-        assert!(rt; hub.settle(first).is_ok());
-        match hub.settle(late) {
-            Ok(()) => assert!(rt; false),
-            Err((_, refusal)) => assert_eq!(rt; refusal, Refusal::Stale),
-        }
+        assert_eq!(rt; first.run(3), 3);
+        assert!(rt; hub.settle(&first).is_ok());
+        assert_eq!(rt; hub.settle(&late), Err(Refusal::Stale));
+        assert!(rt; !hub.lend_again(HartId::new(1), &mut first));
+        assert_eq!(rt; first.len(), 3);
+        assert!(rt; hub.lend_again(zero, &mut first));
+        assert!(rt; first.is_empty());
     }
     assert!(rt; hub.visit(zero)?);
     check_again(&rt, &hub.finish())

@@ -17,7 +17,7 @@ use Rattle.protocol.specs.Network.{Sends}
 use Rattle.protocol.specs.Machine.{Steps, MayLack, MayNameIn, stamps_after}
 use Rattle.hart.specs.declared.reply.CoreStep.{CoreStep}
 use Rattle.hart.specs.declared.reply.Local.TheVariants.{Retired}
-use Rattle.hart.specs.Locals.{FollowsAlone}
+use Rattle.hart.specs.Locals.{FollowsAlone, RetiresPlain}
 use Rattle.hart.specs.Shown.{shown_hart, lines_of}
 use Rattle.hart.specs.Rows.{setting_of as hart_setting, victim_of}
 use Rattle.machine.specs.Mail.{in_flight}
@@ -75,14 +75,14 @@ module _ (sets ways i : ℕ) (v w : State) (old new : Seat) (sound : IsSound set
   core_rests names does = (victim_of sets old.hart.cache, named names, row_rests sets i _ v (row_of None does) a.number)
 
   -- or the hart went on by itself, and its entry isn't told
-  pub advances : (r : Option Bool) → Names sets ways old → IfSome r (λ fresh. (e : Entry) × FollowsAlone sets (hart_setting v.program.segments old.hart) old.hart new.hart (Retired e)) → IfNone r (new ≡ old)
+  pub advances : (r : Option Bool) → Names sets ways old → IfSome r (λ fresh. (e : Entry) × FollowsAlone sets (hart_setting v.program.segments old.hart) old.hart new.hart (Retired e) × RetiresPlain old.hart.index e) → IfNone r (new ≡ old)
       → new.output ≡ old.output → w.flights ≡ v.flights → w.sent ≡ v.sent → w.stamps ≡ v.stamps
-      → IfSome r (λ fresh. (e : Entry) × Steps (geometry sets ways) (shown sets v) (Core i) (Some e) (shown sets w)) × IsSound sets ways w
-  advances (Some fresh) names (e, does) declined output flights sent stamps =
+      → IfSome r (λ fresh. (e : Entry) × Steps (geometry sets ways) (shown sets v) (Core i) (Some e) (shown sets w) × RetiresPlain i e) × IsSound sets ways w
+  advances (Some fresh) names (e, does, plain) declined output flights sent stamps =
       let made : CoreStep = record { message = None; entry = Some e; stamped = false; output = None } in
       let row : MakesOf sets v.program.segments v.stamps old new (Some made) = (does old.output v.stamps (victim_of sets old.hart.cache)).row ∙ ap (λ o. Some (gives e (shown_hart sets o new.hart))) (sym output) in
       let all = core_makes made names row stamps (ap in_flight flights) in
-      ((e, all.0), all.1)
+      ((e, all.0, subst (λ n. RetiresPlain n e) seated.index plain), all.1)
   advances None names does declined output flights sent stamps =
       (tt {0}, subst (IsSound sets ways) (sym (rests_still i v w old new a declined flights sent stamps)) sound)
 

@@ -1,4 +1,5 @@
 ghost use Rattle.std.specs.Prelude.{◌≡◌, ℕ, List, Some, length, replicate};
+ghost use Rattle.std.specs.Option.{option_map};
 ghost use Rattle.words.specs.declared.entry.Entry.{Entry};
 ghost use Rattle.words.specs.declared.entry.Step.TheVariants.{Core};
 ghost use Rattle.flat.specs.State.{Flat};
@@ -23,22 +24,22 @@ impl<const SETS: usize, const WAYS: usize> Machine<SETS, WAYS> {
         let _seats = &self.seats;
     }
 
-    /// A copy of a hart. `None` where there is no such hart.
-    pub fn hart(&self, id: HartId) -> Option<Hart<SETS, WAYS>>
-        ensures { result ≡ hart_if self.now id }
+    /// A hart. `None` where there is no such hart.
+    pub fn hart(&self, id: HartId) -> Option<&Hart<SETS, WAYS>>
+        ensures { option_map (λ hart. hart.now) result ≡ hart_if self.now id }
     {
         let seat = self.seats.get(id.index())?;
-        Some(seat.hart)
+        Some(&seat.hart)
     }
 
     /// Puts a hart in its place, that has retired so many words by itself since it was copied.
-    pub fn adopt(&mut self, id: HartId, hart: Hart<SETS, WAYS>, retired: usize)
-        requires { ComesBack SETS self.old id retired hart }
-        ensures hart { self.new ≡ with_hart self.old id hart.entry }
+    pub fn adopt(&mut self, id: HartId, hart: &Hart<SETS, WAYS>, retired: usize)
+        requires { ComesBack SETS self.old id retired hart.now }
+        ensures hart { self.new ≡ with_hart self.old id hart.now }
         // The words are as many steps of its core, with their entries, and these carry each flat state that belongs on to one that belongs.
-        ensures runs { (old : Parts) (es : List Entry) → hart_if self.old id ≡ Some old → RunsAlone SETS self.old.program.segments old es hart.entry →
+        ensures runs { (old : Parts) (es : List Entry) → hart_if self.old id ≡ Some old → RunsAlone SETS self.old.program.segments old es hart.now →
             Runs (geometry SETS WAYS) (shown SETS self.old) (replicate (length es) (Core id)) es (shown SETS self.new) }
-        ensures carries { (old : Parts) (es : List Entry) → hart_if self.old id ≡ Some old → RunsAlone SETS self.old.program.segments old es hart.entry →
+        ensures carries { (old : Parts) (es : List Entry) → hart_if self.old id ≡ Some old → RunsAlone SETS self.old.program.segments old es hart.now →
             (f : Flat) → Belongs (geometry SETS WAYS) f (shown SETS self.old) → (h : Flat) × IsRun f es h × Belongs (geometry SETS WAYS) h (shown SETS self.new) }
     {
         let _retired = retired;

@@ -82,10 +82,7 @@ impl<const SETS: usize, const WAYS: usize> Machine<SETS, WAYS> {
             None => Ok(None),
             Some(message) => match receiver(message) {
                 Some(id) => Ok(self.deliver_to_hart(key, id)),
-                None => {
-                    let message = *message;
-                    self.deliver_to_directory(key, &message)
-                }
+                None => self.deliver_to_directory(key),
             },
         }
     }
@@ -112,18 +109,16 @@ impl<const SETS: usize, const WAYS: usize> Machine<SETS, WAYS> {
 
     /// The message under a key arrives at the directory.
     #[inline(always)]
-    fn deliver_to_directory(
-        &mut self,
-        key: usize,
-        message: &Message,
-    ) -> Result<Option<Entry>, AllocError>
-        requires message { in_flight self.old.flights key ≡ Some (shown_message message.now) }
-        requires receiver { receiver_of (shown_message message.now) ≡ None }
+    fn deliver_to_directory(&mut self, key: usize) -> Result<Option<Entry>, AllocError>
+        requires { option_map receiver_of (in_flight self.old.flights key) ≡ Some None }
         ensures steps { IfOk result (λ e. Steps (geometry SETS WAYS) (shown SETS self.old) (Deliver key) e (shown SETS self.new)) }
         ensures numbers { NumbersOn self.old.flights self.old.sent self.new.flights self.new.sent }
         ensures err { OnErr result (self.new ≡ self.old) }
     {
         self.net.reserve(HARTS)?;
+        let Some(message) = self.net.peek(key) else {
+            return Ok(None);
+        };
         match self.directory.serve(message)? {
             None => Ok(None),
             Some(answer) => {

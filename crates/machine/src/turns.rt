@@ -1,4 +1,4 @@
-ghost use Rattle.std.specs.Prelude.{◌≡◌, ◌<◌, ◌≤◌, ℕ, length, true, is_none, IfSome, IfNone, IsTrue};
+ghost use Rattle.std.specs.Prelude.{◌≡◌, ◌<◌, ◌≤◌, ◌↔◌, ℕ, length, true, is_none, IfSome, IfNone, IsTrue};
 ghost use Rattle.words.specs.Limits.{most_harts};
 ghost use Rattle.words.specs.declared.cause.Status.TheVariants.{Running};
 ghost use Rattle.protocol.specs.Messages.{Block as BlockWords, shown as shown_message, block_of};
@@ -49,7 +49,7 @@ pub(crate) fn none_is_fresh<const SETS: usize, const WAYS: usize>(
 ) -> bool
     requires count { count ≡ length seats.now }
     requires few { count ≤ most_harts }
-    ensures { IsTrue result → NoneFresh (hart_at SETS seats.now) (length seats.now) }
+    ensures { IsTrue result ↔ NoneFresh (hart_at SETS seats.now) (length seats.now) }
 {
     first_fresh(seats).is_none()
 }

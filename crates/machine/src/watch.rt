@@ -1,4 +1,4 @@
-ghost use Rattle.std.specs.Prelude.{◌≡◌, Option, None, is_some, IfOk, IfSome, IfNone, OnErr, MatchBool};
+ghost use Rattle.std.specs.Prelude.{◌≡◌, ◌↔◌, ℕ, Option, None, is_some, IfOk, IfSome, IfNone, OnErr, IsTrue, MatchBool};
 ghost use Rattle.std.specs.List.{slice_index_or};
 ghost use Rattle.words.specs.declared.entry.Step.{Step as StepValue};
 ghost use Rattle.words.specs.declared.entry.Step.TheVariants.{Core, Evict};
@@ -34,6 +34,13 @@ impl<const SETS: usize, const WAYS: usize> Machine<SETS, WAYS> {
             Some(_) => true,
             None => false,
         }
+    }
+
+    /// Whether no message is in flight.
+    pub fn is_quiet(&self) -> bool
+        ensures { IsTrue result ↔ ((key : ℕ) → slice_index_or self.now.flights key None ≡ None) }
+    {
+        self.net.is_empty()
     }
 
     /// The number that the next message gets.

@@ -1,6 +1,7 @@
 mod Adding
 mod Capping
 mod Few
+mod Plain
 mod Sending
 mod Tallying
 mod Zeros

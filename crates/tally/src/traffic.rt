@@ -61,6 +61,9 @@ impl Traffic {
         ensures rest { self.new ≡ record self.old { sums = self.new.sums } }
         ensures flying { result ≡ count_by is_some machine.now.flights }
     {
+        if machine.is_quiet() {
+            return 0;
+        }
         let mut flying = 0;
         for key in 0..machine.keys() {
             if let Some(flight) = machine.flight(key) {

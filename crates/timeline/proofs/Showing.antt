@@ -1,13 +1,14 @@
 -- A timeline: what comes before the events, the events, and the end.
-use Rattle.std.proofs.Common.{◌≡◌, ◌<◌, ◌+◌, ◌-◌, ◌++◌, ℕ, List, [], ◌∷◌, Option, Result, Ok, Err, IsErr, MatchResult, refl, sym, arith, subst, append_assoc}
+use Rattle.std.proofs.Common.{◌≡◌, ◌+◌, ◌++◌, ℕ, List, [], ◌∷◌, Option, Result, Ok, Err, IsErr, MatchResult, refl, sym, arith, subst, append_assoc}
 use Rattle.words.specs.declared.sink.SinkFault.{SinkFault}
 use Rattle.texts.specs.Puts.{Puts}
 use Rattle.texts.proofs.Putting.{puts-both, puts-cut, puts-same}
 use Rattle.protocol.specs.Caches.{Geometry}
 use Rattle.machine.specs.States.{State, setting_of}
 use Rattle.schedule.specs.declared.choices.Choice.{Choice}
-use Rattle.watch.specs.Moments.{Moment, FollowsBy}
-use Rattle.watch.specs.Watched.{PlaysWith, IsWatched, IsHalted}
+use Rattle.watch.proofs.Lengths.{none_played}
+use Rattle.watch.specs.Moments.{Moment}
+use Rattle.watch.specs.Watched.{IsWatched, IsHalted}
 use Rattle.watch.specs.declared.halt.Halt.{Halt}
 use Rattle.watch.specs.declared.halt.Halt.TheVariants.{NoMemory, Untold}
 use Rattle.timeline.specs.Events.{events_from}
@@ -17,14 +18,6 @@ use Rattle.timeline.proofs.Drawing.{Notes, Misses, noted, missed}
 -- a put that went well
 pub well_put : {a b : Option (List ℕ)} {fa fb : ℕ} {text : List ℕ} (r : Result Unit SinkFault) → r ≡ Ok tt → Puts a b fa fb text r → Puts a b fa fb text (Ok tt)
 well_put {a} {b} {fa} {fb} {text} r well puts = subst (λ (s : Result Unit SinkFault). Puts a b fa fb text s) well puts
-
--- no step
-idle : (g : Geometry) (choices : List Choice) (v : State) (after : ℕ) → FollowsBy g choices 0 v after [] v
-idle g [] v after = (refl, refl)
-idle g (c ∷ cs) v after = (refl, refl)
-
-none_played : (g : Geometry) (choices : List Choice) (v : State) → PlaysWith g choices 0 v [] v
-none_played g choices v = (idle g choices v ((setting_of v).count - 1), λ f b. (f, refl, b))
 
 -- not all of what comes before the events was put
 pub cut_opening : (g : Geometry) (choices : List Choice) (n : ℕ) (v : State) (a b : Option (List ℕ)) (fa fb : ℕ) (r : Result Unit SinkFault) → IsErr r

@@ -1,2 +1,3 @@
 pub mod Moments
 mod Watching
+pub mod Lengths

@@ -1,4 +1,4 @@
-ghost use Rattle.std.specs.Prelude.{◌≡◌, ◌↔◌, IsTrue, IfOk, IfErr, IfSome, IfNone, OnOk, OnErr};
+ghost use Rattle.std.specs.Prelude.{◌≡◌, ◌↔◌, IsTrue, IsFalse, IfOk, IfErr, IfSome, IfNone, OnOk, OnErr};
 ghost use Rattle.machine.specs.States.{geometry};
 ghost use Rattle.board.specs.Boards.{IsRunning, IsLent, Fits, settled, IsRefusedFor};
 ghost use Rattle.board.specs.Visits.{IsVisit, BeginsVisit};
@@ -22,7 +22,10 @@ pub trait Desk {
 
     fn lend(&self, id: HartId) -> Option<Self::Lease>;
 
-    fn settle(&mut self, lease: Self::Lease) -> Result<(), (Self::Lease, Refusal)>;
+    /// Lends a hart in place of a lease that isn't needed any more, and answers whether the hart runs.
+    fn lend_again(&self, id: HartId, lease: &mut Self::Lease) -> bool;
+
+    fn settle(&mut self, lease: &Self::Lease) -> Result<(), Refusal>;
 
     fn visit(&mut self, id: HartId) -> Result<bool, AllocError>;
 }
@@ -38,14 +41,17 @@ impl<'p, const SETS: usize, const WAYS: usize, A: Allocator + Copy> Desk
         Board::lend(self, id)
     }
 
-    fn settle(
-        &mut self,
-        lease: Lease<'p, SETS, WAYS>,
-    ) -> Result<(), (Lease<'p, SETS, WAYS>, Refusal)>
-        ensures ok { OnOk result (Fits self.old lease.entry × (self.new ≡ settled self.old lease.entry)) }
+    fn lend_again(&self, id: HartId, lease: &mut Lease<'p, SETS, WAYS>) -> bool
+        ensures lent { IsTrue result → IsLent self.now id lease.new }
+        ensures not_lent { IsFalse result → (IsRunning self.now.machine id → ⊥) × (lease.new ≡ lease.old) }
+    {
+        Board::lend_again(self, id, lease)
+    }
+
+    fn settle(&mut self, lease: &Lease<'p, SETS, WAYS>) -> Result<(), Refusal>
+        ensures ok { OnOk result (Fits self.old lease.now × (self.new ≡ settled self.old lease.now)) }
         ensures unchanged { OnErr result (self.new ≡ self.old) }
-        ensures back { IfErr result (λ r. r.0 ≡ lease.entry) }
-        ensures refused { IfErr result (λ r. IsRefusedFor self.old lease.entry r.1) }
+        ensures refused { IfErr result (IsRefusedFor self.old lease.now) }
     {
         Board::settle(self, lease)
     }

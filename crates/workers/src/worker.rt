@@ -28,7 +28,7 @@ fn locked<'d, D, R: Wait>(rt: &R, desk: &'d Mutex<D>) -> MutexGuard<'d, D> {
 }
 
 /// Turns of one hart: it is lent, the gate runs the lease, it is settled and the hart visited. A stale lease is let go, and the hart visited all
-/// the same.
+/// the same. One lease serves all turns: from the second on the hart is lent in its place.
 pub fn work<D: Desk, G: Gate<D::Lease>, R: Wait>(
     rt: &R,
     desk: &Mutex<D>,
@@ -36,16 +36,22 @@ pub fn work<D: Desk, G: Gate<D::Lease>, R: Wait>(
     gate: &G,
     turns: u64,
 ) -> Result<End, AllocError> {
+    if turns == 0 {
+        return Ok(End::Limit);
+    }
+    let lent = locked(rt, desk).lend(id);
+    let Some(mut lease) = lent else {
+        return Ok(End::Stopped);
+    };
     for turn in 0..turns {
-        let lent = locked(rt, desk).lend(id);
-        let Some(mut lease) = lent else {
+        if turn > 0 && !locked(rt, desk).lend_again(id, &mut lease) {
             return Ok(End::Stopped);
-        };
+        }
         if !gate.lent(id, turn, &mut lease) {
             return Ok(End::Shut);
         }
         let mut held = locked(rt, desk);
-        if let Err((_lease, Refusal::NoMemory)) = held.settle(lease) {
+        if let Err(Refusal::NoMemory) = held.settle(&lease) {
             return Err(AllocError);
         }
         let runs = held.visit(id)?;

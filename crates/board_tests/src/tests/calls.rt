@@ -17,6 +17,7 @@ type Loan<'p> = Lease<'p, 2, 1>;
 #[derive(Clone, Copy, Debug, PartialEq, Eq)]
 enum Call {
     Lend(HartId),
+    LendAgain(HartId),
     Lent(HartId),
     Settle(HartId, usize),
     Visit(HartId),
@@ -46,7 +47,12 @@ impl<'p> Desk for Noted<'p> {
         self.board.lend(id)
     }
 
-    fn settle(&mut self, lease: Loan<'p>) -> Result<(), (Loan<'p>, Refusal)> {
+    fn lend_again(&self, id: HartId, lease: &mut Loan<'p>) -> bool {
+        self.note(Call::LendAgain(id));
+        self.board.lend_again(id, lease)
+    }
+
+    fn settle(&mut self, lease: &Loan<'p>) -> Result<(), Refusal> {
         self.note(Call::Settle(lease.hart(), lease.len()));
         self.board.settle(lease)
     }
@@ -114,7 +120,7 @@ fn the_lock_is_free_while_the_gate_is_called(rt: HostRuntime) -> Result<(), Fail
         Call::Settle(h, 0),
         Call::Visit(h),
         Call::Settled(h),
-        Call::Lend(h),
+        Call::LendAgain(h),
         Call::Lent(h),
         Call::Settle(h, 0),
         Call::Visit(h),
@@ -123,6 +129,7 @@ fn the_lock_is_free_while_the_gate_is_called(rt: HostRuntime) -> Result<(), Fail
     for (most, turns, ends, calls) in [
         (64, 9, End::Stopped, whole.as_slice()),
         (0, 2, End::Limit, none.as_slice()),
+        (64, 0, End::Limit, &whole[..0]),
     ] {
         let desk = desk(rt.alloc(), &program, 1)?;
         let end = work(&rt, &desk, h, &Free { desk: &desk, most }, turns)?;

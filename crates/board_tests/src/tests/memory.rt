@@ -45,10 +45,10 @@ fn play<'p, 'h>(
             return Ok(());
         };
         lease.run(2);
-        if let Err((lease, Refusal::NoMemory)) = board.settle(lease) {
+        if let Err(Refusal::NoMemory) = board.settle(&lease) {
             refused.settle = true;
             rest = None;
-            if board.settle(lease).is_err() {
+            if board.settle(&lease).is_err() {
                 return Err("a lease that was refused for memory settles".into());
             }
         }

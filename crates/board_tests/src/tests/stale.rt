@@ -1,6 +1,7 @@
 //! A lease whose hart has changed while it was out, and one of another program.
 
-use board::{Board, Lease, Refusal};
+use super::play::check_again;
+use board::{Board, Lease, Refusal, is_hart};
 use elf_samples::{COMMITS, program};
 use loader::Program;
 use machine_play::{SIZE, one, zero};
@@ -11,11 +12,12 @@ use words::{HartId, Step};
 
 type Small<'p> = Board<'p, 2, 1>;
 
-/// Reads the word at 0x2000, and writes it.
+/// Reads the word at 0x2000, adds 1, and writes it.
 #[rattlefmt::skip]
-const READS_AND_WRITES: [u32; 3] = [
+const READS_AND_WRITES: [u32; 4] = [
     0x0000_24b7, // lui s1, 0x2
     0x0004_a283, // lw t0, 0(s1)
+    0x0012_8293, // addi t0, t0, 1
     0x0054_a023, // sw t0, 0(s1)
 ];
 
@@ -55,15 +57,13 @@ fn lent<'p>(board: &Small<'p>) -> Option<Lease<'p, 2, 1>> {
 }
 
 /// What refuses a lease.
-fn refusal<'p>(board: &mut Small<'p>, lease: Lease<'p, 2, 1>) -> Option<Refusal> {
-    match board.settle(lease) {
-        Ok(()) => None,
-        Err((_lease, refusal)) => Some(refusal),
-    }
+fn refusal<'p>(board: &mut Small<'p>, lease: &Lease<'p, 2, 1>) -> Option<Refusal> {
+    board.settle(lease).err()
 }
 
-/// Both harts hold the block to read it. Hart 0 is lent, and hart 1 asks for the block to write it; then so many messages arrive, the first of which is
-/// that request, and the others what the directory sends for it. What refuses the lease then?
+/// Both harts hold the block to read it. Hart 0 is lent, and adds; hart 1 asks for the block to write it; then so many messages arrive, the first of
+/// which is that request, and the others what the directory sends for it. What refuses the lease then? Where it is refused, nothing more was made, and
+/// the machine is still what the history makes of it.
 fn refusal_after(
     rt: &(impl Abort + AllocGlobal),
     messages: usize,
@@ -75,14 +75,17 @@ fn refusal_after(
     read(&mut board, one())?;
     let lease = lent(&board);
     make(&mut board, Step::Core(one()))?;
+    make(&mut board, Step::Core(one()))?;
     deliver(&mut board, messages)?;
     let made = board.history().len();
     assert!(rt; lease.is_some());
-    if let Some(lease) = lease {
-        assert_eq!(rt; refusal(&mut board, lease), want);
+    if let Some(mut lease) = lease {
+        assert_eq!(rt; lease.run(64), 1);
+        assert_eq!(rt; refusal(&mut board, &lease), want);
     }
-    assert_eq!(rt; board.history().len(), made);
-    Ok(())
+    let more = if want.is_none() { 1 } else { 0 };
+    assert_eq!(rt; board.history().len(), made + more);
+    check_again(rt, &board.finish())
 }
 
 #[test]
@@ -100,12 +103,22 @@ fn check_stale<'p>(
 ) -> Result<(), Fail> {
     let board: Small<'p> = booted(rt.alloc(), first, 1)?;
     let mut others: Small<'p> = booted(rt.alloc(), other, 1)?;
+    assert!(rt; are_alike(&board, &others));
     let lease = lent(&board);
     assert!(rt; lease.is_some());
     if let Some(lease) = lease {
-        assert_eq!(rt; refusal(&mut others, lease), Some(Refusal::Stale));
+        assert_eq!(rt; refusal(&mut others, &lease), Some(Refusal::Stale));
     }
+    assert!(rt; others.history().is_empty());
     Ok(())
+}
+
+/// Whether hart 0 is the same on both boards, in all that it keeps.
+fn are_alike<'p>(board: &Small<'p>, other: &Small<'p>) -> bool {
+    match board.machine().hart(zero()) {
+        Some(hart) => is_hart(other.machine(), zero(), hart),
+        None => false,
+    }
 }
 
 #[test]

@@ -5,19 +5,19 @@ use Rattle.board.proofs.Replays.{replay_settled, replay_segments, room_there}
 use Rattle.board.proofs.board.Board.settle.Goals as goal
 
 pub returns-then-is_err-clause-refused : goal.returns-then-is_err-clause-refused
-returns-then-is_err-clause-refused g c = subst (λ (b : Recorded). Fits b c.args.lease) c.self.view_is (c.fits.ensures.fits.0 c.if-not-fits.false)
+returns-then-is_err-clause-refused g c = subst (λ (b : Recorded). Fits b c.args.lease.now) c.self.view_is (c.fits.ensures.fits.0 c.if-not-fits.false)
 
 pub take_back-requires : goal.take_back-requires
 take_back-requires g c = (omega arith, (omega (arith, c.self.invariant.3), (c.self.invariant.3, (c.fits.ensures.hart c.if-not-fits.false, c.fits.ensures.text c.if-not-fits.false))))
 
 pub append_lease-requires : goal.append_lease-requires
-append_lease-requires g c = (omega (arith, c.self.invariant.3), (room_there c.reserve.result (λ n. vec_len c.reserve.new.history + n ≤ vec_capacity c.reserve.new.history) c.len.result (length c.args.lease.entries) c.len.ensures.value (sym c.is_err.ensures.value ∙ c.if-is_err.false) c.reserve.ensures.room, room_there c.reserve.result (λ n. vec_len c.reserve.new.entries + n ≤ vec_capacity c.reserve.new.entries) c.len.result (length c.args.lease.entries) c.len.ensures.value (sym c.is_err.ensures.value ∙ c.if-is_err.false) c.reserve.ensures.entries_room))
+append_lease-requires g c = (omega (arith, c.self.invariant.3), (room_there c.reserve.result (λ n. vec_len c.reserve.new.history + n ≤ vec_capacity c.reserve.new.history) c.len.result (length c.args.lease.now.entries) c.len.ensures.value (sym c.is_err.ensures.value ∙ c.if-is_err.false) c.reserve.ensures.room, room_there c.reserve.result (λ n. vec_len c.reserve.new.entries + n ≤ vec_capacity c.reserve.new.entries) c.len.result (length c.args.lease.now.entries) c.len.ensures.value (sym c.is_err.ensures.value ∙ c.if-is_err.false) c.reserve.ensures.entries_room))
 
 pub invariant_of-self-2 : goal.invariant_of-self-2
 invariant_of-self-2 g c =
     let b = c.self.inside in
     let r : IsReplay (geometry g.row.SETS g.row.WAYS) b.program.now b.harts b.size c.append_lease.new.history.items c.take_back.new.machine c.append_lease.new.entries.items =
-    replay_settled (geometry g.row.SETS g.row.WAYS) b.program.now b.harts b.size b.history.items c.append_lease.new.history.items b.machine c.take_back.new.machine b.entries.items c.append_lease.new.entries.items c.args.lease
+    replay_settled (geometry g.row.SETS g.row.WAYS) b.program.now b.harts b.size b.history.items c.append_lease.new.history.items b.machine c.take_back.new.machine b.entries.items c.append_lease.new.entries.items c.args.lease.now
     c.self.invariant.0 c.take_back.ensures.runs (cc) (cc) in
     (r, replay_segments (geometry g.row.SETS g.row.WAYS) b.program.now b.harts b.size c.append_lease.new.history.items c.take_back.new.machine c.append_lease.new.entries.items r, c.self.invariant.2, c.self.invariant.3)
 

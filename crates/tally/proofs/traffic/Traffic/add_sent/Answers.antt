@@ -63,3 +63,13 @@ returns-clause-added g c s low =
 pub returns-clause-flying : goal.returns-clause-flying
 returns-clause-flying g c =
     c.loop-key.invariant.2 ∙ counted_all is_some refl c.args.machine.now.flights c.loop-key.key (λ key le. c.keys-key-end.ensures key (omega (arith, le, c.loop-key-test.false)))
+
+-- no message is in flight
+pub returns-then-is_quiet-clause-added : goal.returns-then-is_quiet-clause-added
+returns-then-is_quiet-clause-added g c s low =
+    let none = counted_all (was_sent c.args.sent s) refl c.args.machine.now.flights 0 (λ key le. c.is_quiet.ensures.0 c.if-is_quiet.true key) in
+    let same : sum_at c.args.self.now s + 0 ≡ sum_at c.args.self.now s = omega arith in
+    sym (ap capped same ∙ capped_low (sum_at c.args.self.now s) low) ∙ ap (λ n. capped (sum_at c.args.self.now s + n)) none
+
+pub returns-then-is_quiet-clause-flying : goal.returns-then-is_quiet-clause-flying
+returns-then-is_quiet-clause-flying g c = counted_all is_some refl c.args.machine.now.flights 0 (λ key le. c.is_quiet.ensures.0 c.if-is_quiet.true key)
