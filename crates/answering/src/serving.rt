@@ -6,9 +6,9 @@ ghost use Rattle.simulate.specs.declared.fault.Fault.TheVariants.{NoMemory};
 ghost use Rattle.answering.specs.declared.stop.Stop.TheVariants.{Refused, Exchanged};
 
 use crate::stop::Stop;
-use board::STEPS;
+use board::{Loan, STEPS};
 use history::Journal;
-use hub::{Ended, Hub, Loan};
+use hub::{Ended, Hub};
 use loader::Program;
 use std::sync::{Mutex, Wait};
 use std::thread::Threads;

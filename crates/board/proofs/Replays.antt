@@ -105,9 +105,9 @@ replay_flat g p n size steps m es bytes r = belongs_after g (first_flat p n size
 
 -- a lease's steps and entries behind those of a replay
 pub replay_settled : (g : Geometry) (p : Program) (n size : ℕ) (steps later : List Step) (m next : State) (es after : List Entry) (l : Lent)
-    → IsReplay g p n size steps m es → Runs g (shown g.sets m) (replicate (length l.entries) (Core l.id)) l.entries (shown g.sets next)
-    → later ≡ steps ++ replicate (length l.entries) (Core l.id) → after ≡ es ++ l.entries → IsReplay g p n size later next after
-replay_settled g p n size steps later m next es after l r runs ls ts = replay_more g p n size steps (replicate (length l.entries) (Core l.id)) later m next es l.entries after r runs ls ts
+    → IsReplay g p n size steps m es → Runs g (shown g.sets m) (replicate (length l.entries) (Core l.loan.id)) l.entries (shown g.sets next)
+    → later ≡ steps ++ replicate (length l.entries) (Core l.loan.id) → after ≡ es ++ l.entries → IsReplay g p n size later next after
+replay_settled g p n size steps later m next es after l r runs ls ts = replay_more g p n size steps (replicate (length l.entries) (Core l.loan.id)) later m next es l.entries after r runs ls ts
 
 -- the room that there is where none is refused
 pub room_there : {A : Type 0} {E : Type 0} (r : Result A E) (P : ℕ → Type 0) (n k : ℕ) → n ≡ k → is_err r ≡ false → OnOk r (P n) → P k

@@ -13,7 +13,8 @@ use Rattle.protocol.specs.Machine.{Steps, Runs}
 use Rattle.hart.specs.Parts.{Parts}
 use Rattle.machine.specs.States.{State, shown}
 use Rattle.machine.specs.Lent.{hart_if, with_hart}
-use Rattle.board.specs.Leases.{Lent, as_lent}
+use Rattle.board.specs.Loans.{IsLentFrom, FitsIn}
+use Rattle.board.specs.Leases.{Lent}
 use Rattle.board.specs.declared.refusal.Refusal.{Refusal}
 use Rattle.board.specs.declared.refusal.Refusal.TheVariants.{Stale, NoMemory}
 
@@ -50,25 +51,18 @@ IsRunning m i = (h : Parts) × (hart_if m i ≡ Some h) × (h.status ≡ Running
 
 -- hart i as it is, lent with no step made
 pub record IsLent (b : Recorded) (i : ℕ) (l : Lent) : Type 0 where
-  pub hart : hart_if b.machine i ≡ Some l.before
-  pub runs : l.before.status ≡ Running
-  pub rest : l ≡ as_lent b.program b.harts b.size i l.before
+  pub loan : IsLentFrom b.program b.harts b.size b.machine i l.loan
+  pub entries : l.entries ≡ []
 
--- a lease of this program, number of harts and size of memory, whose hart is still as it was lent, in all that it keeps
-pub record FitsIn (p : Program) (n bytes : ℕ) (m : State) (l : Lent) : Type 0 where
-  pub program : l.program ≡ p
-  pub harts : l.harts ≡ n
-  pub size : l.size ≡ bytes
-  pub hart : hart_if m l.id ≡ Some l.before
-
+-- a lease of this board whose hart is still as it was lent
 abbrev pub Fits : Recorded → Lent → Type 0
-Fits b l = FitsIn b.program b.harts b.size b.machine l
+Fits b l = FitsIn b.program b.harts b.size b.machine l.loan
 
 -- the board when a lease is settled: the hart is what it has become, and its steps and entries stand behind those before
 abbrev pub settled : Recorded → Lent → Recorded
 settled b l = record b {
-  machine = with_hart b.machine l.id l.after;
-  history = b.history ++ replicate (length l.entries) (Core l.id);
+  machine = with_hart b.machine l.loan.id l.loan.after;
+  history = b.history ++ replicate (length l.entries) (Core l.loan.id);
   entries = b.entries ++ l.entries;
 }
 

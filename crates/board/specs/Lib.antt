@@ -1,3 +1,4 @@
+pub mod Loans
 pub mod Leases
 pub mod Boards
 pub mod Visits

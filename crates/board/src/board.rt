@@ -11,13 +11,13 @@ ghost use Rattle.hart.specs.Parts.{Parts};
 ghost use Rattle.machine.specs.States.{State, shown, geometry};
 ghost use Rattle.machine.specs.Lent.{hart_if, with_hart};
 ghost use Rattle.protocol.specs.Machine.{Runs};
-ghost use Rattle.board.specs.Leases.{most_steps};
-ghost use Rattle.board.specs.Boards.{first_flat, IsReplay, IsFirst, IsRunning, IsLent, FitsIn, Fits, settled, IsRefusedFor, IsTurn};
+ghost use Rattle.board.specs.Loans.{most_steps};
+ghost use Rattle.board.specs.Boards.{first_flat, IsReplay, IsFirst, IsRunning, IsLent, Fits, settled, IsRefusedFor, IsTurn};
 
 use crate::code::Code;
 use crate::lease::{Lease, Retired};
 use crate::refusal::Refusal;
-use crate::status::{is_hart, is_running, running};
+use crate::status::{is_running, running};
 use flat::BootFault;
 use hart::Hart;
 use loader::Program;
@@ -180,7 +180,8 @@ impl<'p, const SETS: usize, const WAYS: usize, A: Allocator + Copy> Board<'p, SE
         ensures unchanged { OnErr result (self.new ≡ self.old) }
         ensures refused { IfErr result (IsRefusedFor self.old lease.now) }
     {
-        if !fits(self.program, self.harts, self.size, &self.machine, lease) {
+        let loan = lease.loan();
+        if !loan.fits(self.program, self.harts, self.size, &self.machine) {
             return Err(Refusal::Stale);
         }
         if reserve(&mut self.history, &mut self.entries, lease.len()).is_err() {
@@ -228,23 +229,6 @@ impl<'p, const SETS: usize, const WAYS: usize, A: Allocator + Copy> Board<'p, SE
     }
 }
 
-/// Whether a lease is of this program, number of harts and size of memory, and its hart is as it was lent.
-fn fits<const SETS: usize, const WAYS: usize>(
-    program: &Program,
-    harts: u32,
-    size: u32,
-    machine: &Machine<SETS, WAYS>,
-    lease: &Lease<'_, SETS, WAYS>,
-) -> bool
-    requires lines { SETS * WAYS < 2 ^ 32 }
-    requires text { machine.now.program.segments ≡ program.now.segments }
-    ensures fits { IsTrue result ↔ FitsIn program.now harts size machine.now lease.now }
-    ensures hart { IsTrue result → hart_if machine.now lease.now.id ≡ Some lease.now.before }
-    ensures text { IsTrue result → machine.now.program.segments ≡ lease.now.program.segments }
-{
-    is_hart(machine, lease.hart(), lease.before()) && lease.is_of(program, harts, size)
-}
-
 /// Makes room for so many steps and entries more.
 fn reserve<A: Allocator>(
     history: &mut Vec<Step, A>,
@@ -266,12 +250,13 @@ fn take_back<const SETS: usize, const WAYS: usize>(
     lease: &Lease<'_, SETS, WAYS>,
 )
     requires lines { SETS * WAYS < 2 ^ 32 }
-    requires hart { hart_if machine.old lease.now.id ≡ Some lease.now.before }
-    requires text { machine.old.program.segments ≡ lease.now.program.segments }
-    ensures hart { machine.new ≡ with_hart machine.old lease.now.id lease.now.after }
-    ensures runs { Runs (geometry SETS WAYS) (shown SETS machine.old) (replicate (length lease.now.entries) (Core lease.now.id)) lease.now.entries (shown SETS machine.new) }
+    requires hart { hart_if machine.old lease.now.loan.id ≡ Some lease.now.loan.before }
+    requires text { machine.old.program.segments ≡ lease.now.loan.program.segments }
+    ensures hart { machine.new ≡ with_hart machine.old lease.now.loan.id lease.now.loan.after }
+    ensures runs { Runs (geometry SETS WAYS) (shown SETS machine.old) (replicate (length lease.now.entries) (Core lease.now.loan.id)) lease.now.entries (shown SETS machine.new) }
 {
-    machine.adopt(lease.hart(), lease.after(), lease.len());
+    let loan = lease.loan();
+    machine.adopt(loan.hart(), loan.after(), lease.len());
 }
 
 /// Appends a step.
@@ -311,7 +296,7 @@ fn append_lease<const SETS: usize, const WAYS: usize, A: Allocator>(
 )
     requires room { vec_len history.old + length lease.now.entries ≤ vec_capacity history.old }
     requires entries_room { vec_len entries.old + length lease.now.entries ≤ vec_capacity entries.old }
-    ensures history { history.new.items ≡ history.old.items ++ replicate (length lease.now.entries) (Core lease.now.id) }
+    ensures history { history.new.items ≡ history.old.items ++ replicate (length lease.now.entries) (Core lease.now.loan.id) }
     ensures entries { entries.new.items ≡ entries.old.items ++ lease.now.entries }
 {
     append_cores(history, lease.hart(), lease.len());

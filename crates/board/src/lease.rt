@@ -4,17 +4,15 @@ ghost use Rattle.hart.specs.declared.reply.Local.TheVariants.{NeedsHub};
 ghost use Rattle.hart.specs.Locals.{FollowsAlone};
 ghost use Rattle.hart.specs.Rows.{setting_of};
 ghost use Rattle.machine.specs.Lent.{RetiresAlone, RunsAlone};
-ghost use Rattle.board.specs.Leases.{most_steps, as_lent, IsSound};
+ghost use Rattle.board.specs.Loans.{most_steps, as_lent};
+ghost use Rattle.board.specs.Leases.{IsSound};
 
 use crate::code::Code;
+use crate::loan::{Loan, STEPS};
 use arrayvec::ArrayVec;
-use hart::{Hart, Local};
-use loader::Program;
+use hart::Hart;
 use std::marker::Model;
 use words::{AbortCause, Entry, HartId};
-
-/// The most steps that a lease has.
-pub const STEPS: usize = 64;
 
 /// The entry of a step. `Entry` has no default value, which the places of a list that aren't used yet have to have.
 #[derive(Clone, Copy, Debug, PartialEq, Eq)]
@@ -44,15 +42,10 @@ impl Default for Retired {
     }
 }
 
-/// A copy of a hart, and the steps that it has made by itself since it was lent.
+/// A loan that keeps the entries of its steps.
 #[derive(Drop)]
 pub struct Lease<'p, const SETS: usize, const WAYS: usize> {
-    code: Code<'p>,
-    harts: u32,
-    size: u32,
-    id: HartId,
-    before: Hart<SETS, WAYS>,
-    after: Hart<SETS, WAYS>,
+    loan: Loan<'p, SETS, WAYS>,
     entries: ArrayVec<Retired, STEPS>,
 }
 
@@ -61,19 +54,12 @@ impl<'p, const SETS: usize, const WAYS: usize> Model for Lease<'p, SETS, WAYS> {
 
     ghost Value = { Lent };
 
-    ghost view = { λ l. record {
-      program = l.code.program.now;
-      harts = l.harts;
-      size = l.size;
-      id = l.id;
-      before = l.before;
-      after = l.after;
-      entries = l.entries.items;
-    } };
+    ghost view = { λ l. record { loan = l.loan; entries = l.entries.items } };
 
+    ghost use Rattle.std.specs.Prelude.{◌≡◌, length};
     ghost use Rattle.machine.specs.Lent.{RunsAlone};
 
-    ghost invariant = { λ l. RunsAlone SETS l.code.program.now.segments l.before l.entries.items l.after };
+    ghost invariant = { λ l. RunsAlone SETS l.loan.program.segments l.loan.before l.entries.items l.loan.after × (length l.entries.items ≡ l.loan.steps) };
 }
 
 impl<'p, const SETS: usize, const WAYS: usize> Lease<'p, SETS, WAYS> {
@@ -85,15 +71,11 @@ impl<'p, const SETS: usize, const WAYS: usize> Lease<'p, SETS, WAYS> {
         id: HartId,
         hart: &Hart<SETS, WAYS>,
     ) -> Self
-        ensures { result ≡ as_lent code.entry.program.now harts size id hart.now }
+        ensures loan { result.loan ≡ as_lent code.entry.program.now harts size id hart.now }
+        ensures entries { result.entries ≡ [] }
     {
         Lease {
-            code,
-            harts,
-            size,
-            id,
-            before: *hart,
-            after: *hart,
+            loan: Loan::new(code, harts, size, id, hart),
             entries: ArrayVec::new(),
         }
     }
@@ -107,14 +89,10 @@ impl<'p, const SETS: usize, const WAYS: usize> Lease<'p, SETS, WAYS> {
         id: HartId,
         hart: &Hart<SETS, WAYS>,
     )
-        ensures { self.new ≡ as_lent code.entry.program.now harts size id hart.now }
+        ensures loan { self.new.loan ≡ as_lent code.entry.program.now harts size id hart.now }
+        ensures entries { self.new.entries ≡ [] }
     {
-        self.code = code;
-        self.harts = harts;
-        self.size = size;
-        self.id = id;
-        self.before = *hart;
-        self.after = *hart;
+        self.loan.renew(code, harts, size, id, hart);
         self.entries.clear();
     }
 
@@ -135,31 +113,17 @@ impl<'p, const SETS: usize, const WAYS: usize> Lease<'p, SETS, WAYS> {
 
     /// The number of the hart.
     pub fn hart(&self) -> HartId
-        ensures { result ≡ self.now.id }
+        ensures { result ≡ self.now.loan.id }
     {
-        self.id
+        self.loan.hart()
     }
 
-    /// Whether it was lent by a board with this program, number of harts and size of memory.
-    pub(crate) fn is_of(&self, program: &Program, harts: u32, size: u32) -> bool
-        ensures { IsTrue result ↔ ((self.now.program ≡ program.now) × (self.now.harts ≡ harts) × (self.now.size ≡ size)) }
-    {
-        self.harts == harts && self.size == size && self.code.program.same(program)
-    }
-
-    /// The hart as it was lent.
-    pub(crate) fn before(&self) -> &Hart<SETS, WAYS>
-        ensures { result.now ≡ self.now.before }
-    {
-        &self.before
-    }
-
-    /// The hart as it is now.
-    pub(crate) fn after(&self) -> &Hart<SETS, WAYS>
-        ensures value { result.now ≡ self.now.after }
+    /// The loan.
+    pub(crate) fn loan(&self) -> &Loan<'p, SETS, WAYS>
+        ensures value { result.now ≡ self.now.loan }
         ensures sound { IsSound SETS self.now }
     {
-        &self.after
+        &self.loan
     }
 
     /// The entries of its steps.
@@ -172,12 +136,12 @@ impl<'p, const SETS: usize, const WAYS: usize> Lease<'p, SETS, WAYS> {
     /// The hart goes on by itself until it has made so many steps more, the lease has 64, or the hart needs its machine. The answer is how many it
     /// has made.
     pub fn run(&mut self, most: usize) -> usize
-        ensures rest { self.new ≡ record self.old { after = self.new.after; entries = self.new.entries } }
+        ensures rest { self.new.loan ≡ record self.old.loan { after = self.new.loan.after; steps = self.old.loan.steps + result } }
         ensures steps { (es : List Entry) × (self.new.entries ≡ self.old.entries ++ es) × (length es ≡ result)
-            × RunsAlone SETS self.old.program.segments self.old.after es self.new.after }
+            × RunsAlone SETS self.old.loan.program.segments self.old.loan.after es self.new.loan.after }
         ensures most { result ≤ most }
         ensures stops { (result ≡ most) ⊎ ((length self.new.entries ≡ most_steps)
-            ⊎ FollowsAlone SETS (setting_of self.new.program.segments self.new.after) self.new.after self.new.after NeedsHub) }
+            ⊎ FollowsAlone SETS (setting_of self.new.loan.program.segments self.new.loan.after) self.new.loan.after self.new.loan.after NeedsHub) }
     {
         for made in 0..most {
             if !self.step() {
@@ -189,21 +153,17 @@ impl<'p, const SETS: usize, const WAYS: usize> Lease<'p, SETS, WAYS> {
 
     /// One step, if there is room for it and the hart makes it by itself.
     fn step(&mut self) -> bool
-        ensures rest { self.new ≡ record self.old { after = self.new.after; entries = self.new.entries } }
-        ensures made { IsTrue result → (e : Entry) × (self.new.entries ≡ self.old.entries ++ e ∷ []) × RetiresAlone SETS self.old.program.segments self.old.after e self.new.after }
+        ensures rest { self.new.loan ≡ record self.old.loan { after = self.new.loan.after; steps = self.new.loan.steps } }
+        ensures made { IsTrue result → (e : Entry) × (self.new.loan.steps ≡ self.old.loan.steps + 1) × (self.new.entries ≡ self.old.entries ++ e ∷ [])
+            × RetiresAlone SETS self.old.loan.program.segments self.old.loan.after e self.new.loan.after }
         ensures none { IsFalse result → self.new ≡ self.old }
         ensures stops { IsFalse result → (length self.new.entries ≡ most_steps)
-            ⊎ FollowsAlone SETS (setting_of self.new.program.segments self.new.after) self.new.after self.new.after NeedsHub }
+            ⊎ FollowsAlone SETS (setting_of self.new.loan.program.segments self.new.loan.after) self.new.loan.after self.new.loan.after NeedsHub }
     {
-        if self.entries.len() == STEPS {
+        let Some(entry) = self.loan.step() else {
             return false;
-        }
-        match self.after.local(self.code.text()) {
-            Local::Retired(entry) => {
-                self.entries.push(Retired { entry });
-                true
-            }
-            Local::NeedsHub => false,
-        }
+        };
+        self.entries.push(Retired { entry });
+        true
     }
 }

@@ -4,12 +4,14 @@
 mod board;
 mod code;
 mod lease;
+mod loan;
 mod refusal;
 mod status;
 mod visit;
 
 pub use board::{Board, Finished};
 pub use code::Code;
-pub use lease::{Lease, STEPS};
+pub use lease::Lease;
+pub use loan::{Loan, STEPS};
 pub use refusal::Refusal;
 pub use status::{is_hart, is_running, running};

@@ -9,9 +9,8 @@ use Rattle.machine.specs.Mail.{NumbersOn}
 use Rattle.machine.specs.States.{Seat, State, geometry, IsSound}
 use Rattle.machine.specs.Lent.{hart_if, with_hart, RetiresAlone, RunsAlone}
 use Rattle.machine.proofs.Returning.{is_within, seated, with, with_hart_is, retires, seat_of}
-use Rattle.board.proofs.Locals.{runs_more}
+use Rattle.board.specs.Loans.{Loaned, RunsFor}
 use Rattle.schedule.specs.declared.choices.Choice.TheVariants.{Core}
-use Rattle.hub.specs.Loans.{Loaned, RunsFor}
 use Rattle.hub.specs.Hubs.{Leads}
 
 there : {A : Type 0} (xs : List A) (i : ℕ) (x : A) → i < length xs → slice_get (slice_set xs i x) i ≡ Some x
@@ -65,16 +64,3 @@ loan_leads sets ways v w l sound at text (es, run, count) is =
     let leads : Leads (geometry sets ways) (replicate (length es) (Core l.id)) v es w =
     subst (λ (m : State). Leads (geometry sets ways) (replicate (length es) (Core l.id)) v es m) (sym is) back in
     (es, subst (λ (k : ℕ). Leads (geometry sets ways) (replicate k (Core l.id)) v es w) count leads)
-
--- one word more, on the same text
-pub runs_for_more : (sets : ℕ) (ss ts : List Segment) (n : ℕ) (h k m : Parts) (e : Entry) → ts ≡ ss → RunsFor sets ss n h k → RetiresAlone sets ts k e m → RunsFor sets ss (n + 1) h m
-runs_for_more sets ss ts n h k m e same (es, run, count) one =
-    let there : RetiresAlone sets ss k e m = subst (λ (rs : List Segment). RetiresAlone sets rs k e m) same one in
-    (es ++ e ∷ [], runs_more sets ss h k m es e run there, omega (arith, length-append es (e ∷ []), count))
-
--- all else of a loan stays with one step more
-pub rest_more : (l m n : Loaned) (steps : ℕ) → m ≡ record l { after = m.after; steps = l.steps + steps } → n ≡ record m { after = n.after; steps = n.steps } → n.steps ≡ m.steps + 1
-    → n ≡ record l { after = n.after; steps = l.steps + (steps + 1) }
-rest_more l m n steps before rest one =
-    let all : n.steps ≡ l.steps + (steps + 1) = omega (arith, one, ap (λ (x : Loaned). x.steps) before) in
-    rest ∙ (ap (λ (x : Loaned). record x { after = n.after; steps = n.steps }) before ∙ ap (λ k. record l { after = n.after; steps = k }) all)

@@ -12,7 +12,7 @@ use Rattle.schedule.specs.Follows.{Makes}
 use Rattle.hub.specs.Hubs.{Held, IsChoiceOf, TellsMore, TellsStill, IsSettled, IsAsBefore}
 use Rattle.machine.specs.States.{State}
 use Rattle.machine.specs.Lent.{with_hart}
-use Rattle.hub.specs.Loans.{Loaned}
+use Rattle.board.specs.Loans.{Loaned}
 use Rattle.std.proofs.Common.{replicate}
 use Rattle.hub.specs.Visits.{IsTurn, PaysOff, PaysOne, IsVisitOf}
 

@@ -1,7 +1,6 @@
 -- What contracts see of a hub: a machine, and a journal of the choices that have led to it.
 use Rattle.std.specs.Prelude.{ℕ, ◌≡◌, ◌<◌, ◌-◌, ◌++◌, All, List, length, replicate, Some, None}
 use Rattle.words.specs.Limits.{most_harts}
-use Rattle.words.specs.declared.cause.Status.TheVariants.{Running}
 use Rattle.words.specs.declared.entry.Entry.{Entry}
 use Rattle.words.specs.declared.entry.Step.{Step}
 use Rattle.loader.specs.Programs.{Program}
@@ -13,7 +12,8 @@ use Rattle.protocol.specs.Start.{start}
 use Rattle.bounds.specs.Memory.{LiesInMemory}
 use Rattle.isolation.specs.Belongs.{Belongs}
 use Rattle.machine.specs.States.{State, setting_of, shown}
-use Rattle.machine.specs.Lent.{hart_if, with_hart}
+use Rattle.machine.specs.Lent.{with_hart}
+use Rattle.board.specs.Loans.{Loaned, IsLentFrom, FitsIn}
 use Rattle.board.specs.Boards.{first_flat}
 use Rattle.board.specs.declared.refusal.Refusal.{Refusal}
 use Rattle.board.specs.declared.refusal.Refusal.TheVariants.{Stale, NoMemory}
@@ -23,7 +23,6 @@ use Rattle.schedule.specs.declared.choices.Choice.TheVariants.{Core, Evict, Deli
 use Rattle.schedule.specs.Steps.{IsStepOf}
 use Rattle.schedule.specs.Follows.{Follows}
 use Rattle.history.specs.Lines.{IsWritable}
-use Rattle.hub.specs.Loans.{Loaned, as_lent}
 
 -- a program with a number of harts and of bytes of memory, the machine, and the journal
 pub record Held (J : Type 0) : Type 0 where
@@ -100,17 +99,12 @@ module _ {J : Type 0} where
     pub rest : k ≡ record h { journal = k.journal }
 
   -- hart i as it is, lent with no step made
-  pub record IsLent (h : Held J) (i : ℕ) (l : Loaned) : Type 0 where
-    pub hart : hart_if h.machine i ≡ Some l.before
-    pub runs : l.before.status ≡ Running
-    pub rest : l ≡ as_lent h.program h.harts h.size i l.before
+  abbrev pub IsLent : Held J → ℕ → Loaned → Type 0
+  IsLent h i l = IsLentFrom h.program h.harts h.size h.machine i l
 
-  -- a loan of this program, number of harts and size of memory, whose hart is still as it was lent, in all that it keeps
-  pub record Fits (h : Held J) (l : Loaned) : Type 0 where
-    pub program : l.program ≡ h.program
-    pub harts : l.harts ≡ h.harts
-    pub size : l.size ≡ h.size
-    pub hart : hart_if h.machine l.id ≡ Some l.before
+  -- a loan of this hub whose hart is still as it was lent
+  abbrev pub Fits : Held J → Loaned → Type 0
+  Fits h l = FitsIn h.program h.harts h.size h.machine l
 
   -- the hub when a loan is settled: the hart is what it has become, and its steps were told
   pub record IsSettled (tells : J → List Choice → Type 0) (h : Held J) (l : Loaned) (k : Held J) : Type 0 where

@@ -1,3 +1,2 @@
-pub mod Loans
 pub mod Hubs
 pub mod Visits

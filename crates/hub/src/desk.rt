@@ -5,8 +5,7 @@ ghost use Rattle.hub.specs.Hubs.{IsLent, Fits, IsRefusedFor, IsSettled, IsAsBefo
 ghost use Rattle.hub.specs.Visits.{IsVisit, BeginsVisit};
 
 use crate::hub::Hub;
-use crate::loan::Loan;
-use board::Refusal;
+use board::{Loan, Refusal};
 use history::Journal;
 use std::alloc::AllocError;
 use words::HartId;

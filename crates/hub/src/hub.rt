@@ -6,8 +6,7 @@ ghost use Rattle.board.specs.Boards.{IsRunning};
 ghost use Rattle.hub.specs.Hubs.{IsFirst, IsLent, Fits, IsRefusedFor, IsSettled, IsAsBefore, IsEnd};
 
 use crate::lending::take_over;
-use crate::loan::Loan;
-use board::{Code, Refusal, is_hart, running};
+use board::{Code, Loan, Refusal, running};
 use flat::BootFault;
 use history::Journal;
 use loader::Program;
@@ -131,8 +130,7 @@ impl<'p, const SETS: usize, const WAYS: usize, J: Journal> Hub<'p, SETS, WAYS, J
     fn fits(&self, loan: &Loan<'p, SETS, WAYS>) -> bool
         ensures { IsTrue result ↔ Fits self.now loan.now }
     {
-        is_hart(&self.machine, loan.hart(), loan.before())
-            && loan.is_of(self.code.program, self.harts, self.size)
+        loan.fits(self.code.program, self.harts, self.size, &self.machine)
     }
 
     /// Takes over the steps of a loan that fits.

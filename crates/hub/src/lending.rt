@@ -6,7 +6,7 @@ ghost use Rattle.machine.specs.States.{geometry};
 ghost use Rattle.machine.specs.Lent.{hart_if, with_hart};
 ghost use Rattle.hub.specs.Hubs.{Leads, TellsMore, TellsStill};
 
-use crate::loan::Loan;
+use board::Loan;
 use history::Journal;
 use machine::Machine;
 use schedule::Choice;

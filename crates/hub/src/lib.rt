@@ -5,8 +5,6 @@ mod choosing;
 mod desk;
 mod hub;
 mod lending;
-mod loan;
 mod visit;
 
 pub use hub::{Ended, Hub};
-pub use loan::Loan;

@@ -1,7 +1,7 @@
-use board::{Code, Refusal};
+use board::{Code, Loan, Refusal};
 use elf_samples::program;
 use history::{History, Unkept, put_history};
-use hub::{Ended, Hub, Loan};
+use hub::{Ended, Hub};
 use machine::Machine;
 use schedule::{follow, read};
 use std::process::Abort;

@@ -1,14 +1,9 @@
 use Rattle.std.proofs.Common.{arith, ◌+◌, ◌≤◌, vec_len, vec_capacity, length, sym, subst, ◌∙◌}
 use Rattle.machine.specs.States.{geometry}
-use Rattle.board.specs.Boards.{Recorded, IsReplay, Fits}
+use Rattle.board.specs.Loans.{Loaned, FitsIn}
+use Rattle.board.specs.Boards.{IsReplay}
 use Rattle.board.proofs.Replays.{replay_settled, replay_segments, room_there}
 use Rattle.board.proofs.board.Board.settle.Goals as goal
-
-pub returns-then-is_err-clause-refused : goal.returns-then-is_err-clause-refused
-returns-then-is_err-clause-refused g c = subst (λ (b : Recorded). Fits b c.args.lease.now) c.self.view_is (c.fits.ensures.fits.0 c.if-not-fits.false)
-
-pub take_back-requires : goal.take_back-requires
-take_back-requires g c = (omega arith, (omega (arith, c.self.invariant.3), (c.self.invariant.3, (c.fits.ensures.hart c.if-not-fits.false, c.fits.ensures.text c.if-not-fits.false))))
 
 pub append_lease-requires : goal.append_lease-requires
 append_lease-requires g c = (omega (arith, c.self.invariant.3), (room_there c.reserve.result (λ n. vec_len c.reserve.new.history + n ≤ vec_capacity c.reserve.new.history) c.len.result (length c.args.lease.now.entries) c.len.ensures.value (sym c.is_err.ensures.value ∙ c.if-is_err.false) c.reserve.ensures.room, room_there c.reserve.result (λ n. vec_len c.reserve.new.entries + n ≤ vec_capacity c.reserve.new.entries) c.len.result (length c.args.lease.now.entries) c.len.ensures.value (sym c.is_err.ensures.value ∙ c.if-is_err.false) c.reserve.ensures.entries_room))
@@ -22,4 +17,6 @@ invariant_of-self-2 g c =
     (r, replay_segments (geometry g.row.SETS g.row.WAYS) b.program.now b.harts b.size c.append_lease.new.history.items c.take_back.new.machine c.append_lease.new.entries.items r, c.self.invariant.2, c.self.invariant.3)
 
 pub returns-clause-ok : goal.returns-clause-ok
-returns-clause-ok g c = rw (← c.self.view_is) (c.fits.ensures.fits.0 c.if-not-fits.false, cc)
+returns-clause-ok g c =
+    let b = c.self.inside in
+    rw (← c.self.view_is) (subst (λ (l : Loaned). FitsIn b.program.now b.harts b.size b.machine l) c.loan-loan.ensures.value (c.fits.ensures.0 c.if-not-fits.false), cc)

@@ -1,19 +1,21 @@
-use Rattle.std.proofs.Common.{◌≡◌, ap, subst, ◌∙◌}
+use Rattle.std.proofs.Common.{◌≡◌, ap, subst}
 use Rattle.loader.specs.Programs.{Program}
 use Rattle.machine.specs.Lent.{RetiresAlone}
-use Rattle.board.specs.Leases.{Lent}
-use Rattle.board.proofs.Locals.{has_run_more}
+use Rattle.board.specs.Loans.{Loaned}
+use Rattle.board.proofs.Locals.{has_run_more, rest_more}
 use Rattle.board.proofs.lease.Lease.run.Goals as goal
 
 pub loop-made-preserved : goal.loop-made-preserved
 loop-made-preserved g c =
-    let before = c.loop-made.invariant in
+    let first = c.args.self.now in
+    let here = c.loop-made.self in
     let next = c.step.new.self in
+    let before = c.loop-made.invariant in
     let one = c.step.ensures.made c.if-not-step.false in
-    let same : c.loop-made.self.program ≡ c.args.self.now.program = ap (λ (l : Lent). l.program) before.rest in
-    let there : RetiresAlone g.row.SETS c.args.self.now.program.segments c.loop-made.self.after one.0 next.after =
-    subst (λ (p : Program). RetiresAlone g.row.SETS p.segments c.loop-made.self.after one.0 next.after) same one.2 in
+    let same : here.loan.program ≡ first.loan.program = ap (λ (l : Loaned). l.program) before.rest in
+    let there : RetiresAlone g.row.SETS first.loan.program.segments here.loan.after one.0 next.loan.after =
+    subst (λ (p : Program). RetiresAlone g.row.SETS p.segments here.loan.after one.0 next.loan.after) same one.3 in
     record {
-      rest = c.step.ensures.rest ∙ ap (λ (l : Lent). record l { after = next.after; entries = next.entries }) before.rest;
-      ran = has_run_more g.row.SETS c.args.self.now.program.segments c.args.self.now.after c.loop-made.self.after next.after c.args.self.now.entries c.loop-made.self.entries next.entries c.loop-made.made one.0 before.ran one.1 there;
+      rest = rest_more first.loan here.loan next.loan c.loop-made.made before.rest c.step.ensures.rest one.1;
+      ran = has_run_more g.row.SETS first.loan.program.segments first.loan.after here.loan.after next.loan.after first.entries here.entries next.entries c.loop-made.made one.0 before.ran one.2 there;
     }
