@@ -12,7 +12,7 @@ pub trait Gate<L> {
     /// The hart was lent, on a turn with this number: the lease is run here. The answer `false` ends the worker.
     fn lent(&self, hart: HartId, turn: u64, lease: &mut L) -> bool;
 
-    /// The lease was settled, and the hart visited.
+    /// The lease was settled, the hart visited, and lent again if it has a turn more.
     fn settled(&self, hart: HartId, turn: u64);
 }
 
