@@ -8,21 +8,28 @@ use arrayvec::ArrayVec;
 use board::Refusal;
 use std::alloc::AllocError;
 use std::sync::{Mutex, MutexGuard, Wait};
-use std::thread;
 use std::thread::Threads;
+use std::{hint, thread};
 use words::{HARTS, HartId};
 
-/// How often a worker looks for a free lock before it sleeps. To wake a sleeper costs far more than most turns take, so workers that handed
-/// the lock from sleeper to sleeper would make each turn wait for that.
-const LOOKS: usize = 300;
+/// How often a worker looks for a free lock before it lets other threads run between its looks. Most turns give the lock back within that time.
+const LOOKS: usize = 100;
 
-/// The lock: looked for a while, then slept for.
+/// How often it looks then, before it sleeps. To wake a sleeper costs far more than most turns take, so workers that handed the lock from
+/// sleeper to sleeper would make each turn wait for that.
+const YIELDS: usize = 300;
+
+/// The lock: looked for a while, then yielded for, and at last slept for.
 fn locked<'d, D, R: Wait>(rt: &R, desk: &'d Mutex<D>) -> MutexGuard<'d, D> {
-    for _ in 0..LOOKS {
+    for look in 0..LOOKS + YIELDS {
         if let Some(held) = desk.try_lock() {
             return held;
         }
-        thread::yield_now();
+        if look < LOOKS {
+            hint::spin_loop();
+        } else {
+            thread::yield_now();
+        }
     }
     desk.lock(rt)
 }
