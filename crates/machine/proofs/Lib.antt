@@ -23,5 +23,6 @@ mod Playing
 mod Naming
 pub mod Returning
 pub mod Calm
+pub mod Plain
 mod Enabled
 mod Ending

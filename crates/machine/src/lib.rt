@@ -22,5 +22,5 @@ mod watch;
 
 pub use info::TxInfo;
 pub use machine::Machine;
-pub use play::{Turned, hart_after};
+pub use play::{PlainTurns, Turned, hart_after};
 pub use watch::Turn;

@@ -12,7 +12,7 @@ use schedule::Choice;
 use std::alloc::{AllocError, Global};
 use timeline::edge_at;
 use watch::{Halt, WatchFault, Watcher, follow_watched};
-use words::{Entry, HartId, Sink, SinkFault, Step};
+use words::{Entry, Sink, SinkFault, Step};
 
 /// Notes steps as rows.
 #[derive(Clone, Copy, Debug)]
@@ -47,16 +47,6 @@ impl<const SETS: usize, const WAYS: usize> Watcher<Machine<SETS, WAYS>, Vec<Row>
             Ok(()) => Ok(()),
             Err(_) => Err(WatchFault),
         }
-    }
-
-    fn note_plain(
-        &self,
-        _sent: u64,
-        _hart: HartId,
-        _machine: &Machine<SETS, WAYS>,
-        _log: &mut Vec<Row>,
-    ) -> Result<(), WatchFault> {
-        Err(WatchFault)
     }
 }
 

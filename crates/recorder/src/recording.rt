@@ -9,7 +9,7 @@ use machine::Machine;
 use network::Flight;
 use schedule::Choice;
 use watch::{Halt, WatchFault, Watcher, follow_watched};
-use words::{Entry, HartId, Sink, Step};
+use words::{Entry, Sink, Step};
 
 /// Notes the entries of steps in a sink, as lines.
 #[derive(Clone, Copy, Debug)]
@@ -36,16 +36,6 @@ impl<M, S: Sink> Watcher<M, S> for Recorder {
             Ok(()) => Ok(()),
             Err(_) => Err(WatchFault),
         }
-    }
-
-    fn note_plain(
-        &self,
-        _sent: u64,
-        _hart: HartId,
-        _machine: &M,
-        _log: &mut S,
-    ) -> Result<(), WatchFault> {
-        Err(WatchFault)
     }
 }
 

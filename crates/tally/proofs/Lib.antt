@@ -1,7 +1,7 @@
-mod Adding
 mod Capping
 mod Few
 mod Plain
+mod Running
 mod Sending
 mod Tallying
 mod Zeros

@@ -1,11 +1,12 @@
-ghost use Rattle.std.specs.Prelude.{◌≡◌, ◌<◌, ◌+◌, ◌*◌, ℕ, get_or, OnOk, OnErr};
+ghost use Rattle.std.specs.Prelude.{◌≡◌, ◌<◌, ◌≤◌, ◌+◌, ◌*◌, ℕ, get_or, slice_index};
 ghost use Rattle.words.specs.Limits.{most_harts};
 ghost use Rattle.tally.specs.Kinds.{place_of, count_at, is_count, one_if};
+ghost use Rattle.tally.specs.Traffic.{capped};
 ghost use Rattle.tally.specs.declared.kinds.Kind.{Kind};
+ghost use Rattle.tally.specs.declared.kinds.Kind.TheVariants.{Retired};
 
 use crate::kinds::Kind;
 use std::marker::Model;
-use watch::WatchFault;
 use words::{HARTS, HartId};
 
 /// How many kinds there are.
@@ -55,19 +56,22 @@ impl Counts {
         self.counts[place(hart, kind)]
     }
 
-    /// Counts one more, if the count isn't the greatest already.
-    pub(crate) fn add(&mut self, hart: HartId, kind: Kind) -> Result<(), WatchFault>
-        ensures added { OnOk result ((h : ℕ) (k : Kind) → count_at self.new h k ≡ count_at self.old h k + one_if (is_count h k (hart, kind))) }
-        ensures full { OnErr result (count_at self.old hart kind ≡ 18446744073709551615) }
-        ensures same { OnErr result (self.new ≡ self.old) }
+    /// Counts so many more of a kind, up to the greatest u64.
+    pub(crate) fn add(&mut self, hart: HartId, kind: Kind, number: u64)
+        ensures { (h : ℕ) (k : Kind) → count_at self.old h k ≤ 18446744073709551615 →
+            count_at self.new h k ≡ capped (count_at self.old h k + number * one_if (is_count h k (hart, kind))) }
     {
         let place = place(hart, kind);
-        match self.counts[place].checked_add(1) {
-            Some(count) => {
-                self.counts[place] = count;
-                Ok(())
-            }
-            None => Err(WatchFault),
+        self.counts[place] = self.counts[place].saturating_add(number);
+    }
+
+    /// Counts the words that each hart retired.
+    pub(crate) fn add_retired(&mut self, retired: &[u32; HARTS])
+        ensures { (h : ℕ) (k : Kind) → count_at self.old h k ≤ 18446744073709551615 →
+            count_at self.new h k ≡ capped (count_at self.old h k + slice_index retired.now h * one_if (is_count h k (h, Retired))) }
+    {
+        for i in 0..HARTS {
+            self.add(HartId::new(i as u8), Kind::Retired, u64::from(retired[i]));
         }
     }
 }

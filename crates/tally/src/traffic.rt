@@ -1,8 +1,9 @@
-ghost use Rattle.std.specs.Prelude.{◌≡◌, ◌≤◌, ◌<◌, ◌+◌, ℕ, length, get_or, max, count_by, is_some};
+ghost use Rattle.std.specs.Prelude.{◌≡◌, ◌≤◌, ◌<◌, ◌+◌, ◌*◌, ℕ, length, get_or, max, count_by, is_some};
 ghost use Rattle.tally.specs.Kinds.{one_if};
 ghost use Rattle.tally.specs.Traffic.{capped, figure_at, is_same, sum_at, sum_of_step, was_sent};
 ghost use Rattle.tally.specs.declared.figures.Figure.{Figure as FigureValue};
 ghost use Rattle.tally.specs.declared.figures.Sum.{Sum as SumValue};
+ghost use Rattle.tally.specs.declared.figures.Sum.TheVariants.{Cores};
 
 use crate::figures::{Figure, Sum};
 use machine::Machine;
@@ -42,13 +43,13 @@ impl Traffic {
         }
     }
 
-    /// Counts one more, if the sum isn't the greatest already.
-    fn add(&mut self, sum: Sum)
-        ensures added { (s : SumValue) → sum_at self.new s ≡ capped (sum_at self.old s + one_if (is_same s sum)) }
+    /// Counts so many more, up to the greatest u64.
+    fn add(&mut self, sum: Sum, number: u64)
+        ensures added { (s : SumValue) → sum_at self.new s ≡ capped (sum_at self.old s + number * one_if (is_same s sum)) }
         ensures rest { self.new ≡ record self.old { sums = self.new.sums } }
     {
         let place = sum.place();
-        self.sums[place] = self.sums[place].saturating_add(1);
+        self.sums[place] = self.sums[place].saturating_add(number);
     }
 
     /// Counts the messages that were sent after so many had been, and answers how many are in flight.
@@ -69,7 +70,7 @@ impl Traffic {
             if let Some(flight) = machine.flight(key) {
                 flying += 1;
                 if flight.number >= sent {
-                    self.add(Sum::of_message(&flight.message));
+                    self.add(Sum::of_message(&flight.message), 1);
                 }
             }
         }
@@ -87,10 +88,20 @@ impl Traffic {
         ensures most_in_flight { self.new.most_in_flight ≡ max self.old.most_in_flight (count_by is_some machine.now.flights) }
         ensures most_in_use { self.new.most_in_use ≡ max self.old.most_in_use (length machine.now.directory.kept) }
     {
-        self.add(Sum::of_step(step));
+        self.add(Sum::of_step(step), 1);
         let flying = self.add_sent(sent, machine);
         self.most_in_flight = self.most_in_flight.max(flying);
         self.most_in_use = self.most_in_use.max(machine.used());
+    }
+
+    /// Counts so many steps of cores that sent nothing while nothing was in flight, with so many entries of the directory in use behind each.
+    pub(crate) fn note_plain(&mut self, turns: u32, used: usize)
+        ensures sums { (s : SumValue) → sum_at self.new s ≡ capped (sum_at self.old s + turns * one_if (is_same s Cores)) }
+        ensures most_in_flight { self.new.most_in_flight ≡ self.old.most_in_flight }
+        ensures most_in_use { self.new.most_in_use ≡ max self.old.most_in_use used }
+    {
+        self.add(Sum::Cores, u64::from(turns));
+        self.most_in_use = self.most_in_use.max(used);
     }
 }
 

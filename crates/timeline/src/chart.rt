@@ -17,7 +17,7 @@ use network::Flight;
 use schedule::Choice;
 use texts::put_all;
 use watch::{Halt, WatchFault, Watcher, follow_watched};
-use words::{Entry, HartId, Sink, SinkFault, Step};
+use words::{Entry, Sink, SinkFault, Step};
 
 /// A sink that a timeline is put into, and the time of the next step.
 #[derive(Drop)]
@@ -73,16 +73,6 @@ impl<const SETS: usize, const WAYS: usize, S: Sink> Watcher<Machine<SETS, WAYS>,
             }
             Err(_) => Err(WatchFault),
         }
-    }
-
-    fn note_plain(
-        &self,
-        _sent: u64,
-        _hart: HartId,
-        _machine: &Machine<SETS, WAYS>,
-        _log: &mut Chart<S>,
-    ) -> Result<(), WatchFault> {
-        Err(WatchFault)
     }
 }
 

@@ -1,3 +1,3 @@
 pub mod Moments
-mod Watching
+pub mod Watching
 pub mod Lengths

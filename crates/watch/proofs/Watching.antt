@@ -32,7 +32,7 @@ pub record HasMade (g : Geometry) (all : List Choice) (k : ℕ) (v w : State) (a
   pub goes_on : (m : ℕ) (more : List Moment) (z : State) → FollowsBy g (drop k all) m w after more z → FollowsBy g all (k + m) v ((setting_of v).count - 1) (ms ++ more) z
   pub carry : CarryAll g v (entries_of ms) w
 
-made_none : (g : Geometry) (all : List Choice) (v : State) → HasMade g all 0 v v ((setting_of v).count - 1) []
+pub made_none : (g : Geometry) (all : List Choice) (v : State) → HasMade g all 0 v v ((setting_of v).count - 1) []
 made_none g all v = record {
   goes_on = λ m more z follows. let count : m ≡ 0 + m = omega arith in subst (λ (n : ℕ). FollowsBy g all n v ((setting_of v).count - 1) more z) count follows;
   carry = λ f b. (f, refl, b);
@@ -55,14 +55,14 @@ made_more g all k v u w after next ms step e before made onward = record {
 }
 
 -- one more choice, and one more turn behind the choices
-made_choice : (g : Geometry) (all : List Choice) (k : ℕ) (v u w : State) (after : ℕ) (ms : List Moment) (c : Choice) (step : Option Step) (e : Option Entry) → k < length all → c ≡ get_or all k c
+pub made_choice : (g : Geometry) (all : List Choice) (k : ℕ) (v u w : State) (after : ℕ) (ms : List Moment) (c : Choice) (step : Option Step) (e : Option Entry) → k < length all → c ≡ get_or all k c
     → HasMade g all k v u after ms → IsStepOf g.sets u after c step → Makes g u step e w → HasMade g all (k + 1) v w (last_after step after) (ms ++ moments u step e w)
 made_choice g all k v u w after ms c step e inside is before chosen made =
     let here : drop k all ≡ c ∷ drop (k + 1) all = rw (add-one, drop-cons all k c) (ap (λ d. d ∷ drop (suc k) all) (sym is)) in
     made_more g all k v u w after (last_after step after) ms step e before made
     (λ m more z follows. subst (λ (cs : List Choice). FollowsBy g cs (suc m) u after (moments u step e w ++ more) z) (sym here) (step, e, w, more, chosen, made, follows, refl))
 
-made_turn : (g : Geometry) (all : List Choice) (k : ℕ) (v u w : State) (after : ℕ) (ms : List Moment) (step : Step) (e : Option Entry) → length all ≤ k → HasMade g all k v u after ms
+pub made_turn : (g : Geometry) (all : List Choice) (k : ℕ) (v u w : State) (after : ℕ) (ms : List Moment) (step : Step) (e : Option Entry) → length all ≤ k → HasMade g all k v u after ms
     → IsNextTurn (shown g.sets u) u.flights after (Some step) → Makes g u (Some step) e w → HasMade g all (k + 1) v w (hart_after step after) (ms ++ moment u step e w ∷ [])
 made_turn g all k v u w after ms step e end before next made =
     made_more g all k v u w after (hart_after step after) ms (Some step) e before made
@@ -76,7 +76,7 @@ rest_idle g [] w after = (refl, refl)
 rest_idle g (c ∷ cs) w after = (refl, refl)
 
 -- the steps made so far
-played : (g : Geometry) (all : List Choice) (k : ℕ) (v w : State) (after : ℕ) (ms : List Moment) → HasMade g all k v w after ms → PlaysWith g all k v ms w
+pub played : (g : Geometry) (all : List Choice) (k : ℕ) (v w : State) (after : ℕ) (ms : List Moment) → HasMade g all k v w after ms → PlaysWith g all k v ms w
 played g all k v w after ms made = (follows, made.carry)
   where
     follows : FollowsBy g all k v ((setting_of v).count - 1) ms w
@@ -90,7 +90,7 @@ no_turns g zero w after none = (refl, refl)
 no_turns g (suc m) w after none = inl (none, refl, refl)
 
 -- the same where there is no further turn
-played_idle : (g : Geometry) (all : List Choice) (k n : ℕ) (v w : State) (after : ℕ) (ms : List Moment) → length all ≤ k → k ≤ n → HasMade g all k v w after ms
+pub played_idle : (g : Geometry) (all : List Choice) (k n : ℕ) (v w : State) (after : ℕ) (ms : List Moment) → length all ≤ k → k ≤ n → HasMade g all k v w after ms
     → IsNextTurn (shown g.sets w) w.flights after None → PlaysWith g all n v ms w
 played_idle g all k n v w after ms end within made none = (follows, made.carry)
   where

@@ -9,7 +9,6 @@ use Rattle.flat.specs.Steps.{IsRun}
 use Rattle.protocol.specs.Caches.{Geometry}
 use Rattle.isolation.specs.Belongs.{Belongs}
 use Rattle.machine.specs.States.{State, setting_of, shown}
-use Rattle.machine.specs.Turns.{IsNextTurn, hart_after}
 use Rattle.schedule.specs.declared.choices.Choice.{Choice}
 use Rattle.schedule.specs.Follows.{Makes}
 use Rattle.watch.specs.Moments.{Moment, moment, moments, entries_of, FollowsBy}
@@ -34,13 +33,6 @@ MakesWatched notes g v step w x y = (e : Option Entry) × Makes g v step e w × 
 abbrev pub StopsAt : {L : Type 0} → (L → Moment → L → Type 0) → Geometry → State → Option Step → State → L → L → Halt → Type 0
 StopsAt misses g v step w x y NoMemory = (w ≡ v) × (y ≡ x)
 StopsAt misses g v step w x y Untold = (s : Step) × (e : Option Entry) × (step ≡ Some s) × Makes g v step e w × misses x (moment v s e w) y
-
--- the turn after a hart's was taken, and its moment noted: the last core step was then this hart's; or it was not noted
-abbrev pub TakesWatched : {L : Type 0} → (L → Moment → L → Type 0) → Geometry → State → ℕ → State → L → L → ℕ → Type 0
-TakesWatched notes g v after w x y next = (step : Step) × IsNextTurn (shown g.sets v) v.flights after (Some step) × MakesWatched notes g v (Some step) w x y × (next ≡ hart_after step after)
-
-abbrev pub TurnStops : {L : Type 0} → (L → Moment → L → Type 0) → Geometry → State → ℕ → State → L → L → Halt → Type 0
-TurnStops misses g v after w x y halt = (step : Step) × IsNextTurn (shown g.sets v) v.flights after (Some step) × StopsAt misses g v (Some step) w x y halt
 
 -- n steps by a schedule were made, and their moments were noted, all of them and in order
 abbrev pub IsWatched : {L : Type 0} → (L → Moment → L → Type 0) → Geometry → List Choice → ℕ → State → State → L → L → Type 0

@@ -1,15 +1,14 @@
-ghost use Rattle.std.specs.Prelude.{◌≡◌, ℕ, Option, Some, None, MatchOption, MatchResult, IsTrue};
+ghost use Rattle.std.specs.Prelude.{◌≡◌, Option, Some, MatchResult};
 ghost use Rattle.words.specs.declared.entry.Step.{Step as StepValue};
-ghost use Rattle.machine.specs.States.{geometry, shown};
-ghost use Rattle.machine.specs.Turns.{IsCalm, IsNextTurn};
+ghost use Rattle.machine.specs.States.{geometry};
 ghost use Rattle.schedule.specs.Follows.{last_after};
 ghost use Rattle.schedule.specs.Steps.{IsStepOf};
 ghost use Rattle.watch.specs.Moments.{arrival_of};
-ghost use Rattle.watch.specs.Watched.{by_parts, MakesWatched, StopsAt, TakesWatched, TurnStops, IsWatched, IsHalted};
+ghost use Rattle.watch.specs.Watched.{by_parts, MakesWatched, StopsAt, IsWatched, IsHalted};
 
 use crate::halt::Halt;
 use crate::watcher::Watcher;
-use machine::{Machine, Turned, hart_after};
+use machine::{Machine, hart_after};
 use network::Flight;
 use schedule::Choice;
 use words::{HartId, Step};
@@ -64,78 +63,6 @@ fn choose<const SETS: usize, const WAYS: usize, L, W: Watcher<Machine<SETS, WAYS
     Ok(hart_after(&step, last))
 }
 
-/// The turn after a hart's, where the machine is calm and the hart with the next number retires a plain word quickly, noted by a watcher. It answers how
-/// that left the machine. It may decline any turn, which gives `None`, and nothing changes.
-#[inline(always)]
-fn skim<const SETS: usize, const WAYS: usize, L, W: Watcher<Machine<SETS, WAYS>, L>>(
-    machine: &mut Machine<SETS, WAYS>,
-    last: HartId,
-    watcher: &W,
-    log: &mut L,
-) -> Result<Option<Turned>, Halt>
-    requires calm { IsCalm SETS machine.old }
-    requires skims { W.skims watcher.now }
-    ensures { MatchResult result
-        (λ turned. MatchOption turned ((machine.new ≡ machine.old) × (log.new ≡ log.old))
-        (λ next. TakesWatched (by_parts (W.notes watcher.now)) (geometry SETS WAYS) machine.old last machine.new log.old log.new next.hart × (IsTrue next.calm → IsCalm SETS machine.new)))
-        (TurnStops (by_parts (W.misses watcher.now)) (geometry SETS WAYS) machine.old last machine.new log.old log.new) }
-{
-    let sent = machine.sent();
-    let Some(next) = machine.plain_turn(last) else {
-        return Ok(None);
-    };
-    watcher.note_plain(sent, next.hart, machine, log)?;
-    Ok(Some(next))
-}
-
-/// The turn after a hart's, noted by a watcher. It answers how that left the machine; `None`, and nothing changes, where there is no turn.
-#[inline(never)]
-fn turn<const SETS: usize, const WAYS: usize, L, W: Watcher<Machine<SETS, WAYS>, L>>(
-    machine: &mut Machine<SETS, WAYS>,
-    last: HartId,
-    watcher: &W,
-    log: &mut L,
-) -> Result<Option<Turned>, Halt>
-    ensures { MatchResult result
-        (λ turned. MatchOption turned (IsNextTurn (shown SETS machine.old) machine.old.flights last None × (machine.new ≡ machine.old) × (log.new ≡ log.old))
-        (λ next. TakesWatched (by_parts (W.notes watcher.now)) (geometry SETS WAYS) machine.old last machine.new log.old log.new next.hart
-        × (IsTrue next.calm → IsCalm SETS machine.new × W.skims watcher.now)))
-        (TurnStops (by_parts (W.misses watcher.now)) (geometry SETS WAYS) machine.old last machine.new log.old log.new) }
-{
-    let Some(step) = machine.next_turn(last) else {
-        return Ok(None);
-    };
-    show(machine, step, watcher, log)?;
-    Ok(Some(Turned {
-        hart: hart_after(&step, last),
-        calm: watcher.can_skim() && machine.is_calm(),
-    }))
-}
-
-/// The same, after a turn of which it may be known that it left the machine calm.
-#[inline(always)]
-fn next<const SETS: usize, const WAYS: usize, L, W: Watcher<Machine<SETS, WAYS>, L>>(
-    machine: &mut Machine<SETS, WAYS>,
-    last: Turned,
-    watcher: &W,
-    log: &mut L,
-) -> Result<Option<Turned>, Halt>
-    requires { IsTrue last.calm → IsCalm SETS machine.old × W.skims watcher.now }
-    ensures { MatchResult result
-        (λ turned. MatchOption turned (IsNextTurn (shown SETS machine.old) machine.old.flights last.hart None × (machine.new ≡ machine.old) × (log.new ≡ log.old))
-        (λ next. TakesWatched (by_parts (W.notes watcher.now)) (geometry SETS WAYS) machine.old last.hart machine.new log.old log.new next.hart
-        × (IsTrue next.calm → IsCalm SETS machine.new × W.skims watcher.now)))
-        (TurnStops (by_parts (W.misses watcher.now)) (geometry SETS WAYS) machine.old last.hart machine.new log.old log.new) }
-{
-    if !last.calm {
-        return turn(machine, last.hart, watcher, log);
-    }
-    match skim(machine, last.hart, watcher, log)? {
-        Some(next) => Ok(Some(next)),
-        None => turn(machine, last.hart, watcher, log),
-    }
-}
-
 /// The choices in order, so many at most, and turns behind the last of them, as [`schedule::follow`] makes them; and what each step did is
 /// noted by a watcher before the next step.
 ///
@@ -159,15 +86,12 @@ pub fn follow_watched<const SETS: usize, const WAYS: usize, L, W: Watcher<Machin
         last = choose(machine, choice, last, watcher, log)?;
         left -= 1;
     }
-    let mut last = Turned {
-        hart: last,
-        calm: false,
-    };
     for _ in 0..left {
-        match next(machine, last, watcher, log)? {
-            None => return Ok(()),
-            Some(next) => last = next,
-        }
+        let Some(step) = machine.next_turn(last) else {
+            return Ok(());
+        };
+        show(machine, step, watcher, log)?;
+        last = hart_after(&step, last);
     }
     Ok(())
 }

@@ -1,12 +1,10 @@
-ghost use Rattle.std.specs.Prelude.{ℕ, Option, Some, None, OnOk, OnErr, IsTrue};
+ghost use Rattle.std.specs.Prelude.{ℕ, Option, OnOk, OnErr};
 ghost use Rattle.words.specs.declared.entry.Entry.{Entry as EntryValue};
 ghost use Rattle.words.specs.declared.entry.Step.{Step as StepValue};
-ghost use Rattle.words.specs.declared.entry.Step.TheVariants.{Core};
-ghost use Rattle.hart.specs.Locals.{RetiresPlain};
 ghost use Rattle.network.specs.declared.net.Flight.{Flight as FlightValue};
 
 use network::Flight;
-use words::{Entry, HartId, Step};
+use words::{Entry, Step};
 
 /// A watcher could not do its part.
 #[derive(Clone, Copy, Debug, PartialEq, Eq)]
@@ -21,9 +19,6 @@ pub trait Watcher<M, L> {
     /// This moment could not be noted.
     ghost misses: { Self → L → ℕ → StepValue → Option FlightValue → Option EntryValue → M → L → Type 0 };
 
-    /// It can note that a hart retired a plain word, whatever the word's entry.
-    ghost skims: { Self → Type 0 } = { λ _. ⊥ };
-
     fn note(
         &self,
         sent: u64,
@@ -35,23 +30,4 @@ pub trait Watcher<M, L> {
     ) -> Result<(), WatchFault>
         ensures noted { OnOk result (notes self.now log.old sent step.now arrival.now entry.now machine.now log.new) }
         ensures missed { OnErr result (misses self.now log.old sent step.now arrival.now entry.now machine.now log.new) };
-
-    /// Whether [`Watcher::note_plain`] may be called.
-    fn can_skim(&self) -> bool
-        ensures { IsTrue result → skims self.now }
-    {
-        false
-    }
-
-    /// Notes the moment of a step in which a hart retired a plain word. Such steps are made faster without their entries. It is called of a watcher that
-    /// skims, and of no other, which promises nothing of it.
-    fn note_plain(
-        &self,
-        sent: u64,
-        hart: HartId,
-        machine: &M,
-        log: &mut L,
-    ) -> Result<(), WatchFault>
-        ensures noted { OnOk result (skims self.now → (e : EntryValue) → RetiresPlain hart e → notes self.now log.old sent (Core hart) None (Some e) machine.now log.new) }
-        ensures missed { OnErr result (skims self.now → (e : EntryValue) → RetiresPlain hart e → misses self.now log.old sent (Core hart) None (Some e) machine.now log.new) };
 }

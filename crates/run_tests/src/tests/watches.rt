@@ -47,16 +47,6 @@ impl<M> Watcher<M, Words> for Collector {
             _ => Ok(()),
         }
     }
-
-    fn note_plain(
-        &self,
-        _sent: u64,
-        _hart: HartId,
-        _machine: &M,
-        _log: &mut Words,
-    ) -> Result<(), WatchFault> {
-        Err(WatchFault)
-    }
 }
 
 /// How a watched run of the program ended, and what it left.

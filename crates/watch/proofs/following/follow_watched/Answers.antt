@@ -1,9 +1,7 @@
-use Rattle.std.proofs.Common.{◌≡◌, ◌<◌, ◌≤◌, ◌+◌, ◌-◌, ℕ, length, arith, sym, subst, subst₂}
+use Rattle.std.proofs.Common.{◌≡◌, ◌<◌, ◌≤◌, ◌+◌, ◌-◌, ℕ, length, arith, sym, subst}
 use Rattle.std.proofs.lemmas.Result.{err_from_is_err_and}
-use Rattle.std.specs.Prelude.{MatchOption, IsTrue, None}
-use Rattle.machine.specs.States.{geometry, shown}
-use Rattle.machine.specs.Turns.{IsCalm, IsNextTurn}
-use Rattle.watch.specs.Watched.{IsWatched, TakesWatched, by_parts}
+use Rattle.machine.specs.States.{geometry}
+use Rattle.watch.specs.Watched.{IsWatched, by_parts}
 use Rattle.watch.proofs.Watching.{HasNoted, noted_none, noted_choice, noted_turn, noted_all, noted_idle, stopped_choice, stopped_turn}
 use Rattle.watch.proofs.following.follow_watched.Goals as goal
 
@@ -50,53 +48,41 @@ loop-init g c =
           so_many c.loop-choice.invariant.0,
       omega (arith, c.loop-choice.invariant.1, c.loop-choice-test.false),
       omega (arith, c.loop-choice.invariant.1),
-      λ calm. absurd (cc),
     )
 
 -- there is no further turn
-pub returns-in-None : goal.returns-in-None
-returns-in-None g c =
+pub returns-in_default : goal.returns-in_default
+returns-in_default g c =
     let watcher = c.args.watcher.now in
-    let notes = by_parts (g.W.Watcher.notes watcher) in
-    let G = geometry g.row.SETS g.row.WAYS in
     let k = c.args.steps - c.loop-choice.left + c.loop.counter in
     let end : length c.args.choices.now ≤ k = omega (arith, c.loop.invariant.1) in
     let within : k ≤ c.args.steps = omega (arith, c.loop.invariant.2, c.loop-test.true) in
-    let idle = subst (λ t. MatchOption t (IsNextTurn (shown g.row.SETS c.loop.machine) c.loop.machine.flights c.loop.last.hart None × (c.next.new.machine ≡ c.loop.machine) × (c.next.new.log ≡ c.loop.log))
-    (λ next. TakesWatched notes G c.loop.machine c.loop.last.hart c.next.new.machine c.loop.log c.next.new.log next.hart × (IsTrue next.calm → IsCalm g.row.SETS c.next.new.machine × g.W.Watcher.skims watcher))) c.in-None.is c.in_ok-next.ensures in
-    subst₂ (λ m l. IsWatched notes G c.args.choices.now c.args.steps c.args.machine.now m c.args.log.now l) (sym idle.1) (sym idle.2)
-    (noted_idle notes (by_parts (g.W.Watcher.misses watcher)) G c.args.choices.now k c.args.steps c.args.machine.now c.loop.machine c.loop.last.hart c.args.log.now c.loop.log end within c.loop.invariant.0 idle.0)
+    noted_idle (by_parts (g.W.Watcher.notes watcher)) (by_parts (g.W.Watcher.misses watcher)) (geometry g.row.SETS g.row.WAYS) c.args.choices.now k c.args.steps c.args.machine.now c.loop.machine c.loop.last c.args.log.now c.loop.log end within c.loop.invariant.0
+    c.in_default.ensures
 
-pub returns-in_err-next : goal.returns-in_err-next
-returns-in_err-next g c =
+pub returns-in_err-show : goal.returns-in_err-show
+returns-in_err-show g c =
     let watcher = c.args.watcher.now in
-    let p = err_from_is_err_and c.from_residual-in_err-next.result c.from_residual-in_err-next.ensures.1 in
+    let p = err_from_is_err_and c.from_residual-in_err-show.result c.from_residual-in_err-show.ensures.1 in
     let k = c.args.steps - c.loop-choice.left + c.loop.counter in
     let end : length c.args.choices.now ≤ k = omega (arith, c.loop.invariant.1) in
     let less : k < c.args.steps = omega (arith, c.loop.invariant.2, c.loop-test.true) in
-    let stopped = c.in_err-next.ensures in
-    rw (p.1, p.2) (stopped_turn (by_parts (g.W.Watcher.notes watcher)) (by_parts (g.W.Watcher.misses watcher)) (geometry g.row.SETS g.row.WAYS) c.args.choices.now k c.args.steps c.args.machine.now c.loop.machine c.next.new.machine
-    c.loop.last.hart stopped.0 c.args.log.now c.loop.log c.next.new.log _ end less c.loop.invariant.0 stopped.1 stopped.2)
+    rw (p.1, p.2) (stopped_turn (by_parts (g.W.Watcher.notes watcher)) (by_parts (g.W.Watcher.misses watcher)) (geometry g.row.SETS g.row.WAYS) c.args.choices.now k c.args.steps c.args.machine.now c.loop.machine c.show.new.machine
+    c.loop.last c.in-Some.step c.args.log.now c.loop.log c.show.new.log _ end less c.loop.invariant.0 c.in-Some.ensures c.in_err-show.ensures)
 
 pub loop-preserved : goal.loop-preserved
 loop-preserved g c =
     let watcher = c.args.watcher.now in
     let G = geometry g.row.SETS g.row.WAYS in
-    let notes = by_parts (g.W.Watcher.notes watcher) in
-    let misses = by_parts (g.W.Watcher.misses watcher) in
     let k = c.args.steps - c.loop-choice.left + c.loop.counter in
     let end : length c.args.choices.now ≤ k = omega (arith, c.loop.invariant.1) in
-    let more : k + 1 ≡ c.args.steps - c.loop-choice.left + (c.loop.counter + 1) = omega arith in
-    let taken = subst (λ t. MatchOption t (IsNextTurn (shown g.row.SETS c.loop.machine) c.loop.machine.flights c.loop.last.hart None × (c.next.new.machine ≡ c.loop.machine) × (c.next.new.log ≡ c.loop.log))
-    (λ next. TakesWatched notes G c.loop.machine c.loop.last.hart c.next.new.machine c.loop.log c.next.new.log next.hart × (IsTrue next.calm → IsCalm g.row.SETS c.next.new.machine × g.W.Watcher.skims watcher))) c.in-Some.is c.in_ok-next.ensures in
-    let turn = taken.0 in (
-      subst (λ (n : ℕ). HasNoted notes misses G c.args.choices.now n c.args.machine.now c.next.new.machine c.in-Some.next.hart c.args.log.now c.next.new.log) more
-          (subst (λ (i : ℕ). HasNoted notes misses G c.args.choices.now (k + 1) c.args.machine.now c.next.new.machine i c.args.log.now c.next.new.log) (sym turn.3)
-          (noted_turn notes misses G c.args.choices.now k c.args.machine.now c.loop.machine c.next.new.machine c.loop.last.hart turn.0 c.args.log.now c.loop.log c.next.new.log
-          end c.loop.invariant.0 turn.1 turn.2)),
+    let more : k + 1 ≡ c.args.steps - c.loop-choice.left + (c.loop.counter + 1) = omega arith in (
+      subst (λ (n : ℕ). HasNoted (by_parts (g.W.Watcher.notes watcher)) (by_parts (g.W.Watcher.misses watcher)) G c.args.choices.now n c.args.machine.now c.show.new.machine c.hart_after-last.result c.args.log.now c.show.new.log) more
+          (subst (λ (i : ℕ). HasNoted (by_parts (g.W.Watcher.notes watcher)) (by_parts (g.W.Watcher.misses watcher)) G c.args.choices.now (k + 1) c.args.machine.now c.show.new.machine i c.args.log.now c.show.new.log) (sym c.hart_after-last.ensures)
+          (noted_turn (by_parts (g.W.Watcher.notes watcher)) (by_parts (g.W.Watcher.misses watcher)) G c.args.choices.now k c.args.machine.now c.loop.machine c.show.new.machine c.loop.last c.in-Some.step c.args.log.now c.loop.log c.show.new.log
+          end c.loop.invariant.0 c.in-Some.ensures c.in_ok-show.ensures)),
       c.loop.invariant.1,
       c.loop.invariant.2,
-      taken.1,
     )
 
 pub returns : goal.returns
@@ -106,4 +92,4 @@ returns g c =
     let k = c.args.steps - c.loop-choice.left + c.loop.counter in
     let all : k ≡ c.args.steps = omega (arith, c.loop.invariant.2, c.loop-test.false) in
     subst (λ (n : ℕ). IsWatched (by_parts (g.W.Watcher.notes watcher)) G c.args.choices.now n c.args.machine.now c.loop.machine c.args.log.now c.loop.log) all
-    (noted_all (by_parts (g.W.Watcher.notes watcher)) (by_parts (g.W.Watcher.misses watcher)) G c.args.choices.now k c.args.machine.now c.loop.machine c.loop.last.hart c.args.log.now c.loop.log c.loop.invariant.0)
+    (noted_all (by_parts (g.W.Watcher.notes watcher)) (by_parts (g.W.Watcher.misses watcher)) G c.args.choices.now k c.args.machine.now c.loop.machine c.loop.last c.args.log.now c.loop.log c.loop.invariant.0)

@@ -1,6 +1,5 @@
-use Rattle.std.proofs.Common.{◌≡◌, ◌≤◌, ◌+◌, ◌-◌, IsTrue, length}
+use Rattle.std.proofs.Common.{◌≡◌, ◌≤◌, ◌+◌, ◌-◌, length}
 use Rattle.machine.specs.States.{geometry}
-use Rattle.machine.specs.Turns.{IsCalm}
 use Rattle.watch.specs.Watched.{by_parts}
 use Rattle.watch.proofs.Watching.{HasNoted}
 use Rattle.watch.proofs.following.follow_watched.Given as goal
@@ -14,5 +13,5 @@ invariant-loop-choice g l =
 -- all of them were made, and then turns
 abbrev pub invariant-loop : goal.invariant-loop
 invariant-loop g l =
-    HasNoted (by_parts (g.W.Watcher.notes l.watcher)) (by_parts (g.W.Watcher.misses l.watcher)) (geometry g.row.SETS g.row.WAYS) l.choices (l.steps - l.left + l.counter) l.fn.machine l.machine l.last.hart l.fn.log l.log
-    × (length l.choices ≤ l.steps - l.left) × (l.left ≤ l.steps) × (IsTrue l.last.calm → IsCalm g.row.SETS l.machine × g.W.Watcher.skims l.watcher)
+    HasNoted (by_parts (g.W.Watcher.notes l.watcher)) (by_parts (g.W.Watcher.misses l.watcher)) (geometry g.row.SETS g.row.WAYS) l.choices (l.steps - l.left + l.counter) l.fn.machine l.machine l.last l.fn.log l.log
+    × (length l.choices ≤ l.steps - l.left) × (l.left ≤ l.steps)

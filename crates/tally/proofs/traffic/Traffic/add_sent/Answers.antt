@@ -1,4 +1,4 @@
-use Rattle.std.proofs.Common.{◌≡◌, ◌+◌, take, refl, sym, ap, ◌∙◌, arith, subst}
+use Rattle.std.proofs.Common.{◌≡◌, ◌+◌, ◌*◌, take, refl, sym, ap, ◌∙◌, arith, subst}
 use Rattle.std.specs.Prelude.{count_by, is_some}
 use Rattle.tally.specs.Kinds.{one_if}
 use Rattle.tally.specs.Traffic.{capped, is_same, sum_at, was_sent}
@@ -27,7 +27,8 @@ loop-key-preserved g c =
           let is = sym c.flight.ensures ∙ w.in-Some.is in
           let more = flies flights key w.in-Some.flight is in (
             λ s low.
-                let added = w.add.ensures.added s in
+                let one : 1 * one_if (is_same s w.of_message.result) ≡ one_if (is_same s w.of_message.result) = omega arith in
+                let added = w.add.ensures.added s ∙ ap (λ n. capped (sum_at c.loop-key.self s + n)) one in
                 let counted = subst (λ x. sum_at w.add.new.self s ≡ capped (sum_at c.loop-key.self s + one_if (is_same s x))) w.of_message.ensures added in
                 subst (λ t. sum_at t s ≡ capped (sum_at c.args.self.now s + count_by (was_sent c.args.sent s) (take (key + 1) flights))) (sym w.self-is)
                 (one_sent c.args.sent s flights key w.in-Some.flight (sum_at c.args.self.now s) (sum_at c.loop-key.self s) (sum_at w.add.new.self s) is w.if-flight-sent.true (inv.0 s low) counted),
