@@ -1,6 +1,7 @@
 use crate::threads::{run_kept, run_threaded};
 use command_line::{Debug, Order, Request, Run, Shown, Target, Threaded, View, parse};
 use console::LineInput;
+use machine::Progress;
 use simulate::Fault;
 use simulate::debugging::play;
 use simulate::perform::perform;
@@ -15,13 +16,24 @@ use words::{Counted, Sink};
 
 /// Answers the words of a command line, the program's name first: reads the files that it names, has the order performed, and writes the
 /// file that it asks for; or has the lines of an input debug a program, each asked for by a prompt. It gives the status that the program ends with.
+///
+/// Progress is told of a run whose trace doesn't go to standard output, and whose harts don't run in threads.
 pub fn answer<
     R: Files + Threads + Wait + Sync + AllocGlobal,
     I: LineInput,
+    P: Progress,
     W: Write + Drop,
     E: Sink,
->(rt: &R, words: &[&str], input: &mut I, prompt: &str, out: W, error: &mut E) -> u8 {
-    match try_answer(rt, words, input, prompt, out, error) {
+>(
+    rt: &R,
+    words: &[&str],
+    input: &mut I,
+    prompt: &str,
+    progress: &mut P,
+    out: W,
+    error: &mut E,
+) -> u8 {
+    match try_answer(rt, words, input, prompt, progress, out, error) {
         Ok(status) => status,
         Err(fault) => fault.tell(error),
     }
@@ -32,6 +44,7 @@ fn try_answer<
     'a,
     R: Files + Threads + Wait + Sync + AllocGlobal,
     I: LineInput,
+    P: Progress,
     W: Write + Drop,
     E: Sink,
 >(
@@ -39,12 +52,13 @@ fn try_answer<
     words: &'a [&'a str],
     input: &mut I,
     prompt: &str,
+    progress: &mut P,
     out: W,
     error: &mut E,
 ) -> Result<u8, Fault<'a>> {
     match parse(rt.alloc(), words)? {
-        Request::Order(order) => carry_out(rt, &order, out, error),
-        Request::Shown(shown) => show(rt, &shown, out, error),
+        Request::Order(order) => carry_out(rt, &order, progress, out, error),
+        Request::Shown(shown) => show(rt, &shown, progress, out, error),
         Request::Threaded(threaded) => run_in_threads(rt, &threaded, out, error),
         Request::Debug(debug) => debug_file(rt, &debug, input, prompt, out, error),
     }
@@ -73,9 +87,10 @@ fn debug_file<'a, R: Files + AllocGlobal, I: LineInput, W: Write + Drop, E: Sink
 }
 
 /// Has an order performed, and writes the file that it asks for.
-fn carry_out<'a, R: Files + AllocGlobal, W: Write + Drop, E: Sink>(
+fn carry_out<'a, R: Files + AllocGlobal, P: Progress, W: Write + Drop, E: Sink>(
     rt: &R,
     order: &Order<'a>,
+    progress: &mut P,
     out: W,
     error: &mut E,
 ) -> Result<u8, Fault<'a>> {
@@ -83,7 +98,15 @@ fn carry_out<'a, R: Files + AllocGlobal, W: Write + Drop, E: Sink>(
     let list = read_if_any(rt, order.schedule())?;
     let writer = buffered(rt, out)?;
     let mut out = Counted { writer, failed: 0 };
-    let outcome = perform(rt.alloc(), order, &bytes, &list, &mut out, error);
+    let outcome = perform(
+        rt.alloc(),
+        order,
+        &bytes,
+        &list,
+        progress,
+        &mut out,
+        error,
+    );
     let Counted {
         mut writer,
         failed: _,
@@ -99,9 +122,10 @@ fn carry_out<'a, R: Files + AllocGlobal, W: Write + Drop, E: Sink>(
 }
 
 /// Has a run performed, and what is shown of it written to where it is to go.
-fn show<'a, R: Files + AllocGlobal, W: Write + Drop, E: Sink>(
+fn show<'a, R: Files + AllocGlobal, P: Progress, W: Write + Drop, E: Sink>(
     rt: &R,
     shown: &Shown<'a>,
+    progress: &mut P,
     out: W,
     error: &mut E,
 ) -> Result<u8, Fault<'a>> {
@@ -112,13 +136,13 @@ fn show<'a, R: Files + AllocGlobal, W: Write + Drop, E: Sink>(
     match shown.view {
         View::Trace(Target::Output) => trace_out(rt, run, &bytes, &list, writer, error),
         View::Trace(Target::File(path)) => {
-            show_into(rt, run, Form::Trace, path, &bytes, &list, writer, error)
+            show_into(rt, run, Form::Trace, path, &bytes, &list, progress, writer, error)
         }
         View::Timeline(path) => {
-            show_into(rt, run, Form::Timeline, path, &bytes, &list, writer, error)
+            show_into(rt, run, Form::Timeline, path, &bytes, &list, progress, writer, error)
         }
         View::Picture(path) => {
-            show_into(rt, run, Form::Picture, path, &bytes, &list, writer, error)
+            show_into(rt, run, Form::Picture, path, &bytes, &list, progress, writer, error)
         }
     }
 }
@@ -139,13 +163,14 @@ fn trace_out<'a, R: AllocGlobal, W: Write + Drop, E: Sink>(
 }
 
 /// The same where it goes to a file, which is made before the program is booted.
-fn show_into<'a, R: Files + AllocGlobal, W: Write + Drop, E: Sink>(
+fn show_into<'a, R: Files + AllocGlobal, P: Progress, W: Write + Drop, E: Sink>(
     rt: &R,
     run: &Run<'a>,
     form: Form,
     path: &'a str,
     bytes: &[u8],
     list: &[u8],
+    progress: &mut P,
     writer: BufWriter<W>,
     error: &mut E,
 ) -> Result<u8, Fault<'a>> {
@@ -162,6 +187,7 @@ fn show_into<'a, R: Files + AllocGlobal, W: Write + Drop, E: Sink>(
         path,
         bytes,
         list,
+        progress,
         &mut chart,
         &mut out,
         error,

@@ -4,6 +4,7 @@
 
 use answering::answer;
 use console::Typed;
+use machine::Silent;
 use std::io::Read;
 use std::rt::Files;
 use std::sync::Wait;
@@ -39,7 +40,15 @@ fn status_of<R: Files + Threads + Wait + Sync + AllocGlobal + Print>(
         writer: io::writer(rt),
         failed: 0,
     };
-    let status = answer(rt, &words, &mut input, "", io::writer(rt), &mut error);
+    let status = answer(
+        rt,
+        &words,
+        &mut input,
+        "",
+        &mut Silent,
+        io::writer(rt),
+        &mut error,
+    );
     let Counted {
         writer: _,
         failed: _,

@@ -2,7 +2,7 @@ use board::{Code, Loan, Refusal};
 use elf_samples::program;
 use history::{History, Unkept, put_history};
 use hub::{Ended, Hub};
-use machine::Machine;
+use machine::{Machine, Silent};
 use schedule::{follow, read};
 use std::process::Abort;
 use std::str;
@@ -80,7 +80,7 @@ fn check_again(
         end.size,
     )?;
     let steps = choices.len().min(STEPS) as u32;
-    follow(&mut machine, &choices, steps)?;
+    follow(&mut machine, &choices, steps, &mut Silent)?;
     for number in 0..8 {
         let hart = HartId::new(number);
         assert_eq!(rt; machine.regs(hart), end.machine.regs(hart));

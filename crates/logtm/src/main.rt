@@ -1,8 +1,9 @@
 //! The program `logtm`: it answers its command line.
 #![tactic(auto)]
 
-use answering::answer;
+use answering::{Meter, answer};
 use console::{LineInput, Typed};
+use machine::Progress;
 use simulate::Fault;
 use std::env;
 use std::io::{ErrorKind, IsTerminal, Lock, Read, Write};
@@ -26,7 +27,23 @@ fn main(rt: HostRuntime) -> ExitCode {
         bytes: rt.stdin().lock().bytes(),
         failed: 0,
     };
-    let status = answer_all(&rt, &mut input, prompt, rt.stdout(), &mut error);
+    let line = Counted {
+        writer: rt.stderr(),
+        failed: 0,
+    };
+    let mut meter = Meter::new(&rt, line, rt.stderr().is_terminal());
+    let status = answer_all(
+        &rt,
+        &mut input,
+        prompt,
+        &mut meter,
+        rt.stdout(),
+        &mut error,
+    );
+    let Counted {
+        writer: _,
+        failed: _,
+    } = meter.into_sink();
     let Counted {
         writer: _,
         failed: _,
@@ -38,16 +55,24 @@ fn main(rt: HostRuntime) -> ExitCode {
 fn answer_all<
     R: Env + Files + Threads + Wait + Sync + AllocGlobal,
     I: LineInput,
+    P: Progress,
     W: Write + Drop,
     E: Sink,
->(rt: &R, input: &mut I, prompt: &str, out: W, error: &mut E) -> u8 {
+>(
+    rt: &R,
+    input: &mut I,
+    prompt: &str,
+    progress: &mut P,
+    out: W,
+    error: &mut E,
+) -> u8 {
     let arguments = match arguments(rt) {
         Ok(arguments) => arguments,
         Err(fault) => return fault.tell(error),
     };
     let words = arguments.iter().map(|argument| argument.as_str());
     match words.collect::<Vec<&str>>(rt.alloc()) {
-        Ok(words) => answer(rt, &words, input, prompt, out, error),
+        Ok(words) => answer(rt, &words, input, prompt, progress, out, error),
         Err(_) => Fault::NoMemory.tell(error),
     }
 }

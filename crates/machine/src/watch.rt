@@ -1,4 +1,4 @@
-ghost use Rattle.std.specs.Prelude.{◌≡◌, ◌↔◌, ℕ, Option, None, is_some, IfOk, IfSome, IfNone, OnErr, IsTrue, MatchBool};
+ghost use Rattle.std.specs.Prelude.{◌≡◌, ℕ, Option, None, is_some, count_by, IfOk, IfSome, IfNone, OnErr, MatchBool};
 ghost use Rattle.std.specs.List.{slice_index_or};
 ghost use Rattle.words.specs.declared.entry.Step.{Step as StepValue};
 ghost use Rattle.words.specs.declared.entry.Step.TheVariants.{Core, Evict};
@@ -36,11 +36,11 @@ impl<const SETS: usize, const WAYS: usize> Machine<SETS, WAYS> {
         }
     }
 
-    /// Whether no message is in flight.
-    pub fn is_quiet(&self) -> bool
-        ensures { IsTrue result ↔ ((key : ℕ) → slice_index_or self.now.flights key None ≡ None) }
+    /// How many messages are in flight.
+    pub fn in_flight(&self) -> usize
+        ensures { result ≡ count_by is_some self.now.flights }
     {
-        self.net.is_empty()
+        self.net.len()
     }
 
     /// The number that the next message gets.

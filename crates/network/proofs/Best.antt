@@ -1,4 +1,4 @@
-use Rattle.std.proofs.Common.{◌≡◌, ℕ, ◌<◌, ◌≤◌, ◌+◌, ◌⊎◌, inl, inr, Bool, true, false, List, Option, Some, None, get_or, length, arith, refl, ap, sym, ◌∙◌, leb, subst, Bor}
+use Rattle.std.proofs.Common.{◌≡◌, ℕ, ◌<◌, ◌≤◌, ◌+◌, ◌⊎◌, inl, inr, Bool, true, false, List, Option, Some, None, get_or, length, arith, refl, ap, sym, ◌∙◌, leb, subst, Bor, true≢false}
 use Rattle.std.proofs.lemmas.Bool.{cases_lt, cases_eq}
 use Rattle.std.proofs.lemmas.Bool.Decides.{nat_tests}
 use Rattle.std.proofs.lemmas.List.{get_or_past}
@@ -6,7 +6,7 @@ use Rattle.std.proofs.lemmas.Option.{same_Some, none-some}
 use Rattle.std.specs.Fn.{FnReturnsAt, Shared}
 use Rattle.words.specs.declared.message.Message.{Message}
 use Rattle.network.specs.declared.net.Flight.{Flight}
-use Rattle.network.specs.Flights.{Flights, IsOldest, first_of}
+use Rattle.network.specs.Flights.{Flights, IsOldest, is_earlier, first_of}
 
 -- what a call by reference gave
 pub told : {F T R : Type 0} (g : Shared F (Bor T × Unit {0}) R) (f : F) (p : Bor T) (r s : R) → g.post f (p, tt) r → r ≡ s → FnReturnsAt g f p.now s
@@ -95,6 +95,34 @@ module _ (Passes Fails : ℕ → Flight → Type 0) (slots : List (Option Flight
           ];
         })
   ]
+
+  -- a key with an earlier message that passes
+  pub IsBest-earlier : (n : ℕ) (best : Option (ℕ × ℕ)) (g : Flight) → IsBest n best → get_or slots n None ≡ Some g → is_earlier g.number best ≡ true → Passes n g → IsBest (n + 1) (Some (n, g.number))
+  IsBest-earlier n None g h at earlier good = IsBest-take n None g h at good
+  IsBest-earlier n (Some best) g h at earlier good =
+      let t : leb best.1 g.number ≡ false = grind (arith, nat_tests, earlier) in
+      let taken : IsBest (n + 1) (first_of (Some best) n g.number) = IsBest-take n (Some best) g h at good in
+      rw t at taken
+
+  -- a key with a later message changes nothing
+  pub IsBest-later : (n : ℕ) (best : Option (ℕ × ℕ)) (g : Flight) → IsBest n best → get_or slots n None ≡ Some g → is_earlier g.number best ≡ false → IsBest (n + 1) best
+  IsBest-later n None g h at later = absurd (true≢false later)
+  IsBest-later n (Some best) g h at later =
+      let behind : best.1 ≤ g.number = grind (arith, nat_tests, later) in
+      record {
+        flight = h.flight;
+        here = h.here;
+        numbered = h.numbered;
+        below = omega arith;
+        passes = h.passes;
+        first = λ other f below there. elim (cases_eq other n) [
+          | inl e ↦
+              let same : g ≡ f = same_Some g f (sym at ∙ (rw e at there)) in
+              let k : g.number ≡ f.number = ap (λ (x : Flight). x.number) same in
+              inr (elim (cases_eq best.1 f.number) [ inl eq ↦ inr (eq, omega arith) | inr ne ↦ inl (omega arith) ])
+          | inr ne ↦ h.first other f (omega arith) there
+        ];
+      }
 
 -- a message lies below the end of the slots
 pub inside : (slots : List (Option Flight)) (key : ℕ) (f : Flight) → get_or slots key None ≡ Some f → key < length slots

@@ -60,6 +60,11 @@ abbrev pub is_after : Option (ℕ × ℕ) → ℕ → ℕ → Bool
 is_after None key number = true
 is_after (Some last) key number = nat_lt last.1 number || ((last.1 == number) && nat_lt last.0 key)
 
+-- whether a number is lower than that of the best so far, a key with its number
+abbrev pub is_earlier : ℕ → Option (ℕ × ℕ) → Bool
+is_earlier number None = true
+is_earlier number (Some best) = nat_lt number best.1
+
 -- of the best so far, a key with its number, and one at a greater key, that which comes first
 abbrev pub first_of : Option (ℕ × ℕ) → ℕ → ℕ → Option (ℕ × ℕ)
 first_of None key number = Some (key, number)

@@ -1,7 +1,7 @@
-ghost use Rattle.std.specs.Prelude.{◌≡◌, ◌≢◌, ◌+◌, ◌<◌, ◌≤◌, ◌↔◌, ℕ, Some, None, min, IsTrue, OnOk, OnErr, IsSome, IfSome, IfNone};
+ghost use Rattle.std.specs.Prelude.{◌≡◌, ◌≢◌, ◌+◌, ◌<◌, ◌≤◌, ◌↔◌, ℕ, Some, None, min, IsTrue, OnOk, OnErr, IsSome, IfSome, IfNone, is_some, count_by};
 ghost use Rattle.std.specs.Fn.{FnReturnsAt};
 ghost use Rattle.std.specs.Option.{option_map};
-ghost use Rattle.network.specs.Flights.{message_at, flight_at, IsOldest, NonePasses, IsNext, NoneAfter, position_of, is_after, first_of};
+ghost use Rattle.network.specs.Flights.{message_at, flight_at, IsOldest, NonePasses, IsNext, NoneAfter, position_of, is_after, is_earlier, first_of};
 ghost use Rattle.slab.specs.Slab.{HasRoomFor, Updates, get, slab_len};
 
 use slab::Slab;
@@ -66,6 +66,13 @@ impl Net {
         ensures { IsTrue result ↔ ((key : ℕ) → flight_at self.now key ≡ None) }
     {
         self.slab.is_empty()
+    }
+
+    /// How many messages are in flight.
+    pub fn len(&self) -> usize
+        ensures { result ≡ count_by is_some self.now.slots }
+    {
+        self.slab.len()
     }
 
     /// A number below which all keys lie that messages have.
@@ -158,8 +165,8 @@ impl Net {
         while key < self.slab.capacity() && left > 0 {
             if let Some(flight) = self.slab.get(key) {
                 left -= 1;
-                if passes(&flight.message) {
-                    best = first_of(best, key, flight.number);
+                if is_earlier(flight.number, best) && passes(&flight.message) {
+                    best = Some((key, flight.number));
                 }
             }
             key += 1;
@@ -220,6 +227,17 @@ fn put<T: Copy>(slab: &mut Slab<T>, item: T) -> usize
     ensures capacity { slab.new.capacity ≡ slab.old.capacity }
 {
     slab.insert_reserved(item)
+}
+
+/// Whether a number is lower than that of the best so far.
+#[inline(always)]
+fn is_earlier(number: u64, best: Option<(usize, u64)>) -> bool
+    ensures { result ≡ is_earlier number best }
+{
+    match best {
+        Some((_, lowest)) => number < lowest,
+        None => true,
+    }
 }
 
 /// Of the best so far and one at a greater key, that which comes first.

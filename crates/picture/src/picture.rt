@@ -6,7 +6,7 @@ ghost use Rattle.picture.specs.Pictures.{IsNoted, IsCut, IsPictured, IsNotPictur
 
 use crate::drawing::put_drawing;
 use crate::row::Row;
-use machine::Machine;
+use machine::{Machine, Silent};
 use network::Flight;
 use schedule::Choice;
 use std::alloc::{AllocError, Global};
@@ -61,7 +61,7 @@ fn noted<const SETS: usize, const WAYS: usize>(
     ensures err { OnErr result (IsCut (geometry SETS WAYS) choices.now steps machine.old machine.new) }
 {
     let mut rows = Vec::with_capacity(alloc, steps as usize)?;
-    match follow_watched(machine, choices, steps, &Noter, &mut rows) {
+    match follow_watched(machine, choices, steps, &Noter, &mut rows, &mut Silent) {
         Ok(()) => Ok(rows),
         Err(Halt::NoMemory) => Err(AllocError),
         Err(Halt::Untold) => unreachable!(),

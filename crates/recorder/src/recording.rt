@@ -5,7 +5,7 @@ ghost use Rattle.machine.specs.States.{geometry};
 ghost use Rattle.recorder.specs.Traces.{line_if, IsTraced, IsCut};
 
 use lines::put_entry;
-use machine::Machine;
+use machine::{Machine, Progress};
 use network::Flight;
 use schedule::Choice;
 use watch::{Halt, WatchFault, Watcher, follow_watched};
@@ -40,19 +40,20 @@ impl<M, S: Sink> Watcher<M, S> for Recorder {
 }
 
 /// The choices in order, so many at most, and turns behind the last of them, as [`schedule::follow`] makes them. The line of each step's entry,
-/// if it gives one, is put before the next step.
+/// if it gives one, is put before the next step. Progress is told on the way.
 ///
 /// If memory runs out, the machine is left where the steps before led, and their lines were put. If a put fails, the step of its line was made,
 /// and a beginning of the lines up to it was taken.
-pub fn put_trace<const SETS: usize, const WAYS: usize, S: Sink>(
+pub fn put_trace<const SETS: usize, const WAYS: usize, S: Sink, P: Progress>(
     machine: &mut Machine<SETS, WAYS>,
     choices: &[Choice],
     steps: u32,
     sink: &mut S,
+    progress: &mut P,
 ) -> Result<(), Halt>
     ensures { MatchResult result
         (λ _. IsTraced (geometry SETS WAYS) choices.now steps machine.old machine.new (S.taken sink.old) (S.taken sink.new) (S.failed sink.old) (S.failed sink.new))
         (IsCut (geometry SETS WAYS) choices.now steps machine.old machine.new (S.taken sink.old) (S.taken sink.new) (S.failed sink.old) (S.failed sink.new)) }
 {
-    follow_watched(machine, choices, steps, &Recorder, sink)
+    follow_watched(machine, choices, steps, &Recorder, sink, progress)
 }

@@ -6,7 +6,7 @@ ghost use Rattle.schedule.specs.Steps.{IsStepOf};
 ghost use Rattle.schedule.specs.Follows.{Makes, Plays, last_after};
 
 use crate::choices::Choice;
-use machine::{Machine, hart_after};
+use machine::{Machine, PACE, Progress, hart_after};
 use std::alloc::AllocError;
 use words::HartId;
 
@@ -27,24 +27,27 @@ fn make<const SETS: usize, const WAYS: usize>(
     Ok(hart_after(&step, last))
 }
 
-/// The choices in order, so many at most: each is made, enabled or not, and counts as a step. Behind the last of them turns are taken. It fails
-/// only if memory runs out, which leaves the machine where the steps before led.
-pub fn follow<const SETS: usize, const WAYS: usize>(
+/// The choices in order, so many at most: each is made, enabled or not, and counts as a step. Behind the last of them turns are taken. Progress is
+/// told on the way. It fails only if memory runs out, which leaves the machine where the steps before led.
+pub fn follow<const SETS: usize, const WAYS: usize, P: Progress>(
     machine: &mut Machine<SETS, WAYS>,
     choices: &[Choice],
     steps: u32,
+    progress: &mut P,
 ) -> Result<(), AllocError>
     ensures ok { OnOk result (Plays (geometry SETS WAYS) choices.now steps machine.old machine.new) }
     ensures err { OnErr result ((n : ℕ) × (n < steps) × Plays (geometry SETS WAYS) choices.now n machine.old machine.new) }
 {
     let mut last = machine.last_hart();
     let mut left = steps;
+    let mut due = PACE;
     for choice in choices {
         if left == 0 {
             return Ok(());
         }
         last = make(machine, choice, last)?;
         left -= 1;
+        due = machine.pace(1, due, progress);
     }
-    machine.take_turns_after(last, left)
+    machine.take_turns_after(last, left, progress)
 }

@@ -10,25 +10,42 @@ ghost use Rattle.simulate.specs.Counted.{counts_part, counts_text, IsCountedIn};
 
 use command_line::Stats;
 use count_texts::{put_csv, put_machine_csv, put_machine_table, put_table};
-use machine::Machine;
+use machine::{Machine, Progress};
 use schedule::{Choice, follow};
 use std::alloc::AllocError;
 use tally::{Tally, tally_run};
 use words::{Sink, SinkFault};
 
-/// Makes the steps of a run, and counts what they do if a form is asked for. It fails only if memory runs out.
-pub(crate) fn play<const SETS: usize, const WAYS: usize>(
+/// Makes the steps of a run, and counts what they do if a form is asked for. Progress is told on the way, and ends with them. It fails only if
+/// memory runs out.
+pub(crate) fn play<const SETS: usize, const WAYS: usize, P: Progress>(
     machine: &mut Machine<SETS, WAYS>,
     choices: &[Choice],
     steps: u32,
     stats: Option<Stats>,
+    progress: &mut P,
+) -> Result<Tally, AllocError>
+    ensures { IfOk result (IsCountedIn stats (geometry SETS WAYS) choices.now steps machine.old machine.new) }
+{
+    let counts = count_if(machine, choices, steps, stats, progress);
+    progress.end();
+    counts
+}
+
+/// The same, but for the end of progress.
+fn count_if<const SETS: usize, const WAYS: usize, P: Progress>(
+    machine: &mut Machine<SETS, WAYS>,
+    choices: &[Choice],
+    steps: u32,
+    stats: Option<Stats>,
+    progress: &mut P,
 ) -> Result<Tally, AllocError>
     ensures { IfOk result (IsCountedIn stats (geometry SETS WAYS) choices.now steps machine.old machine.new) }
 {
     match stats {
-        Some(_) => tally_run(machine, choices, steps),
+        Some(_) => tally_run(machine, choices, steps, progress),
         None => {
-            follow(machine, choices, steps)?;
+            follow(machine, choices, steps, progress)?;
             Ok(Tally::new())
         }
     }

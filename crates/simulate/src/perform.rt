@@ -23,7 +23,7 @@ use crate::status::status;
 use command_line::{Cache, Order, Run};
 use disassembler::listing;
 use loader::{read_elf, write_elf};
-use machine::Machine;
+use machine::{Machine, Progress};
 use schedule::Choice;
 use std::alloc::Global;
 use words::{Addr, Sink};
@@ -51,14 +51,15 @@ impl Outcome {
 
 /// Carries out an order, given the bytes of its file and those of its schedule, none where it has none: all but reading and writing files. It puts the report, with the run's counts
 /// behind it where they are asked for, or the listing into `out`, or
-/// what the user is told of a fault into `error`.
+/// what the user is told of a fault into `error`. The progress of a run is told while it goes on.
 ///
 /// Memory may run out at any time, which gives 6: no clause says when.
-pub fn perform<O: Sink, E: Sink>(
+pub fn perform<P: Progress, O: Sink, E: Sink>(
     alloc: Global,
     order: &Order<'_>,
     file: &[u8],
     schedule: &[u8],
+    progress: &mut P,
     out: &mut O,
     error: &mut E,
 ) -> Outcome
@@ -77,7 +78,7 @@ pub fn perform<O: Sink, E: Sink>(
     // The file that is to be written is there just where the order asks for one and nothing was refused.
     ensures image { MatchOption result.image (AsksForFile order.now → IsRefused result.status) (λ image. IsImageFor order.now file.now image.items × (result.status ≡ 0)) }
 {
-    match try_perform(alloc, order, file, schedule, out) {
+    match try_perform(alloc, order, file, schedule, progress, out) {
         Ok(outcome) => outcome,
         Err(fault) => Outcome {
             status: fault.tell(error),
@@ -87,11 +88,12 @@ pub fn perform<O: Sink, E: Sink>(
 }
 
 /// The same, but for telling of a fault.
-fn try_perform<'a, S: Sink>(
+fn try_perform<'a, P: Progress, S: Sink>(
     alloc: Global,
     order: &Order<'a>,
     file: &'a [u8],
     schedule: &[u8],
+    progress: &mut P,
     out: &mut S,
 ) -> Result<Outcome, Fault<'a>>
     ensures reported { IfOk result (λ o. IsGiven (IsAnswerTo order.now file.now schedule.now) o.status (S.taken out.old) (S.taken out.new) (S.failed out.old) (S.failed out.new)) }
@@ -103,7 +105,7 @@ fn try_perform<'a, S: Sink>(
 {
     match order {
         Order::Run(run) => Ok(Outcome {
-            status: run_and_report(alloc, run, file, schedule, out)?,
+            status: run_and_report(alloc, run, file, schedule, progress, out)?,
             image: None,
         }),
         Order::Dis { .. } => Ok(Outcome {
@@ -139,11 +141,12 @@ fn list<'a, S: Sink>(alloc: Global, file: &[u8], out: &mut S) -> Result<u8, Faul
 }
 
 /// Runs the program in a file, and puts the report, and the counts behind it where they are asked for. It answers the status.
-fn run_and_report<'a, S: Sink>(
+fn run_and_report<'a, P: Progress, S: Sink>(
     alloc: Global,
     run: &Run<'a>,
     file: &'a [u8],
     schedule: &[u8],
+    progress: &mut P,
     out: &mut S,
 ) -> Result<u8, Fault<'a>>
     ensures reported { IfOk result (λ status. IsGiven (IsReportOf run.now file.now schedule.now) status (S.taken out.old) (S.taken out.new) (S.failed out.old) (S.failed out.new)) }
@@ -153,17 +156,18 @@ fn run_and_report<'a, S: Sink>(
     ensures why { IfErr result (IsRunFault run.now file.now schedule.now) }
 {
     match run.cache {
-        Cache::Small => run_on::<2, 1, S>(alloc, run, file, schedule, out),
-        Cache::Normal => run_on::<16, 4, S>(alloc, run, file, schedule, out),
+        Cache::Small => run_on::<2, 1, P, S>(alloc, run, file, schedule, progress, out),
+        Cache::Normal => run_on::<16, 4, P, S>(alloc, run, file, schedule, progress, out),
     }
 }
 
 /// The same on a machine with caches of SETS sets of WAYS ways, which the run asks for.
-fn run_on<'a, const SETS: usize, const WAYS: usize, S: Sink>(
+fn run_on<'a, const SETS: usize, const WAYS: usize, P: Progress, S: Sink>(
     alloc: Global,
     run: &Run<'a>,
     file: &'a [u8],
     schedule: &[u8],
+    progress: &mut P,
     out: &mut S,
 ) -> Result<u8, Fault<'a>>
     requires sets { 0 < SETS }
@@ -181,7 +185,7 @@ fn run_on<'a, const SETS: usize, const WAYS: usize, S: Sink>(
         addrs,
         choices,
     } = begin::<SETS, WAYS>(alloc, run, file, schedule)?;
-    let counts = play(&mut machine, &choices, run.steps, run.stats)?;
+    let counts = play(&mut machine, &choices, run.steps, run.stats, progress)?;
     let status = status(&machine);
     let harts = machine.harts();
     report(&machine, &addrs, out)?;

@@ -13,7 +13,7 @@ use crate::perform::{Begun, begin};
 use crate::report::report;
 use crate::status::status;
 use command_line::{Cache, Run};
-use machine::Machine;
+use machine::{Machine, Progress, Silent};
 use picture::put_picture;
 use recorder::put_trace;
 use schedule::Choice;
@@ -55,18 +55,19 @@ impl<W: Write> Page for Counted<W> {
 
 /// Runs the program in a file, given the bytes of the file and those of its schedule, none where it has none. It puts what the form shows of the run
 /// into `chart`, whose sink stands for the file at a path, while the run goes on; and then the report into `out`, or what the user is told of a fault into
-/// `error`. It answers the status that the program ends with.
+/// `error`. The run's progress is told while it goes on. It answers the status that the program ends with.
 ///
 /// The counts of the run aren't put: a command line asks for one of a trace, a timeline and counts.
 ///
 /// Memory may run out at any time, which gives 6: no clause says when.
-pub fn show_apart<T: Page, O: Sink, E: Sink>(
+pub fn show_apart<P: Progress, T: Page, O: Sink, E: Sink>(
     alloc: Global,
     run: &Run<'_>,
     form: Form,
     path: &str,
     file: &[u8],
     schedule: &[u8],
+    progress: &mut P,
     chart: &mut Chart<T>,
     out: &mut O,
     error: &mut E,
@@ -80,20 +81,21 @@ pub fn show_apart<T: Page, O: Sink, E: Sink>(
     ensures told { (IsReported result → ⊥) → IsToldApart run.now file.now schedule.now form path.now (T.taken chart.old.sink) (T.taken chart.new.sink) (T.failed chart.old.sink) (T.failed chart.new.sink)
         (O.taken out.old) (O.taken out.new) (O.failed out.old) (O.failed out.new) result (E.taken error.old) (E.taken error.new) (E.failed error.old) (E.failed error.new) }
 {
-    match try_apart(alloc, run, form, path, file, schedule, chart, out) {
+    match try_apart(alloc, run, form, path, file, schedule, progress, chart, out) {
         Ok(status) => status,
         Err(fault) => fault.tell(error),
     }
 }
 
 /// The same, but for telling of a fault.
-fn try_apart<'a, T: Page, O: Sink>(
+fn try_apart<'a, P: Progress, T: Page, O: Sink>(
     alloc: Global,
     run: &Run<'a>,
     form: Form,
     path: &'a str,
     file: &'a [u8],
     schedule: &[u8],
+    progress: &mut P,
     chart: &mut Chart<T>,
     out: &mut O,
 ) -> Result<u8, Fault<'a>>
@@ -105,22 +107,23 @@ fn try_apart<'a, T: Page, O: Sink>(
 {
     match run.cache {
         Cache::Small => {
-            show_apart_on::<2, 1, T, O>(alloc, run, form, path, file, schedule, chart, out)
+            show_apart_on::<2, 1, P, T, O>(alloc, run, form, path, file, schedule, progress, chart, out)
         }
         Cache::Normal => {
-            show_apart_on::<16, 4, T, O>(alloc, run, form, path, file, schedule, chart, out)
+            show_apart_on::<16, 4, P, T, O>(alloc, run, form, path, file, schedule, progress, chart, out)
         }
     }
 }
 
 /// The same on a machine with caches of SETS sets of WAYS ways, which the run asks for.
-fn show_apart_on<'a, const SETS: usize, const WAYS: usize, T: Page, O: Sink>(
+fn show_apart_on<'a, const SETS: usize, const WAYS: usize, P: Progress, T: Page, O: Sink>(
     alloc: Global,
     run: &Run<'a>,
     form: Form,
     path: &'a str,
     file: &'a [u8],
     schedule: &[u8],
+    progress: &mut P,
     chart: &mut Chart<T>,
     out: &mut O,
 ) -> Result<u8, Fault<'a>>
@@ -139,27 +142,30 @@ fn show_apart_on<'a, const SETS: usize, const WAYS: usize, T: Page, O: Sink>(
         addrs,
         choices,
     } = begin::<SETS, WAYS>(alloc, run, file, schedule)?;
-    put_view(alloc, &mut machine, &choices, run.steps, form, path, chart)?;
+    put_view(alloc, &mut machine, &choices, run.steps, form, path, progress, chart)?;
     let status = status(&machine);
     report(&machine, &addrs, out)?;
     Ok(status)
 }
 
 /// Plays a run, puts what the form shows of it, and has it written out. If that fails, the fault names the path of the file.
-fn put_view<'a, const SETS: usize, const WAYS: usize, T: Page>(
+fn put_view<'a, const SETS: usize, const WAYS: usize, P: Progress, T: Page>(
     alloc: Global,
     machine: &mut Machine<SETS, WAYS>,
     choices: &[Choice],
     steps: u32,
     form: Form,
     path: &'a str,
+    progress: &mut P,
     chart: &mut Chart<T>,
 ) -> Result<(), Fault<'a>>
     ensures { MatchResult result
         (λ _. IsShown form (geometry SETS WAYS) choices.now steps machine.old machine.new (T.taken chart.old.sink) (T.taken chart.new.sink) (T.failed chart.old.sink) (T.failed chart.new.sink))
         (IsPutFault form (geometry SETS WAYS) choices.now steps path.now machine.old machine.new (T.taken chart.old.sink) (T.taken chart.new.sink) (T.failed chart.old.sink) (T.failed chart.new.sink)) }
 {
-    match put_form(alloc, machine, choices, steps, form, chart) {
+    let put = put_form(alloc, machine, choices, steps, form, progress, chart);
+    progress.end();
+    match put {
         Ok(()) => match chart.sink.flush() {
             Ok(()) => Ok(()),
             Err(_) => Err(Fault::Unmade(path)),
@@ -170,12 +176,13 @@ fn put_view<'a, const SETS: usize, const WAYS: usize, T: Page>(
 }
 
 /// Plays a run, and puts what the form shows of it.
-fn put_form<const SETS: usize, const WAYS: usize, T: Sink>(
+fn put_form<const SETS: usize, const WAYS: usize, P: Progress, T: Sink>(
     alloc: Global,
     machine: &mut Machine<SETS, WAYS>,
     choices: &[Choice],
     steps: u32,
     form: Form,
+    progress: &mut P,
     chart: &mut Chart<T>,
 ) -> Result<(), Halt>
     ensures { MatchResult result
@@ -183,38 +190,40 @@ fn put_form<const SETS: usize, const WAYS: usize, T: Sink>(
         (IsCutShort form (geometry SETS WAYS) choices.now steps machine.old machine.new (T.taken chart.old.sink) (T.taken chart.new.sink) (T.failed chart.old.sink) (T.failed chart.new.sink)) }
 {
     match form {
-        Form::Trace => put_lines(machine, choices, steps, &mut chart.sink),
-        Form::Timeline => put_events(machine, choices, steps, chart),
+        Form::Trace => put_lines(machine, choices, steps, progress, &mut chart.sink),
+        Form::Timeline => put_events(machine, choices, steps, progress, chart),
         Form::Picture => put_image(alloc, machine, choices, steps, &mut chart.sink),
     }
 }
 
 /// The same for a trace.
-fn put_lines<const SETS: usize, const WAYS: usize, S: Sink>(
+fn put_lines<const SETS: usize, const WAYS: usize, P: Progress, S: Sink>(
     machine: &mut Machine<SETS, WAYS>,
     choices: &[Choice],
     steps: u32,
+    progress: &mut P,
     sink: &mut S,
 ) -> Result<(), Halt>
     ensures { MatchResult result
         (λ _. IsShown Trace (geometry SETS WAYS) choices.now steps machine.old machine.new (S.taken sink.old) (S.taken sink.new) (S.failed sink.old) (S.failed sink.new))
         (IsCutShort Trace (geometry SETS WAYS) choices.now steps machine.old machine.new (S.taken sink.old) (S.taken sink.new) (S.failed sink.old) (S.failed sink.new)) }
 {
-    put_trace(machine, choices, steps, sink)
+    put_trace(machine, choices, steps, sink, progress)
 }
 
 /// The same for a timeline.
-fn put_events<const SETS: usize, const WAYS: usize, T: Sink>(
+fn put_events<const SETS: usize, const WAYS: usize, P: Progress, T: Sink>(
     machine: &mut Machine<SETS, WAYS>,
     choices: &[Choice],
     steps: u32,
+    progress: &mut P,
     chart: &mut Chart<T>,
 ) -> Result<(), Halt>
     ensures { MatchResult result
         (λ _. IsShown Timeline (geometry SETS WAYS) choices.now steps machine.old machine.new (T.taken chart.old.sink) (T.taken chart.new.sink) (T.failed chart.old.sink) (T.failed chart.new.sink))
         (IsCutShort Timeline (geometry SETS WAYS) choices.now steps machine.old machine.new (T.taken chart.old.sink) (T.taken chart.new.sink) (T.failed chart.old.sink) (T.failed chart.new.sink)) }
 {
-    put_timeline(machine, choices, steps, chart)
+    put_timeline(machine, choices, steps, chart, progress)
 }
 
 /// The same for a picture.
@@ -294,7 +303,7 @@ fn trace_before_on<'a, const SETS: usize, const WAYS: usize, O: Sink>(
         addrs,
         choices,
     } = begin::<SETS, WAYS>(alloc, run, file, schedule)?;
-    put_trace(&mut machine, &choices, run.steps, out)?;
+    put_trace(&mut machine, &choices, run.steps, out, &mut Silent)?;
     let status = status(&machine);
     report(&machine, &addrs, out)?;
     Ok(status)

@@ -62,17 +62,18 @@ impl Traffic {
         ensures rest { self.new ≡ record self.old { sums = self.new.sums } }
         ensures flying { result ≡ count_by is_some machine.now.flights }
     {
-        if machine.is_quiet() {
-            return 0;
-        }
-        let mut flying = 0;
-        for key in 0..machine.keys() {
+        let flying = machine.in_flight();
+        let keys = machine.keys();
+        let mut met = 0;
+        let mut key = 0;
+        while met < flying && key < keys {
             if let Some(flight) = machine.flight(key) {
-                flying += 1;
+                met += 1;
                 if flight.number >= sent {
                     self.add(Sum::of_message(&flight.message), 1);
                 }
             }
+            key += 1;
         }
         flying
     }

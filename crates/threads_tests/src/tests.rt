@@ -1,3 +1,4 @@
+mod meters;
 mod paper;
 mod refusals;
 mod runs;

@@ -12,7 +12,7 @@ use crate::edge::edge_at;
 use crate::events::{Place, put_all_sent, put_arrival, put_begin, put_end, put_slice};
 use crate::label::{DIRECTORY, lane};
 use itoa::Buffer;
-use machine::Machine;
+use machine::{Machine, Progress};
 use network::Flight;
 use schedule::Choice;
 use texts::put_all;
@@ -158,15 +158,16 @@ fn put_harts<S: Sink>(sink: &mut S, harts: usize) -> Result<(), SinkFault>
 }
 
 /// The choices in order, so many at most, and turns behind the last of them, as [`schedule::follow`] makes them. The events of each step are put
-/// before the next step.
+/// before the next step. Progress is told on the way.
 ///
 /// If memory runs out, the machine is left where the steps before led, and their events were put, with no end of the timeline. If a put fails,
 /// the steps of all events up to it were made, and a beginning of their timeline was taken.
-pub fn put_timeline<const SETS: usize, const WAYS: usize, S: Sink>(
+pub fn put_timeline<const SETS: usize, const WAYS: usize, S: Sink, P: Progress>(
     machine: &mut Machine<SETS, WAYS>,
     choices: &[Choice],
     steps: u32,
     chart: &mut Chart<S>,
+    progress: &mut P,
 ) -> Result<(), Halt>
     ensures { MatchResult result
         (λ _. IsShown (geometry SETS WAYS) choices.now steps machine.old machine.new (S.taken chart.old.sink) (S.taken chart.new.sink) (S.failed chart.old.sink) (S.failed chart.new.sink))
@@ -175,7 +176,7 @@ pub fn put_timeline<const SETS: usize, const WAYS: usize, S: Sink>(
     chart.time = 0;
     let harts = machine.harts();
     put_or_halt(put_opening(&mut chart.sink, harts))?;
-    follow_watched(machine, choices, steps, &Drawer, chart)?;
+    follow_watched(machine, choices, steps, &Drawer, chart, progress)?;
     put_or_halt(put_all(&mut chart.sink, &[b"\n]}\n"]))
 }
 

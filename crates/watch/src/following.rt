@@ -8,7 +8,7 @@ ghost use Rattle.watch.specs.Watched.{by_parts, MakesWatched, StopsAt, IsWatched
 
 use crate::halt::Halt;
 use crate::watcher::Watcher;
-use machine::{Machine, hart_after};
+use machine::{Machine, PACE, Progress, hart_after};
 use network::Flight;
 use schedule::Choice;
 use words::{HartId, Step};
@@ -64,27 +64,36 @@ fn choose<const SETS: usize, const WAYS: usize, L, W: Watcher<Machine<SETS, WAYS
 }
 
 /// The choices in order, so many at most, and turns behind the last of them, as [`schedule::follow`] makes them; and what each step did is
-/// noted by a watcher before the next step.
+/// noted by a watcher before the next step. Progress is told on the way.
 ///
 /// If memory runs out, the machine and the log are left where the steps before led. If the watcher fails at a moment, its step was made.
-pub fn follow_watched<const SETS: usize, const WAYS: usize, L, W: Watcher<Machine<SETS, WAYS>, L>>(
+pub fn follow_watched<
+    const SETS: usize,
+    const WAYS: usize,
+    L,
+    W: Watcher<Machine<SETS, WAYS>, L>,
+    P: Progress,
+>(
     machine: &mut Machine<SETS, WAYS>,
     choices: &[Choice],
     steps: u32,
     watcher: &W,
     log: &mut L,
+    progress: &mut P,
 ) -> Result<(), Halt>
     ensures { MatchResult result (λ _. IsWatched (by_parts (W.notes watcher.now)) (geometry SETS WAYS) choices.now steps machine.old machine.new log.old log.new)
         (IsHalted (by_parts (W.notes watcher.now)) (by_parts (W.misses watcher.now)) (geometry SETS WAYS) choices.now steps machine.old machine.new log.old log.new) }
 {
     let mut last = machine.last_hart();
     let mut left = steps;
+    let mut due = PACE;
     for choice in choices {
         if left == 0 {
             return Ok(());
         }
         last = choose(machine, choice, last, watcher, log)?;
         left -= 1;
+        due = machine.pace(1, due, progress);
     }
     for _ in 0..left {
         let Some(step) = machine.next_turn(last) else {
@@ -92,6 +101,7 @@ pub fn follow_watched<const SETS: usize, const WAYS: usize, L, W: Watcher<Machin
         };
         show(machine, step, watcher, log)?;
         last = hart_after(&step, last);
+        due = machine.pace(1, due, progress);
     }
     Ok(())
 }

@@ -1,6 +1,7 @@
 //! Lines with what they spell, and the steps of a machine.
 use super::booted::booted;
 use elf_samples::COMMITS;
+use machine::Silent;
 use schedule::{Choice, Name, ScheduleFault, Sort, choice, follow, name_of, read};
 use std::alloc::Global;
 use std::test::Fail;
@@ -117,7 +118,7 @@ fn answers_are_named_for_their_senders(rt: HostRuntime) {
 /// the block at 0x2000.
 fn step_after(alloc: Global, steps: u32, choice: Choice) -> Result<Option<Step>, Fail> {
     let mut machine = booted(alloc, &COMMITS, 1)?;
-    follow(&mut machine, &[Choice::Core(hart(0)); 4], steps.min(4))?;
+    follow(&mut machine, &[Choice::Core(hart(0)); 4], steps.min(4), &mut Silent)?;
     Ok(choice.step(&machine, hart(0)))
 }
 
@@ -142,7 +143,7 @@ fn a_message_is_found_by_its_name(rt: HostRuntime) -> Result<(), Fail> {
 /// How a program's hart stands, and what stands at 0x2000, once these choices and turns were followed, by so many steps in all.
 fn followed(alloc: Global, choices: &[Choice], steps: u32) -> Result<(Status, Option<u32>), Fail> {
     let mut machine = booted(alloc, &COMMITS, 1)?;
-    follow(&mut machine, choices, steps)?;
+    follow(&mut machine, choices, steps, &mut Silent)?;
     let (_, _, status) = machine.regs(hart(0)).ok_or("a hart")?;
     Ok((status, machine.peek(Addr::new(0x2000))))
 }

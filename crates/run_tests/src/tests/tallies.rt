@@ -1,6 +1,7 @@
 //! What programs of a few words count as.
 use super::booted::booted;
 use elf_samples::{ABORTS, COMMITS};
+use machine::Silent;
 use schedule::Sort;
 use std::alloc::Global;
 use std::process::Abort;
@@ -10,7 +11,7 @@ use words::HartId;
 
 fn counted(alloc: Global, text: &[u32], harts: u32) -> Result<Tally, Fail> {
     let mut machine = booted(alloc, text, harts)?;
-    Ok(tally_run(&mut machine, &[], 1000)?)
+    Ok(tally_run(&mut machine, &[], 1000, &mut Silent)?)
 }
 
 /// That each of the two harts has this count.

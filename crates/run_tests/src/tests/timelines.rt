@@ -3,6 +3,7 @@ use super::booted::booted;
 use super::refusing::Refusing;
 use elf_samples::{ABORTS, COMMITS};
 use json::{Scratch, is_valid};
+use machine::Silent;
 use std::alloc::Global;
 use std::str;
 use std::test::Fail;
@@ -45,7 +46,7 @@ fn shown<S: Sink>(
     chart: &mut Chart<S>,
 ) -> Result<Result<(), Halt>, Fail> {
     let mut machine = booted(alloc, text, harts)?;
-    Ok(put_timeline(&mut machine, &[], 1000, chart))
+    Ok(put_timeline(&mut machine, &[], 1000, chart, &mut Silent))
 }
 
 /// A sink in memory.

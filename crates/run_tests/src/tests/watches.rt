@@ -3,6 +3,7 @@ ghost use Rattle.std.specs.Prelude.{⊤};
 
 use super::booted::booted;
 use elf_samples::COMMITS;
+use machine::Silent;
 use network::Flight;
 use schedule::Choice;
 use std::alloc::Global;
@@ -67,7 +68,14 @@ fn watch_run(alloc: Global, chosen: usize, steps: u32, most: usize) -> Result<Wa
     };
     let choices = [Choice::Core(HartId::new(0)); 3];
     let choices = &choices[..chosen.min(3)];
-    let ended = follow_watched(&mut machine, choices, steps, &Collector, &mut words);
+    let ended = follow_watched(
+        &mut machine,
+        choices,
+        steps,
+        &Collector,
+        &mut words,
+        &mut Silent,
+    );
     let (_, pc, _) = machine.regs(HartId::new(0)).ok_or("a hart")?;
     Ok(Watched {
         ended,

@@ -3,6 +3,7 @@ use super::paper::Paper;
 use command_line::{Debug, Order, Request, Run, parse};
 use console::Typed;
 use elf_samples::elf_file;
+use machine::Silent;
 use simulate::debugging::play;
 use simulate::perform::perform;
 use simulate::showing::{Form, show_apart, trace_before};
@@ -66,7 +67,15 @@ pub(crate) fn performed(
     mut out: Paper,
     mut error: Paper,
 ) -> Told {
-    let outcome = perform(alloc, order, file, schedule, &mut out, &mut error);
+    let outcome = perform(
+        alloc,
+        order,
+        file,
+        schedule,
+        &mut Silent,
+        &mut out,
+        &mut error,
+    );
     Told {
         status: outcome.status,
         image: outcome.image,
@@ -98,7 +107,16 @@ pub(crate) fn shown_apart(
     let (mut out, mut error) = (Paper::endless(alloc), Paper::endless(alloc));
     let mut chart = Chart::new(paper);
     let status = show_apart(
-        alloc, run, form, "t", file, schedule, &mut chart, &mut out, &mut error,
+        alloc,
+        run,
+        form,
+        "t",
+        file,
+        schedule,
+        &mut Silent,
+        &mut chart,
+        &mut out,
+        &mut error,
     );
     let told = Told {
         status,

@@ -1,6 +1,7 @@
 //! Runs that come to their end, and the histories that make them again.
 use super::{COUNTED, COUNTER, TWO, check, check_kept, sheet, taken};
 use command_line::{Order, Request, parse};
+use machine::Silent;
 use simulate::perform::perform;
 use std::process::Abort;
 use std::test::Fail;
@@ -52,6 +53,7 @@ fn check_again(rt: &(impl Abort + AllocGlobal), list: &[u8]) -> Result<(), Fail>
         &order,
         COUNTER.as_bytes(),
         list,
+        &mut Silent,
         &mut given,
         &mut told,
     );

@@ -1,4 +1,4 @@
-use Rattle.std.proofs.Common.{◌≡◌, ◌∙◌, sym, ap, Some, None, get_or, arith, length}
+use Rattle.std.proofs.Common.{◌≡◌, ◌∙◌, sym, ap, Some, None, get_or, arith}
 use Rattle.network.specs.Flights.{Flights}
 use Rattle.network.proofs.Best.{IsBest, IsBest-skip, IsBest-take}
 use Rattle.network.proofs.After.{Passes, Fails, next_best, none_best}

@@ -1,14 +1,14 @@
-use Rattle.std.proofs.Common.{◌≡◌, ◌≤◌, ◌+◌, ◌∙◌, ℕ, sym, ap, Option, Some, None, get_or, arith, true, false, subst}
+use Rattle.std.proofs.Common.{◌≡◌, ◌≤◌, ◌+◌, ◌∙◌, ℕ, sym, ap, Some, None, get_or, arith, true, false, subst}
 use Rattle.std.specs.Prelude.{is_some, count_by}
 use Rattle.std.proofs.lemmas.List.{get_or_past}
 use Rattle.std.specs.Fn.{FnReturnsAt}
 use Rattle.network.specs.declared.net.Flight.{Flight}
 use Rattle.network.specs.Flights.{Flights}
-use Rattle.network.proofs.Best.{IsBest, IsBest-skip, IsBest-take, IsOldest-best, below_end, told}
-use Rattle.network.proofs.Counted.{count_from, count_taken, count_passed, none_left}
+use Rattle.network.proofs.Best.{IsBest, IsBest-skip, IsBest-earlier, IsBest-later, IsOldest-best, below_end, told}
+use Rattle.network.proofs.Counted.{count_taken, count_passed, none_left}
 use Rattle.std.proofs.lemmas.Option.{same_Some, none-some}
 use Rattle.network.proofs.net.Net.oldest.Goals as goal
-use Rattle.network.proofs.net.Net.oldest.Goals.{in-Some+then-passes, in-Some+else-passes, in_default, then-loop-key-test+else-left-gt0, else-loop-key-test}
+use Rattle.network.proofs.net.Net.oldest.Goals.{in-Some+then-is_earlier+then-passes, in-Some+else-is_earlier, else-is_earlier-via-then-is_earlier+else-passes, else-is_earlier-via-else-is_earlier, in_default, then-loop-key-test+else-left-gt0, else-loop-key-test}
 
 pub loop-key-preserved : goal.loop-key-preserved
 loop-key-preserved g c =
@@ -16,18 +16,20 @@ loop-key-preserved g c =
     let slots = c.args.self.now.slots in
     let same : c.self.inside.slab.slots ≡ slots = ap (λ (v : Flights). v.slots) c.self.view_is in
     elim c.match-get.branch [
-      | in-Some+then-passes w ↦
+      | in-Some+then-is_earlier+then-passes w ↦
           let at : get_or slots c.loop-key.key None ≡ Some w.in-Some.flight.now = rw (← same) (sym w.in-Some.ensures) in
           let counted = count_taken c.loop-key.key slots w.in-Some.flight.now c.loop-key.left c.loop-key.invariant.1 at in
-          (rw (w.best-is, w.first_of-best.ensures) (IsBest-take (λ k f. answers f.message true) (λ k f. answers f.message false) slots c.loop-key.key c.loop-key.best w.in-Some.flight.now c.loop-key.invariant.0 at (told _ _ _ _ _ w.passes.ensures w.if-passes.true)), w.left-is ∙ counted.1)
-      | in-Some+else-passes w ↦
+          (rw w.best-is (IsBest-earlier (λ k f. answers f.message true) (λ k f. answers f.message false) slots c.loop-key.key c.loop-key.best w.in-Some.flight.now c.loop-key.invariant.0 at (sym w.is_earlier.ensures ∙ w.if-is_earlier.true) (told _ _ _ _ _ w.passes.ensures w.if-passes.true)), w.left-is ∙ counted.1)
+      | in-Some+else-is_earlier w ↦
           let at : get_or slots c.loop-key.key None ≡ Some w.in-Some.flight.now = rw (← same) (sym w.in-Some.ensures) in
-          let counted = count_taken c.loop-key.key slots w.in-Some.flight.now c.loop-key.left c.loop-key.invariant.1 at in (
-            rw w.best-is (IsBest-skip (λ k f. answers f.message true) (λ k f. answers f.message false) slots c.loop-key.key c.loop-key.best c.loop-key.invariant.0 (λ f here.
+          let counted = count_taken c.loop-key.key slots w.in-Some.flight.now c.loop-key.left c.loop-key.invariant.1 at in
+          let best : IsBest (λ k f. answers f.message true) (λ k f. answers f.message false) slots (c.loop-key.key + 1) c.loop-key.best = elim w.else-is_earlier.branch [
+            | else-is_earlier-via-then-is_earlier+else-passes v ↦ IsBest-skip (λ k f. answers f.message true) (λ k f. answers f.message false) slots c.loop-key.key c.loop-key.best c.loop-key.invariant.0 (λ f here.
                 let P : Flight → Type 0 = λ x. answers x.message false in
-                subst P (same_Some w.in-Some.flight.now f (sym at ∙ here)) (told _ _ _ _ _ w.passes.ensures w.if-passes.false))),
-            w.left-is ∙ counted.1,
-          )
+                subst P (same_Some w.in-Some.flight.now f (sym at ∙ here)) (told _ _ _ _ _ v.passes.ensures v.if-passes.false))
+            | else-is_earlier-via-else-is_earlier v ↦ IsBest-later (λ k f. answers f.message true) (λ k f. answers f.message false) slots c.loop-key.key c.loop-key.best w.in-Some.flight.now c.loop-key.invariant.0 at (sym w.is_earlier.ensures ∙ v.if-is_earlier.false)
+          ] in
+          (rw w.best-is best, w.left-is ∙ counted.1)
       | in_default w ↦
           let none : get_or slots c.loop-key.key None ≡ None = rw (← same) (sym w.in_default.ensures) in
           (rw w.best-is (IsBest-skip (λ k f. answers f.message true) (λ k f. answers f.message false) slots c.loop-key.key c.loop-key.best c.loop-key.invariant.0 (λ f here. absurd (none-some f (sym none ∙ here)))), w.left-is ∙ count_passed c.loop-key.key slots c.loop-key.left c.loop-key.invariant.1 none)

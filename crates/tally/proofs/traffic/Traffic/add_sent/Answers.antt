@@ -33,8 +33,8 @@ loop-key-preserved g c =
                 subst (λ t. sum_at t s ≡ capped (sum_at c.args.self.now s + count_by (was_sent c.args.sent s) (take (key + 1) flights))) (sym w.self-is)
                 (one_sent c.args.sent s flights key w.in-Some.flight (sum_at c.args.self.now s) (sum_at c.loop-key.self s) (sum_at w.add.new.self s) is w.if-flight-sent.true (inv.0 s low) counted),
             rest_of c.args.self.now c.loop-key.self c.match-flight.self inv.1 (subst (λ t. t ≡ record c.loop-key.self { sums = t.sums }) (sym w.self-is) w.add.ensures.rest),
-            w.flying-is ∙ ap (λ n. n + 1) inv.2 ∙ sym more,
-            omega (arith, w.flying-is, inv.3),
+            w.met-is ∙ ap (λ n. n + 1) inv.2 ∙ sym more,
+            omega (arith, w.met-is, inv.3),
           )
       | in-Some+else-flight-sent w ↦
           let is = sym c.flight.ensures ∙ w.in-Some.is in
@@ -42,8 +42,8 @@ loop-key-preserved g c =
             λ s low. subst (λ t. sum_at t s ≡ capped (sum_at c.args.self.now s + count_by (was_sent c.args.sent s) (take (key + 1) flights))) (sym w.self-is)
                 (one_unsent c.args.sent s flights key w.in-Some.flight (sum_at c.args.self.now s) (sum_at c.loop-key.self s) is w.if-flight-sent.false (inv.0 s low)),
             subst (λ t. t ≡ record c.args.self.now { sums = t.sums }) (sym w.self-is) inv.1,
-            w.flying-is ∙ ap (λ n. n + 1) inv.2 ∙ sym more,
-            omega (arith, w.flying-is, inv.3),
+            w.met-is ∙ ap (λ n. n + 1) inv.2 ∙ sym more,
+            omega (arith, w.met-is, inv.3),
           )
       | in_default w ↦
           let is = sym c.flight.ensures ∙ nothing_in c.flight.result w.in_default.not-Some in
@@ -51,26 +51,19 @@ loop-key-preserved g c =
             λ s low. subst (λ t. sum_at t s ≡ capped (sum_at c.args.self.now s + count_by (was_sent c.args.sent s) (take (key + 1) flights))) (sym w.self-is)
                 (no_one c.args.sent s flights key (sum_at c.args.self.now s) (sum_at c.loop-key.self s) is (inv.0 s low)),
             subst (λ t. t ≡ record c.args.self.now { sums = t.sums }) (sym w.self-is) inv.1,
-            w.flying-is ∙ inv.2 ∙ sym more,
-            omega (arith, w.flying-is, inv.3),
+            w.met-is ∙ inv.2 ∙ sym more,
+            omega (arith, w.met-is, inv.3),
           )
     ]
 
+-- nothing lies beyond the keys so far
+none_beyond : (g : goal.Gen) (c : goal.Returns g) → (key : ℕ) → c.loop-key.key ≤ key → slice_index_or c.args.machine.now.flights key None ≡ None
+none_beyond g c = elim c.loop-key-test.branch [
+  | then-loop-key-test+else-key-keys w ↦ λ key le. c.keys.ensures key (omega (arith, le, w.if-key-keys.false))
+  | else-loop-key-test w ↦ all_met
+]
+
 pub returns-clause-added : goal.returns-clause-added
 returns-clause-added g c s low =
-    let end = counted_all (was_sent c.args.sent s) refl c.args.machine.now.flights c.loop-key.key (λ key le. c.keys-key-end.ensures key (omega (arith, le, c.loop-key-test.false))) in
+    let end = counted_all (was_sent c.args.sent s) refl c.args.machine.now.flights c.loop-key.key (none_beyond g c) in
     c.loop-key.invariant.0 s low ∙ ap (λ n. capped (sum_at c.args.self.now s + n)) end
-
-pub returns-clause-flying : goal.returns-clause-flying
-returns-clause-flying g c =
-    c.loop-key.invariant.2 ∙ counted_all is_some refl c.args.machine.now.flights c.loop-key.key (λ key le. c.keys-key-end.ensures key (omega (arith, le, c.loop-key-test.false)))
-
--- no message is in flight
-pub returns-then-is_quiet-clause-added : goal.returns-then-is_quiet-clause-added
-returns-then-is_quiet-clause-added g c s low =
-    let none = counted_all (was_sent c.args.sent s) refl c.args.machine.now.flights 0 (λ key le. c.is_quiet.ensures.0 c.if-is_quiet.true key) in
-    let same : sum_at c.args.self.now s + 0 ≡ sum_at c.args.self.now s = omega arith in
-    sym (ap capped same ∙ capped_low (sum_at c.args.self.now s) low) ∙ ap (λ n. capped (sum_at c.args.self.now s + n)) none
-
-pub returns-then-is_quiet-clause-flying : goal.returns-then-is_quiet-clause-flying
-returns-then-is_quiet-clause-flying g c = counted_all is_some refl c.args.machine.now.flights 0 (λ key le. c.is_quiet.ensures.0 c.if-is_quiet.true key)

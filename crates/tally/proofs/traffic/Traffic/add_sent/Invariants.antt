@@ -1,4 +1,4 @@
-use Rattle.std.proofs.Common.{◌≡◌, ◌≤◌, ◌+◌, take}
+use Rattle.std.proofs.Common.{◌≡◌, ◌≤◌, ◌+◌, ◌-◌, take}
 use Rattle.std.specs.Prelude.{count_by, is_some}
 use Rattle.tally.specs.declared.figures.Sum.{Sum}
 use Rattle.tally.specs.Traffic.{capped, sum_at, was_sent}
@@ -9,4 +9,7 @@ abbrev pub invariant-loop-key : goal.invariant-loop-key
 invariant-loop-key g l =
     ((s : Sum) → sum_at l.fn.self s ≤ 18446744073709551615 → sum_at l.self s ≡ capped (sum_at l.fn.self s + count_by (was_sent l.sent s) (take l.key l.machine.flights)))
     × (l.self ≡ record l.fn.self { sums = l.self.sums })
-    × (l.flying ≡ count_by is_some (take l.key l.machine.flights)) × (l.flying ≤ l.key)
+    × (l.met ≡ count_by is_some (take l.key l.machine.flights)) × (l.met ≤ l.flying)
+
+abbrev pub decreases-loop-key : goal.decreases-loop-key
+decreases-loop-key g l = l.keys - l.key

@@ -1,0 +1,56 @@
+ghost use Rattle.std.specs.Prelude.{◌≡◌, ◌<◌, ◌≤◌, ◌-◌};
+ghost use Rattle.protocol.specs.Hart.{is_running};
+ghost use Rattle.machine.specs.Turns.{number_running};
+
+use crate::machine::Machine;
+use words::Status;
+
+/// How many steps a run makes from one note of its progress to the next.
+pub const PACE: u32 = 65_536;
+
+/// What is told of a run's progress. Nothing that a run does depends on it.
+pub trait Progress {
+    /// The run has made [`PACE`] steps more, or a few less, and so many harts still run.
+    fn tell(&mut self, running: usize);
+
+    /// The run has ended.
+    fn end(&mut self);
+}
+
+/// Progress that nobody is told of.
+pub struct Silent;
+
+impl Progress for Silent {
+    fn tell(&mut self, _running: usize) {}
+
+    fn end(&mut self) {}
+}
+
+impl<const SETS: usize, const WAYS: usize> Machine<SETS, WAYS> {
+    /// How many harts run.
+    pub fn running(&self) -> usize
+        ensures { result ≡ number_running self.now.seats }
+    {
+        self.seats
+            .iter()
+            .filter(|seat| -> bool
+                ensures { result ≡ is_running seat.now.now.hart.status }
+                { seat.hart.status() == Status::Running })
+            .count()
+    }
+
+    /// Takes note of steps that were made, where progress is due after so many. It is told if they were as many, and the answer is after how many
+    /// it is due then.
+    #[inline(always)]
+    pub fn pace<P: Progress>(&self, made: u32, due: u32, progress: &mut P) -> u32
+        ensures sooner { made < due → result ≡ due - made }
+        ensures told { due ≤ made → result ≡ 65536 }
+        ensures silent { made < due → progress.new ≡ progress.old }
+    {
+        if made < due {
+            return due - made;
+        }
+        progress.tell(self.running());
+        PACE
+    }
+}
