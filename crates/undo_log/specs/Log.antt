@@ -1,5 +1,5 @@
 -- The records of an undo log, and what each call makes of the log.
-use Rattle.std.specs.Prelude.{ℕ, ◌+◌, ◌-◌, ◌*◌, List, map, replicate}
+use Rattle.std.specs.Prelude.{ℕ, ◌+◌, ◌-◌, ◌*◌, max, List, map, replicate}
 use Rattle.std.specs.List.{range_with_len}
 use Rattle.words.specs.Limits.{log_bytes}
 use Rattle.undo_log.specs.declared.record.Record.{Record}
@@ -12,11 +12,11 @@ records log = map (λ k. record_at log.bytes (36 * k)) (range_with_len 0 log.cou
 
 -- a log at an address, before its first record
 abbrev pub empty_log : ℕ → Log
-empty_log base = record { base = base; bytes = replicate log_bytes 0; count = 0 }
+empty_log base = record { base = base; bytes = replicate log_bytes 0; count = 0; used = 0 }
 
--- the record's bytes stand at the pointer, and the pointer has moved on
+-- the record's bytes stand at the pointer, and the pointer has moved on, perhaps further than ever before
 abbrev pub appended : Log → Record → Log
-appended log r = record log { bytes = overwritten log.bytes (36 * log.count) (record_bytes r); count = log.count + 1 }
+appended log r = record log { bytes = overwritten log.bytes (36 * log.count) (record_bytes r); count = log.count + 1; used = max log.used (log.count + 1) }
 
 -- the record just below the pointer
 abbrev pub newest_of : Log → Record

@@ -25,26 +25,26 @@ impl fmt::Display for LogFull {
 
 impl Error for LogFull {}
 
-/// The records of a transaction, the oldest first. The pointer, where the next record goes, is `RECORD_BYTES * count`.
+/// The records of a transaction, the oldest first. The pointer, where the next record goes, is `RECORD_BYTES * count`. No more than
+/// `used` records were ever held, so that the bytes from `RECORD_BYTES * used` on are all 0.
 #[derive(Clone, Copy, Debug, PartialEq, Eq)]
 pub struct UndoLog {
     base: Addr,
     bytes: [u8; LOG_BYTES],
     count: usize,
+    used: usize,
 }
 
 impl Model for UndoLog {
-    ghost use Rattle.std.specs.Prelude.{◌≤◌};
-    ghost use Rattle.words.specs.Limits.{log_records};
-    ghost use Rattle.undo_log.specs.Value.{Log};
+    ghost use Rattle.undo_log.specs.Value.{Log, IsSound};
 
     ghost Value = { Log };
 
-    ghost view = { λ a. record { base = a.base; bytes = a.bytes; count = a.count } };
+    ghost view = { λ a. record { base = a.base; bytes = a.bytes; count = a.count; used = a.used } };
 
-    ghost invariant = { λ a. a.count ≤ log_records };
+    ghost invariant = { λ a. IsSound a.bytes a.count a.used };
 
-    ghost inverse = { λ v. record { base = v.base; bytes = v.bytes; count = v.count } };
+    ghost inverse = { λ v. record { base = v.base; bytes = v.bytes; count = v.count; used = v.used } };
 }
 
 impl UndoLog {
@@ -56,6 +56,7 @@ impl UndoLog {
             base,
             bytes: [0; LOG_BYTES],
             count: 0,
+            used: 0,
         }
     }
 
@@ -169,6 +170,7 @@ impl UndoLog {
         let pointer = RECORD_BYTES * self.count;
         self.bytes[pointer..pointer + RECORD_BYTES].copy_from_slice(&image.to_bytes());
         self.count += 1;
+        self.used = self.used.max(self.count);
     }
 
     fn oldest(&self, block: BlockNo) -> Option<Record>
@@ -183,10 +185,27 @@ impl UndoLog {
         None
     }
 
-    /// Whether two logs are one: the same base, pointer and bytes, also above the pointer.
+    /// Whether two logs are one: the same base, pointer and bytes, also above the pointer. Reads only what was ever written.
     pub fn same(&self, other: &Self) -> bool
         ensures { IsTrue result ↔ (self.now ≡ other.now) }
     {
-        *self == *other
+        let end = RECORD_BYTES * self.used;
+        self.base == other.base
+            && self.count == other.count
+            && self.used == other.used
+            && self.bytes[..end] == other.bytes[..end]
+    }
+
+    /// Becomes a copy of another log. Copies only what either was ever written.
+    pub fn assign(&mut self, other: &Self)
+        ensures { self.new ≡ other.now }
+    {
+        let end = RECORD_BYTES * other.used;
+        let most = RECORD_BYTES * self.used.max(other.used);
+        self.bytes[..end].copy_from_slice(&other.bytes[..end]);
+        self.bytes[end..most].fill(0);
+        self.base = other.base;
+        self.count = other.count;
+        self.used = other.used;
     }
 }
