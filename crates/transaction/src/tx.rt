@@ -285,6 +285,39 @@ impl Tx {
     pub fn same(&self, other: &Self) -> bool
         ensures { IsTrue result ↔ (self.now ≡ other.now) }
     {
-        *self == *other
+        self.depth == other.depth
+            && self.checkpoint == other.checkpoint
+            && self.abort_pc == other.abort_pc
+            && same_stamp(&self.stamp, &other.stamp)
+            && self.overflow == other.overflow
+            && self.cycle == other.cycle
+            && same_cause(&self.aborting, &other.aborting)
+            && self.log.same(&other.log)
     }
+
+    /// Becomes a copy of another transaction, and copies only what the log of either was ever written.
+    pub fn assign(&mut self, other: &Self)
+        ensures { self.new ≡ other.now }
+    {
+        self.depth = other.depth;
+        self.checkpoint = other.checkpoint;
+        self.abort_pc = other.abort_pc;
+        self.stamp = other.stamp;
+        self.overflow = other.overflow;
+        self.cycle = other.cycle;
+        self.aborting = other.aborting;
+        self.log.assign(&other.log);
+    }
+}
+
+fn same_stamp(a: &Option<Stamp>, b: &Option<Stamp>) -> bool
+    ensures { IsTrue result ↔ (a.now ≡ b.now) }
+{
+    *a == *b
+}
+
+fn same_cause(a: &Option<AbortCause>, b: &Option<AbortCause>) -> bool
+    ensures { IsTrue result ↔ (a.now ≡ b.now) }
+{
+    *a == *b
 }

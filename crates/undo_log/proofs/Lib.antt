@@ -1,5 +1,4 @@
 pub mod Restoring
 pub mod Words
 pub mod Listed
-pub mod Equal
 pub mod Blank
