@@ -8,3 +8,4 @@ pub mod Victims
 pub mod Alone
 pub mod Stores
 pub mod Plain
+pub mod Answering

@@ -6,6 +6,7 @@
 mod aborts;
 mod access;
 mod advance;
+mod assign;
 mod causes;
 mod evict;
 mod hart;

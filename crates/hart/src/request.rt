@@ -100,12 +100,13 @@ pub(crate) fn have_answered(expect: &HartSet, answered: &HartSet, harts: usize) 
     requires { harts ≤ most_harts }
     ensures { result ≡ have_answered harts (names expect.now) (names answered.now) }
 {
-    let mut all = true;
     for h in 0..harts {
         let hart = HartId::new(h as u8);
-        all = all && (!expect.contains(hart) || answered.contains(hart));
+        if expect.contains(hart) && !answered.contains(hart) {
+            return false;
+        }
     }
-    all
+    true
 }
 
 /// What a requester tells the directory of the content that it was given: memory needs it only where the block is shared from now

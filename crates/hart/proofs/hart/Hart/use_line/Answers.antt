@@ -6,7 +6,7 @@ use Rattle.cache.specs.Sets.{line_at}
 use Rattle.hart.specs.Parts.{Parts}
 use Rattle.hart.specs.Shown.{shown_line, shown_hart, lines_of}
 use Rattle.hart.proofs.Views.{parts}
-use Rattle.hart.proofs.Stores.{stores-line, absent-before}
+use Rattle.hart.proofs.Stores.{stores-line, loads-line, absent-before}
 use Rattle.hart.proofs.hart.Hart.use_line.Goals as goal
 
 -- a store
@@ -36,3 +36,16 @@ returns-clause-stays g c = record {
   size = ap (λ (p : Parts). p.size) c.self.view_is;
   log = ap (λ (p : Parts). p.tx.log.base) c.self.view_is;
 }
+
+-- a load
+
+pub returns-in_default-clause-hart : goal.returns-in_default-clause-hart
+returns-in_default-clause-hart g c = λ output.
+    let S = g.row.SETS in
+    let a = c.args in
+    let at : line_at S c.self.inside.cache (a.m.now.addr / 32) ≡ Some a.line.now = ap (λ (p : Parts). line_at S p.cache (a.m.now.addr / 32)) c.self.view_is ∙ c.requires.line in
+    let lines : lines_of S c.mark.new.self ≡ put_at (a.m.now.addr / 32) (Some (line_used a.in_transaction a.m.now (shown_line a.line.now))) (lines_of S c.self.inside.cache) =
+    loads-line S c.self.inside.cache c.mark.new.self a.line.now a.m.now a.in_transaction c.marks_after-marks.result c.requires.block at c.mark.ensures.line (sym c.put_by.ensures ∙ c.in_default.is)
+    c.marks_after-marks.ensures in
+    ap (λ ls. record (shown_hart S output (parts c.self.inside)) { lines = ls }) lines
+    ∙ ap (λ (p : Parts). record (shown_hart S output p) { lines = put_at (a.m.now.addr / 32) (Some (line_used a.in_transaction a.m.now (shown_line a.line.now))) (lines_of S p.cache) }) c.self.view_is

@@ -1,0 +1,41 @@
+use Rattle.std.proofs.Common.{◌≡◌, ◌∙◌, Option, Some, None, refl, sym, ap}
+use Rattle.std.specs.Option.{option_map}
+use Rattle.words.specs.declared.message.Kind.TheVariants.{Write}
+use Rattle.words.specs.declared.message.LineState.TheVariants.{Shared}
+use Rattle.cache.specs.Ways.{holds}
+use Rattle.protocol.specs.Lines.{Line, line_given}
+use Rattle.protocol.specs.Hart.{with_line}
+use Rattle.hart.specs.Shown.{shown_line, shown_hart, lines_of}
+use Rattle.hart.proofs.Views.{parts}
+use Rattle.hart.proofs.Lines.{lines-set}
+use Rattle.hart.proofs.hart.Hart.give.Goals as goal
+
+-- the line is shared
+
+pub returns-in-Some-clause-hart : goal.returns-in-Some-clause-hart
+returns-in-Some-clause-hart g c = λ output.
+    let S = g.row.SETS in
+    let old = c.self.inside in
+    let line = c.in-Some.line in
+    let held : Some (shown_line line) ≡ lines_of S c.args.self.now.cache c.args.block = ap (option_map shown_line) c.in-Some.ensures.value in
+    let given : Some (record (shown_line line) { state = Shared }) ≡ line_given c.args.kind (lines_of S c.args.self.now.cache c.args.block) = λ j. line_given (sym c.in-Read.is j) (held j) in
+    let lines = lines-set (holds line.block) S old.cache c.replace.new.self line.block _ c.replace.ensures.line in
+    (λ j. record (shown_hart S output (parts old)) { lines = lines j })
+    ∙ (λ j. with_line (c.in-Some.ensures.block j) (given j) (shown_hart S output (c.self.view_is j)))
+
+-- it is given up
+
+gone : (o : Option Line) → None ≡ line_given Write o
+gone None = refl
+gone (Some l) = refl
+
+pub returns-in-Write-clause-hart : goal.returns-in-Write-clause-hart
+returns-in-Write-clause-hart g c = λ output.
+    let S = g.row.SETS in
+    let old = c.self.inside in
+    let b = c.args.block in
+    let here = lines_of S c.args.self.now.cache b in
+    let given : None ≡ line_given c.args.kind here = gone here ∙ ap (λ kind. line_given kind here) (sym c.in-Write.is) in
+    let lines = lines-set (holds b) S old.cache c.invalidate.new.self b None c.invalidate.ensures.line in
+    (λ j. record (shown_hart S output (parts old)) { lines = lines j })
+    ∙ (λ j. with_line b (given j) (shown_hart S output (c.self.view_is j)))

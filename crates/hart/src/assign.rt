@@ -1,0 +1,23 @@
+ghost use Rattle.std.specs.Prelude.{◌≡◌};
+
+use crate::hart::Hart;
+
+/// How a hart becomes a copy of another.
+impl<const SETS: usize, const WAYS: usize> Hart<SETS, WAYS> {
+    /// Becomes a copy of another hart, and copies only what the undo log of either was ever written.
+    pub fn assign(&mut self, other: &Self)
+        ensures { self.new ≡ other.now }
+    {
+        self.index = other.index;
+        self.harts = other.harts;
+        self.size = other.size;
+        self.pc = other.pc;
+        self.status = other.status;
+        self.fresh = other.fresh;
+        self.request = other.request;
+        self.put = other.put;
+        self.regs = other.regs;
+        self.tx.assign(&other.tx);
+        self.cache = other.cache;
+    }
+}
