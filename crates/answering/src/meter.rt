@@ -4,11 +4,11 @@ use std::time::{Clock, Duration, Instant};
 use texts::put_all;
 use words::{Sink, SinkFault};
 
-/// How long a run goes on before its progress is shown.
-const QUIET: Duration = Duration::from_secs(1);
+/// How long a run goes on before its progress is shown, in milliseconds.
+const QUIET: u64 = 1000;
 
-/// How long a line of progress stands before the next.
-const STANDS: Duration = Duration::from_millis(200);
+/// How long a line of progress stands before the next, in milliseconds.
+const STANDS: u64 = 200;
 
 /// Goes to the start of a terminal's line, and clears it.
 const CLEAR: &[u8] = b"\r\x1b[K";
@@ -34,7 +34,7 @@ impl<'c, C: Clock, S: Sink> Meter<'c, C, S> {
             clock,
             sink,
             begun,
-            due: QUIET,
+            due: Duration::from_millis(QUIET),
             steps: 0,
             stands: false,
         }
@@ -60,7 +60,7 @@ impl<'c, C: Clock, S: Sink> Progress for Meter<'c, C, S> {
         let Some(gone) = self.due_after() else {
             return;
         };
-        self.due = gone.saturating_add(STANDS);
+        self.due = gone.saturating_add(Duration::from_millis(STANDS));
         let pace = a_second(self.steps, gone);
         // What can't be shown stops no run.
         let _ = put_line(&mut self.sink, self.steps, pace, running as u64);

@@ -10,6 +10,7 @@ use board::{Loan, STEPS};
 use history::Journal;
 use hub::{Ended, Hub};
 use loader::Program;
+use std::alloc::{AllocError, Global};
 use std::sync::{Mutex, Wait};
 use std::thread::Threads;
 use words::HartId;
@@ -29,7 +30,7 @@ impl<'p, const SETS: usize, const WAYS: usize> Gate<Loan<'p, SETS, WAYS>> for Wh
 }
 
 /// Runs each hart of a hub in a thread of its own, each until it doesn't run any more or has had so many turns: it is lent, makes up to 64 steps by
-/// itself, comes back, and is visited. What no thread can be started for, the caller does.
+/// itself, comes back, and is visited. What no thread can be started for, the caller does. The hub stands apart from its lock.
 pub(crate) fn run_hub<
     'p,
     'a,
@@ -39,6 +40,7 @@ pub(crate) fn run_hub<
     R: Threads + Wait + Sync,
 >(
     rt: &R,
+    alloc: Global,
     hub: Hub<'p, SETS, WAYS, J>,
     program: &Program,
     harts: u32,
@@ -50,9 +52,12 @@ pub(crate) fn run_hub<
     ensures { MatchResult result (λ end. IsEnd (geometry SETS WAYS) program.now harts size (J.tells end.journal) end.machine)
         (λ stop. (stop ≡ Refused NoMemory) ⊎ (stop ≡ Exchanged)) }
 {
-    let desk = Mutex::new(hub);
-    serve::<Hub<'p, SETS, WAYS, J>, Whole, R>(rt, &desk, harts as usize, &Whole, turns)?;
-    let end = desk.into_inner().finish();
+    let desk = match Box::new(alloc, hub) {
+        Ok(hub) => Mutex::new(hub),
+        Err(error) => return Err(AllocError::from(error).into()),
+    };
+    serve::<Box<Hub<'p, SETS, WAYS, J>>, Whole, R>(rt, &desk, harts as usize, &Whole, turns)?;
+    let end = Box::into_inner(desk.into_inner()).finish();
     if end.harts == harts && end.size == size && end.program.same(program) {
         Ok(end)
     } else {

@@ -99,6 +99,7 @@ fn threaded_on<'a, const SETS: usize, const WAYS: usize, R: Threads + Wait + Syn
     let Ready { hub, addrs } = make_ready::<SETS, WAYS, Unkept>(alloc, run, code, Unkept)?;
     let end = run_hub::<SETS, WAYS, Unkept, R>(
         rt,
+        alloc,
         hub,
         &program,
         run.harts,
@@ -189,6 +190,7 @@ fn kept_on<'a, const SETS: usize, const WAYS: usize, R: Threads + Wait + Sync, T
     )?;
     let end = run_hub::<SETS, WAYS, History, R>(
         rt,
+        alloc,
         hub,
         &program,
         run.harts,

@@ -88,7 +88,7 @@ impl<'p, const SETS: usize, const WAYS: usize> Loan<'p, SETS, WAYS> {
         self.harts = harts;
         self.size = size;
         self.id = id;
-        self.before = *hart;
+        self.before.assign(hart);
         self.begun = false;
         self.steps = 0;
     }
@@ -194,7 +194,7 @@ fn begin<const SETS: usize, const WAYS: usize>(
     ensures { after.new ≡ (if begun then after.old else before.now) }
 {
     if !begun {
-        *after = *before;
+        after.assign(before);
     }
 }
 

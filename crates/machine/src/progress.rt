@@ -18,6 +18,7 @@ pub trait Progress {
 }
 
 /// Progress that nobody is told of.
+#[derive(Clone, Copy, Debug)]
 pub struct Silent;
 
 impl Progress for Silent {

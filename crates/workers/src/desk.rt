@@ -64,3 +64,24 @@ impl<'p, const SETS: usize, const WAYS: usize, A: Allocator + Copy> Desk
         Board::visit(self, id)
     }
 }
+
+/// A desk that stands apart from the lock that holds it: those who look for the lock don't slow down the one who has it.
+impl<D: Desk> Desk for Box<D> {
+    type Lease = D::Lease;
+
+    fn lend(&self, id: HartId) -> Option<D::Lease> {
+        D::lend(&**self, id)
+    }
+
+    fn lend_again(&self, id: HartId, lease: &mut D::Lease) -> bool {
+        D::lend_again(&**self, id, lease)
+    }
+
+    fn settle(&mut self, lease: &D::Lease) -> Result<(), Refusal> {
+        D::settle(&mut **self, lease)
+    }
+
+    fn visit(&mut self, id: HartId) -> Result<bool, AllocError> {
+        D::visit(&mut **self, id)
+    }
+}

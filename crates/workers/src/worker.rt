@@ -15,9 +15,19 @@ use words::{HARTS, HartId};
 /// How often a worker looks for a free lock before it lets other threads run between its looks. Most turns give the lock back within that time.
 const LOOKS: usize = 100;
 
+/// How long it pauses between them, in pauses of the processor.
+const PAUSES: usize = 4;
+
 /// How often it looks then, before it sleeps. To wake a sleeper costs far more than most turns take, so workers that handed the lock from
 /// sleeper to sleeper would make each turn wait for that.
 const YIELDS: usize = 300;
+
+/// Waits for a moment between two looks, each of which takes the lock's word from the processor that has it.
+fn pause() {
+    for _ in 0..PAUSES {
+        hint::spin_loop();
+    }
+}
 
 /// The lock: looked for a while, then yielded for, and at last slept for.
 fn locked<'d, D, R: Wait>(rt: &R, desk: &'d Mutex<D>) -> MutexGuard<'d, D> {
@@ -26,7 +36,7 @@ fn locked<'d, D, R: Wait>(rt: &R, desk: &'d Mutex<D>) -> MutexGuard<'d, D> {
             return held;
         }
         if look < LOOKS {
-            hint::spin_loop();
+            pause();
         } else {
             thread::yield_now();
         }
