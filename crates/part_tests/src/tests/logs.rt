@@ -82,6 +82,10 @@ fn reset(log: &mut UndoLog) {
     log.reset();
 }
 
+fn assign(log: &mut UndoLog, other: &UndoLog) {
+    log.assign(other);
+}
+
 #[test]
 fn holds_113_records(rt: HostRuntime) {
     let mut log = empty();
@@ -160,4 +164,43 @@ fn other_bytes_are_another_log(rt: HostRuntime) -> Result<(), Fail> {
         "the undo log is full"
     );
     Ok(())
+}
+
+#[test]
+fn becomes_a_copy_of_a_shorter_log(rt: HostRuntime) {
+    let mut log = stored_twice(&rt);
+    reset(&mut log);
+    check_appended(&rt, &mut log, 512, 3, Ok(()));
+    let words = [
+        (0xff000, Some(0x4000)),
+        (0xff004, Some(3)),
+        (0xff024, Some(0x2000)),
+        (0xff028, Some(7)),
+    ];
+    check_words(&rt, &log, &words);
+    let mut shorter = empty();
+    check_appended(&rt, &mut shorter, 512, 3, Ok(()));
+    check_same(&rt, &log, &shorter, false);
+    assign(&mut log, &shorter);
+    check_same(&rt, &log, &shorter, true);
+    check_len(&rt, &log, 1);
+    let words = [
+        (0xff000, Some(0x4000)),
+        (0xff004, Some(3)),
+        (0xff024, Some(0)),
+        (0xff028, Some(0)),
+    ];
+    check_words(&rt, &log, &words);
+}
+
+#[test]
+fn becomes_a_copy_of_a_longer_log(rt: HostRuntime) {
+    let longer = stored_twice(&rt);
+    let mut log = empty();
+    check_appended(&rt, &mut log, 512, 3, Ok(()));
+    assign(&mut log, &longer);
+    check_same(&rt, &log, &longer, true);
+    check_word(&rt, &log, 0xff000, Some(0x2000));
+    check_word(&rt, &log, 0xff028, Some(7));
+    check_len(&rt, &log, 2);
 }
