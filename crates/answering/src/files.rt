@@ -98,15 +98,7 @@ fn carry_out<'a, R: Files + AllocGlobal, P: Progress, W: Write + Drop, E: Sink>(
     let list = read_if_any(rt, order.schedule())?;
     let writer = buffered(rt, out)?;
     let mut out = Counted { writer, failed: 0 };
-    let outcome = perform(
-        rt.alloc(),
-        order,
-        &bytes,
-        &list,
-        progress,
-        &mut out,
-        error,
-    );
+    let outcome = perform(rt.alloc(), order, &bytes, &list, progress, &mut out, error);
     let Counted {
         mut writer,
         failed: _,
@@ -136,13 +128,43 @@ fn show<'a, R: Files + AllocGlobal, P: Progress, W: Write + Drop, E: Sink>(
     match shown.view {
         View::Trace(Target::Output) => trace_out(rt, run, &bytes, &list, writer, error),
         View::Trace(Target::File(path)) => {
-            show_into(rt, run, Form::Trace, path, &bytes, &list, progress, writer, error)
+            show_into(
+                rt,
+                run,
+                Form::Trace,
+                path,
+                &bytes,
+                &list,
+                progress,
+                writer,
+                error,
+            )
         }
         View::Timeline(path) => {
-            show_into(rt, run, Form::Timeline, path, &bytes, &list, progress, writer, error)
+            show_into(
+                rt,
+                run,
+                Form::Timeline,
+                path,
+                &bytes,
+                &list,
+                progress,
+                writer,
+                error,
+            )
         }
         View::Picture(path) => {
-            show_into(rt, run, Form::Picture, path, &bytes, &list, progress, writer, error)
+            show_into(
+                rt,
+                run,
+                Form::Picture,
+                path,
+                &bytes,
+                &list,
+                progress,
+                writer,
+                error,
+            )
         }
     }
 }

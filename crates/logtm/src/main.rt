@@ -32,14 +32,7 @@ fn main(rt: HostRuntime) -> ExitCode {
         failed: 0,
     };
     let mut meter = Meter::new(&rt, line, rt.stderr().is_terminal());
-    let status = answer_all(
-        &rt,
-        &mut input,
-        prompt,
-        &mut meter,
-        rt.stdout(),
-        &mut error,
-    );
+    let status = answer_all(&rt, &mut input, prompt, &mut meter, rt.stdout(), &mut error);
     let Counted {
         writer: _,
         failed: _,
@@ -58,14 +51,7 @@ fn answer_all<
     P: Progress,
     W: Write + Drop,
     E: Sink,
->(
-    rt: &R,
-    input: &mut I,
-    prompt: &str,
-    progress: &mut P,
-    out: W,
-    error: &mut E,
-) -> u8 {
+>(rt: &R, input: &mut I, prompt: &str, progress: &mut P, out: W, error: &mut E) -> u8 {
     let arguments = match arguments(rt) {
         Ok(arguments) => arguments,
         Err(fault) => return fault.tell(error),

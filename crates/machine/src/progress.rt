@@ -34,9 +34,11 @@ impl<const SETS: usize, const WAYS: usize> Machine<SETS, WAYS> {
     {
         self.seats
             .iter()
-            .filter(|seat| -> bool
-                ensures { result ≡ is_running seat.now.now.hart.status }
-                { seat.hart.status() == Status::Running })
+            .filter(
+                |seat| -> bool
+                    ensures { result ≡ is_running seat.now.now.hart.status }
+                { seat.hart.status() == Status::Running },
+            )
             .count()
     }
 

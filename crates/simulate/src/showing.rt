@@ -107,10 +107,14 @@ fn try_apart<'a, P: Progress, T: Page, O: Sink>(
 {
     match run.cache {
         Cache::Small => {
-            show_apart_on::<2, 1, P, T, O>(alloc, run, form, path, file, schedule, progress, chart, out)
+            show_apart_on::<2, 1, P, T, O>(
+                alloc, run, form, path, file, schedule, progress, chart, out,
+            )
         }
         Cache::Normal => {
-            show_apart_on::<16, 4, P, T, O>(alloc, run, form, path, file, schedule, progress, chart, out)
+            show_apart_on::<16, 4, P, T, O>(
+                alloc, run, form, path, file, schedule, progress, chart, out,
+            )
         }
     }
 }
@@ -142,7 +146,16 @@ fn show_apart_on<'a, const SETS: usize, const WAYS: usize, P: Progress, T: Page,
         addrs,
         choices,
     } = begin::<SETS, WAYS>(alloc, run, file, schedule)?;
-    put_view(alloc, &mut machine, &choices, run.steps, form, path, progress, chart)?;
+    put_view(
+        alloc,
+        &mut machine,
+        &choices,
+        run.steps,
+        form,
+        path,
+        progress,
+        chart,
+    )?;
     let status = status(&machine);
     report(&machine, &addrs, out)?;
     Ok(status)

@@ -118,7 +118,12 @@ fn answers_are_named_for_their_senders(rt: HostRuntime) {
 /// the block at 0x2000.
 fn step_after(alloc: Global, steps: u32, choice: Choice) -> Result<Option<Step>, Fail> {
     let mut machine = booted(alloc, &COMMITS, 1)?;
-    follow(&mut machine, &[Choice::Core(hart(0)); 4], steps.min(4), &mut Silent)?;
+    follow(
+        &mut machine,
+        &[Choice::Core(hart(0)); 4],
+        steps.min(4),
+        &mut Silent,
+    )?;
     Ok(choice.step(&machine, hart(0)))
 }
 

@@ -23,7 +23,13 @@ const TRACE: &str = "0 0x00001000 00000a0b tbegin 20\n\
 fn traced<S: Sink>(alloc: Global, chosen: usize, sink: &mut S) -> Result<Result<(), Halt>, Fail> {
     let mut machine = booted(alloc, &COMMITS, 1)?;
     let choices = [Choice::Core(HartId::new(0)); 3];
-    Ok(put_trace(&mut machine, &choices[..chosen.min(3)], 100, sink, &mut Silent))
+    Ok(put_trace(
+        &mut machine,
+        &choices[..chosen.min(3)],
+        100,
+        sink,
+        &mut Silent,
+    ))
 }
 
 #[test]

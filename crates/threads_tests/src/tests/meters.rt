@@ -42,7 +42,12 @@ fn a_line_comes_after_a_second(rt: HostRuntime) -> Result<(), Fail> {
     let none = shown(&rt, true, &[10, 500, 999], true);
     assert_eq!(rt; none.bytes.as_slice(), b"".as_slice());
     // Sixteen times 65,536 steps are 1,048,576, in a second.
-    let line = shown(&rt, true, &[9, 9, 9, 9, 9, 9, 9, 9, 9, 9, 9, 9, 9, 9, 9, 1000], false);
+    let line = shown(
+        &rt,
+        true,
+        &[9, 9, 9, 9, 9, 9, 9, 9, 9, 9, 9, 9, 9, 9, 9, 1000],
+        false,
+    );
     let expected = b"\r\x1b[K1.0 million steps, 1.0 million a second, harts that run: 2";
     assert_eq!(rt; line.bytes.as_slice(), expected.as_slice());
     Ok(())
@@ -51,7 +56,8 @@ fn a_line_comes_after_a_second(rt: HostRuntime) -> Result<(), Fail> {
 #[test]
 fn a_line_stands_for_a_fifth_of_a_second(rt: HostRuntime) -> Result<(), Fail> {
     let two = shown(&rt, true, &[1000, 1100, 1199, 1200], true);
-    let expected = b"\r\x1b[K0.0 million steps, 0.0 million a second, harts that run: 2\r\x1b[K0.2 million steps, 0.2 million a second, harts that run: 2\r\x1b[K";
+    let expected =
+        b"\r\x1b[K0.0 million steps, 0.0 million a second, harts that run: 2\r\x1b[K0.2 million steps, 0.2 million a second, harts that run: 2\r\x1b[K";
     assert_eq!(rt; two.bytes.as_slice(), expected.as_slice());
     Ok(())
 }
