@@ -52,6 +52,30 @@ module _ {T : Type 0} (p : Option T → Bool) (not_none : p None ≡ false) wher
       let rest : count_by p (take keys xs) ≡ count_by p xs = counted_all xs keys (λ key le. beyond (suc key) (omega (arith, le))) in
       omega (arith, long, short, rest)
 
+-- how many of some slots are taken: that of the first, and those behind it
+taken_first : {T : Type 0} (x : Option T) (xs : List (Option T)) → count_by is_some (x ∷ xs) ≡ cond (is_some x) 1 0 + count_by is_some xs
+taken_first x xs = sum_by-cons (λ o. cond (is_some o) 1 0) x xs
+
+none_in : {T : Type 0} (slots : List (Option T)) → count_by is_some slots ≡ 0 → (key : ℕ) → slice_index_or slots key None ≡ None
+none_in [] none key = refl
+none_in (None ∷ xs) none zero = refl
+none_in (Some x ∷ xs) none zero =
+    let first : count_by is_some (Some x ∷ xs) ≡ 1 + count_by is_some xs = taken_first (Some x) xs in
+    absurd (omega (arith, none, first))
+none_in (x ∷ xs) none (suc key) =
+    let first : count_by is_some (x ∷ xs) ≡ cond (is_some x) 1 0 + count_by is_some xs = taken_first x xs in
+    none_in xs (omega (arith, none, first)) key
+
+-- where the first keys have as many as there are, nothing lies beyond them
+pub none_beyond : {T : Type 0} (slots : List (Option T)) (keys : ℕ) → count_by is_some (take keys slots) ≡ count_by is_some slots → (key : ℕ) → keys ≤ key → slice_index_or slots key None ≡ None
+none_beyond [] keys all key le = refl
+none_beyond (x ∷ xs) zero all key le = none_in (x ∷ xs) (sym all) key
+none_beyond (x ∷ xs) (suc keys) all zero le = absurd (omega (arith, le))
+none_beyond (x ∷ xs) (suc keys) all (suc key) le =
+    let long : count_by is_some (x ∷ xs) ≡ cond (is_some x) 1 0 + count_by is_some xs = taken_first x xs in
+    let short : count_by is_some (x ∷ take keys xs) ≡ cond (is_some x) 1 0 + count_by is_some (take keys xs) = taken_first x (take keys xs) in
+    none_beyond xs keys (omega (arith, long, short, all)) key (omega (arith, le))
+
 as_one : (b : Bool) → cond b 1 0 ≡ one_if b
 as_one true = refl
 as_one false = refl
