@@ -1,6 +1,6 @@
 use Rattle.machine.specs.States.{geometry}
 use Rattle.simulate.proofs.CountedRuns.{uncounted}
-use Rattle.simulate.proofs.counting.play.Goals as goal
+use Rattle.simulate.proofs.counting.count_if.Goals as goal
 
 pub returns-in_ok-follow-in-None : goal.returns-in_ok-follow-in-None
 returns-in_ok-follow-in-None g c =
