@@ -125,48 +125,13 @@ fn show<'a, R: Files + AllocGlobal, P: Progress, W: Write + Drop, E: Sink>(
     let bytes = read(rt, run.file)?;
     let list = read_if_any(rt, run.schedule)?;
     let writer = buffered(rt, out)?;
-    match shown.view {
-        View::Trace(Target::Output) => trace_out(rt, run, &bytes, &list, writer, error),
-        View::Trace(Target::File(path)) => {
-            show_into(
-                rt,
-                run,
-                Form::Trace,
-                path,
-                &bytes,
-                &list,
-                progress,
-                writer,
-                error,
-            )
-        }
-        View::Timeline(path) => {
-            show_into(
-                rt,
-                run,
-                Form::Timeline,
-                path,
-                &bytes,
-                &list,
-                progress,
-                writer,
-                error,
-            )
-        }
-        View::Picture(path) => {
-            show_into(
-                rt,
-                run,
-                Form::Picture,
-                path,
-                &bytes,
-                &list,
-                progress,
-                writer,
-                error,
-            )
-        }
-    }
+    let (form, path) = match shown.view {
+        View::Trace(Target::Output) => return trace_out(rt, run, &bytes, &list, writer, error),
+        View::Trace(Target::File(path)) => (Form::Trace, path),
+        View::Timeline(path) => (Form::Timeline, path),
+        View::Picture(path) => (Form::Picture, path),
+    };
+    show_into(rt, run, form, path, &bytes, &list, progress, writer, error)
 }
 
 /// The same where the trace goes to standard output.

@@ -2,11 +2,9 @@
 #![tactic(auto)]
 
 mod files;
-mod meter;
 mod serving;
 mod stop;
 pub mod threads;
 
 pub use files::answer;
-pub use meter::Meter;
 pub use stop::Stop;

@@ -1,9 +1,10 @@
 //! The program `logtm`: it answers its command line.
 #![tactic(auto)]
 
-use answering::{Meter, answer};
+use answering::answer;
 use console::{LineInput, Typed};
 use machine::Progress;
+use meter::Meter;
 use simulate::Fault;
 use std::env;
 use std::io::{ErrorKind, IsTerminal, Lock, Read, Write};

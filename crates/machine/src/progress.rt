@@ -1,4 +1,4 @@
-ghost use Rattle.std.specs.Prelude.{◌≡◌, ◌<◌, ◌≤◌, ◌-◌};
+ghost use Rattle.std.specs.Prelude.{◌≡◌, ◌<◌, ◌≤◌, ◌-◌, ℕ};
 ghost use Rattle.protocol.specs.Hart.{is_running};
 ghost use Rattle.machine.specs.Turns.{number_running};
 
@@ -10,8 +10,12 @@ pub const PACE: u32 = 65_536;
 
 /// What is told of a run's progress. Nothing that a run does depends on it.
 pub trait Progress {
+    /// What comes of telling that so many harts run.
+    ghost tells: { Self → ℕ → Self → Type 0 };
+
     /// The run has made [`PACE`] steps more, or a few less, and so many harts still run.
-    fn tell(&mut self, running: usize);
+    fn tell(&mut self, running: usize)
+        ensures { tells self.old running self.new };
 
     /// The run has ended.
     fn end(&mut self);
@@ -22,6 +26,8 @@ pub trait Progress {
 pub struct Silent;
 
 impl Progress for Silent {
+    ghost tells = { λ silent _ after. after ≡ silent };
+
     fn tell(&mut self, _running: usize) {}
 
     fn end(&mut self) {}
@@ -47,7 +53,7 @@ impl<const SETS: usize, const WAYS: usize> Machine<SETS, WAYS> {
     #[inline(always)]
     pub fn pace<P: Progress>(&self, made: u32, due: u32, progress: &mut P) -> u32
         ensures sooner { made < due → result ≡ due - made }
-        ensures told { due ≤ made → result ≡ 65536 }
+        ensures told { due ≤ made → (result ≡ 65536) × P.tells progress.old (number_running self.now.seats) progress.new }
         ensures silent { made < due → progress.new ≡ progress.old }
     {
         if made < due {

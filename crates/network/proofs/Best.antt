@@ -48,6 +48,23 @@ module _ (Passes Fails : ℕ → Flight → Type 0) (slots : List (Option Flight
     ];
   }
 
+  -- a key with a message that was not sent before the best changes nothing
+  pub IsBest-stay : (n : ℕ) (best : ℕ × ℕ) (g : Flight) → IsBest n (Some best) → get_or slots n None ≡ Some g → best.1 ≤ g.number → IsBest (n + 1) (Some best)
+  IsBest-stay n best g h at behind = record {
+    flight = h.flight;
+    here = h.here;
+    numbered = h.numbered;
+    below = omega arith;
+    passes = h.passes;
+    first = λ other f below there. elim (cases_eq other n) [
+      | inl e ↦
+          let same : g ≡ f = same_Some g f (sym at ∙ (rw e at there)) in
+          let k : g.number ≡ f.number = ap (λ (x : Flight). x.number) same in
+          inr (elim (cases_eq best.1 f.number) [ inl eq ↦ inr (eq, omega arith) | inr ne ↦ inl (omega arith) ])
+      | inr ne ↦ h.first other f (omega arith) there
+    ];
+  }
+
   -- a key with a message that passes
   pub IsBest-take : (n : ℕ) (best : Option (ℕ × ℕ)) (g : Flight) → IsBest n best → get_or slots n None ≡ Some g → Passes n g → IsBest (n + 1) (first_of best n g.number)
   IsBest-take n None g h at good = record {
@@ -80,20 +97,7 @@ module _ (Passes Fails : ℕ → Flight → Type 0) (slots : List (Option Flight
         })
     | inr higher ↦
         let t : leb best.1 g.number ≡ true = grind (arith, nat_tests) in
-        rw t (record {
-          flight = h.flight;
-          here = h.here;
-          numbered = h.numbered;
-          below = omega arith;
-          passes = h.passes;
-          first = λ other f below there. elim (cases_eq other n) [
-            | inl e ↦
-                let same : g ≡ f = same_Some g f (sym at ∙ (rw e at there)) in
-                let k : g.number ≡ f.number = ap (λ (x : Flight). x.number) same in
-                inr (elim (cases_eq best.1 f.number) [ inl eq ↦ inr (eq, omega arith) | inr ne ↦ inl (omega arith) ])
-            | inr ne ↦ h.first other f (omega arith) there
-          ];
-        })
+        rw t (IsBest-stay n best g h at higher)
   ]
 
   -- a key with an earlier message that passes
@@ -107,22 +111,7 @@ module _ (Passes Fails : ℕ → Flight → Type 0) (slots : List (Option Flight
   -- a key with a later message changes nothing
   pub IsBest-later : (n : ℕ) (best : Option (ℕ × ℕ)) (g : Flight) → IsBest n best → get_or slots n None ≡ Some g → is_earlier g.number best ≡ false → IsBest (n + 1) best
   IsBest-later n None g h at later = absurd (true≢false later)
-  IsBest-later n (Some best) g h at later =
-      let behind : best.1 ≤ g.number = grind (arith, nat_tests, later) in
-      record {
-        flight = h.flight;
-        here = h.here;
-        numbered = h.numbered;
-        below = omega arith;
-        passes = h.passes;
-        first = λ other f below there. elim (cases_eq other n) [
-          | inl e ↦
-              let same : g ≡ f = same_Some g f (sym at ∙ (rw e at there)) in
-              let k : g.number ≡ f.number = ap (λ (x : Flight). x.number) same in
-              inr (elim (cases_eq best.1 f.number) [ inl eq ↦ inr (eq, omega arith) | inr ne ↦ inl (omega arith) ])
-          | inr ne ↦ h.first other f (omega arith) there
-        ];
-      }
+  IsBest-later n (Some best) g h at later = IsBest-stay n best g h at (grind (arith, nat_tests, later))
 
 -- a message lies below the end of the slots
 pub inside : (slots : List (Option Flight)) (key : ℕ) (f : Flight) → get_or slots key None ≡ Some f → key < length slots
