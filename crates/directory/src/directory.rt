@@ -1,4 +1,4 @@
-ghost use Rattle.std.specs.Prelude.{◌≡◌, ◌≢◌, ◌<◌, ◌≤◌, ◌↔◌, ℕ, [], None, length, vec_len, Some, OnOk, OnErr, IfOk, IfSome, IsTrue, IsSome};
+ghost use Rattle.std.specs.Prelude.{◌≡◌, ◌≢◌, ◌<◌, ◌≤◌, ◌↔◌, ℕ, [], None, is_some, length, vec_len, Some, OnOk, OnErr, IfOk, IfSome, IsTrue, IsSome};
 ghost use Rattle.words.specs.Limits.{most_harts};
 ghost use Rattle.protocol.specs.Messages.{shown, block_of, Get, Put};
 ghost use Rattle.protocol.specs.Directory.{first_entry, done_of, done_row};
@@ -63,6 +63,17 @@ impl Directory {
         match self.entries.get(&block.number()) {
             Some(entry) => *entry,
             None => DirEntry::first(),
+        }
+    }
+
+    /// Whether a block is busy with a request.
+    #[inline(always)]
+    pub fn is_busy(&self, block: BlockNo) -> bool
+        ensures { result ≡ is_some (entry_at self.now block).busy }
+    {
+        match self.entries.get(&block.number()) {
+            Some(entry) => entry.busy.is_some(),
+            None => false,
         }
     }
 

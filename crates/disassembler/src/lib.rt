@@ -12,4 +12,4 @@ mod window;
 pub use laws::texts_differ;
 pub use lister::{listing, put_line};
 pub use names::register as register_name;
-pub use printer::text;
+pub use printer::{add_text, text};

@@ -1,9 +1,9 @@
-ghost use Rattle.std.specs.Prelude.{◌≡◌, MatchOption, None, Some};
+ghost use Rattle.std.specs.Prelude.{◌≡◌, ◌≤◌, ◌+◌, ◌++◌, length};
 ghost use Rattle.table.specs.declared.instr.Instr.TheVariants.{Amo, Fence};
-ghost use Rattle.disassembler.specs.Canonical.{canonical, spelled, plain};
+ghost use Rattle.disassembler.specs.Canonical.{canonical, spelled, plain, text_or};
 
 use crate::names::{amo_name, branch_name, imm_name, load_name, op_name, shift_name, store_name};
-use crate::shapes::{Line, atomic, based, begin, jump, named, numbered, registers, shifted, upper};
+use crate::shapes::{atomic, based, begin, jump, numbered, registers, shifted, upper};
 use arrayvec::ArrayString;
 use operands::FenceBits;
 use table::{AmoOp, Instr, decode};
@@ -11,53 +11,64 @@ use texts::{ascii, hexadecimal};
 use words::Reg;
 
 /// The canonical text of a word: its mnemonic and its operands, or `.word` with its digits. No other word has the same.
-#[tactic(auto, unfolding(crate::specs::Canonical::canonical))]
 pub fn text(word: u32) -> ArrayString<40>
     ensures { result.bytes ≡ canonical word }
 {
+    let mut line = ArrayString::new();
+    add_text(word, &mut line);
+    line
+}
+
+/// Adds the canonical text of a word to a line that has room for it: no text is longer than 40 bytes.
+#[tactic(auto, unfolding(crate::specs::Canonical::canonical))]
+pub fn add_text<const CAP: usize>(word: u32, line: &mut ArrayString<CAP>)
+    requires { length line.old.bytes + 40 ≤ CAP }
+    ensures text { line.new.bytes ≡ line.old.bytes ++ canonical word }
+    ensures longer { length line.new.bytes ≤ length line.old.bytes + 40 }
+{
     match decode(word) {
-        Some(instr) => match spelled(instr) {
-            Some(text) => text,
-            None => plain(word),
-        },
-        None => plain(word),
+        Some(instr) => add_instr(instr, word, line),
+        None => add_plain(word, line),
     }
 }
 
 #[tactic(auto, unfolding(crate::specs::Canonical::plain))]
-fn plain(word: u32) -> Line
-    ensures { result.bytes ≡ plain word }
+fn add_plain<const CAP: usize>(word: u32, line: &mut ArrayString<CAP>)
+    requires { length line.old.bytes + 40 ≤ CAP }
+    ensures text { line.new.bytes ≡ line.old.bytes ++ plain word }
+    ensures longer { length line.new.bytes ≤ length line.old.bytes + 40 }
 {
-    let mut line = named(".word 0x");
+    line.push_str(".word 0x");
     line.push_str(ascii(&hexadecimal(word)));
-    line
 }
 
-/// The text of an instruction, if it has one.
-fn spelled(instr: Instr) -> Option<Line>
-    ensures { MatchOption result (spelled instr ≡ None) (λ t. spelled instr ≡ Some t.bytes) }
+/// Adds the text of an instruction, or the plain text of its word if it has none.
+fn add_instr<const CAP: usize>(instr: Instr, word: u32, line: &mut ArrayString<CAP>)
+    requires { length line.old.bytes + 40 ≤ CAP }
+    ensures text { line.new.bytes ≡ line.old.bytes ++ text_or (plain word) (spelled instr) }
+    ensures longer { length line.new.bytes ≤ length line.old.bytes + 40 }
 {
-    let line = match instr {
-        Instr::Lui { rd, imm } => upper("lui", rd, imm),
-        Instr::Auipc { rd, imm } => upper("auipc", rd, imm),
-        Instr::Jal { rd, offset } => jump("jal", rd, offset.value()),
-        Instr::Jalr { rd, rs1, imm } => based("jalr", rd, imm, rs1),
+    match instr {
+        Instr::Lui { rd, imm } => upper("lui", rd, imm, line),
+        Instr::Auipc { rd, imm } => upper("auipc", rd, imm, line),
+        Instr::Jal { rd, offset } => jump("jal", rd, offset.value(), line),
+        Instr::Jalr { rd, rs1, imm } => based("jalr", rd, imm, rs1, line),
         Instr::Branch {
             op,
             rs1,
             rs2,
             offset,
-        } => numbered(branch_name(op), rs1, rs2, offset.value()),
-        Instr::Load { op, rd, rs1, imm } => based(load_name(op), rd, imm, rs1),
-        Instr::Store { op, rs1, rs2, imm } => based(store_name(op), rs2, imm, rs1),
-        Instr::OpImm { op, rd, rs1, imm } => numbered(imm_name(op), rd, rs1, imm.value()),
+        } => numbered(branch_name(op), rs1, rs2, offset.value(), line),
+        Instr::Load { op, rd, rs1, imm } => based(load_name(op), rd, imm, rs1, line),
+        Instr::Store { op, rs1, rs2, imm } => based(store_name(op), rs2, imm, rs1, line),
+        Instr::OpImm { op, rd, rs1, imm } => numbered(imm_name(op), rd, rs1, imm.value(), line),
         Instr::ShiftImm {
             op,
             rd,
             rs1,
             amount,
-        } => shifted(shift_name(op), rd, rs1, amount),
-        Instr::Op { op, rd, rs1, rs2 } => registers(op_name(op), rd, rs1, rs2),
+        } => shifted(shift_name(op), rd, rs1, amount, line),
+        Instr::Op { op, rd, rs1, rs2 } => registers(op_name(op), rd, rs1, rs2, line),
         Instr::Amo {
             op,
             rd,
@@ -65,16 +76,15 @@ fn spelled(instr: Instr) -> Option<Line>
             rs2,
             aq,
             rl,
-        } if !aq && !rl => atomic(amo_name(op), rd, rs2, rs1),
-        Instr::Fence { bits } if bits.value() == FULL_FENCE => named("fence"),
-        Instr::Amo { .. } | Instr::Fence { .. } => return None,
-        Instr::Ecall => named("ecall"),
-        Instr::Ebreak => named("ebreak"),
-        Instr::TBegin { offset } => begin(offset),
-        Instr::TCommit => named("tcommit"),
-        Instr::TAbort => named("tabort"),
-    };
-    Some(line)
+        } if !aq && !rl => atomic(amo_name(op), rd, rs2, rs1, line),
+        Instr::Fence { bits } if bits.value() == FULL_FENCE => line.push_str("fence"),
+        Instr::Amo { .. } | Instr::Fence { .. } => add_plain(word, line),
+        Instr::Ecall => line.push_str("ecall"),
+        Instr::Ebreak => line.push_str("ebreak"),
+        Instr::TBegin { offset } => begin(offset, line),
+        Instr::TCommit => line.push_str("tcommit"),
+        Instr::TAbort => line.push_str("tabort"),
+    }
 }
 
 /// The bits of the fence that has a text: of all reads and writes before it, and all after it.

@@ -9,3 +9,4 @@ pub mod Alone
 pub mod Stores
 pub mod Plain
 pub mod Answering
+pub mod Keeping

@@ -3,13 +3,15 @@ ghost use Rattle.std.specs.Option.{option_map};
 ghost use Rattle.cache.specs.Sets.{line_at};
 ghost use Rattle.protocol.specs.Messages.{shown, Done};
 ghost use Rattle.protocol.specs.Lines.{refuses, line_given, line_filled, state_given};
-ghost use Rattle.protocol.specs.Hart.{quiet, with_line, overflow_of};
+ghost use Rattle.protocol.specs.Hart.{Request as ProtocolRequest, quiet, with_line, overflow_of};
 ghost use Rattle.protocol.specs.Requests.{granted_so_far, granted_row, refused_row, grant_row, ack_row, nack_row};
 ghost use Rattle.protocol.specs.HartMessages.{message_row, forward_row, refuse_row, acknowledge_row, put_ack_row, content_held};
 
 use crate::hart::Hart;
 use crate::reply::Reply;
-use crate::request::{Granted, Request, content_back, have_answered};
+use crate::request::{
+    Granted, Request, content_back, have_answered, keep_ack, keep_grant, keep_nack,
+};
 use crate::transactions::{give_way, note_refusal};
 use cache::Line;
 use conflict::{earlier, refuses};
@@ -37,7 +39,7 @@ impl<const SETS: usize, const WAYS: usize> Hart<SETS, WAYS> {
                 expect,
             } => self.on_grant(
                 *block,
-                Granted {
+                &Granted {
                     give: *give,
                     content: *content,
                     expect: *expect,
@@ -59,7 +61,7 @@ impl<const SETS: usize, const WAYS: usize> Hart<SETS, WAYS> {
                 to: _,
                 block,
                 content,
-            } => self.on_ack(*block, *from, *content),
+            } => self.on_ack(*block, *from, content),
             Message::Nack {
                 from,
                 to: _,
@@ -172,41 +174,28 @@ impl<const SETS: usize, const WAYS: usize> Hart<SETS, WAYS> {
         }
     }
 
-    /// The request that is out, if it is for this block.
-    fn awaited(&self, block: BlockNo) -> Option<Request>
-        ensures value { result ≡ option_and_then (λ r. cond (r.block == block) (Some r) None) self.now.request }
-        ensures some { IfSome result (λ r. (self.now.request ≡ Some r) × (r.block ≡ block)) }
-    {
-        let request = self.request?;
-        if request.block == block {
-            Some(request)
-        } else {
-            None
-        }
-    }
-
-    fn on_grant(&mut self, block: BlockNo, granted: Granted) -> Reply
+    fn on_grant(&mut self, block: BlockNo, granted: &Granted) -> Reply
         ensures row { (output : List ℕ) →
-            grant_row self.old.harts self.old.index block (shown_granted granted) (shown_hart SETS output self.old)
+            grant_row self.old.harts self.old.index block (shown_granted granted.now) (shown_hart SETS output self.old)
             ≡ replied SETS output self.new result }
         ensures stays { StaysPut self.old self.new }
     {
-        match self.awaited(block) {
-            Some(request) => self.settle(&request.with_grant(granted)),
-            None => Reply::none(),
+        if !keep_grant(&mut self.request, block, granted) {
+            return Reply::none();
         }
+        self.settle()
     }
 
-    fn on_ack(&mut self, block: BlockNo, from: HartId, content: Option<Block>) -> Reply
+    fn on_ack(&mut self, block: BlockNo, from: HartId, content: &Option<Block>) -> Reply
         ensures row { (output : List ℕ) →
-            ack_row self.old.harts self.old.index block from content (shown_hart SETS output self.old)
+            ack_row self.old.harts self.old.index block from content.now (shown_hart SETS output self.old)
             ≡ replied SETS output self.new result }
         ensures stays { StaysPut self.old self.new }
     {
-        match self.awaited(block) {
-            Some(request) => self.settle(&request.with_ack(from, content)),
-            None => Reply::none(),
+        if !keep_ack(&mut self.request, block, from, content) {
+            return Reply::none();
         }
+        self.settle()
     }
 
     fn on_nack(&mut self, block: BlockNo, from: HartId, stamp: Option<Stamp>) -> Reply
@@ -216,31 +205,33 @@ impl<const SETS: usize, const WAYS: usize> Hart<SETS, WAYS> {
         ensures stays { StaysPut self.old self.new }
     {
         let is_earlier = earlier(stamp, self.stamp());
-        match self.awaited(block) {
-            Some(request) => self.settle(&request.with_nack(from, is_earlier)),
-            None => Reply::none(),
+        if !keep_nack(&mut self.request, block, from, is_earlier) {
+            return Reply::none();
         }
+        self.settle()
     }
 
-    /// Ends the request, which has got another answer, if that was the last one; else waits on.
-    fn settle(&mut self, request: &Request) -> Reply
-        requires { IsSomeAnd self.old.request (λ old. request.now.block ≡ old.block) }
-        ensures row { (output : List ℕ) → let r = shown_request request.now in
-            granted_so_far self.old.harts self.old.index r r.grant (shown_hart SETS output self.old)
-            ≡ replied SETS output self.new result }
+    /// Ends the request that is out, which has got another answer, if that was the last one; else waits on.
+    fn settle(&mut self) -> Reply
+        ensures row { (output : List ℕ) (r : ProtocolRequest) → let h = shown_hart SETS output self.old in
+            h.request ≡ Some r → granted_so_far self.old.harts self.old.index r r.grant h ≡ replied SETS output self.new result }
         ensures stays { StaysPut self.old self.new }
     {
-        if let Some(granted) = &request.grant {
-            if have_answered(&granted.expect, &request.answered, self.harts) {
-                return if request.refused {
-                    self.end_refused(request)
-                } else {
-                    self.end_granted(request, granted)
-                };
-            }
+        let Some(request) = &self.request else {
+            return Reply::none();
+        };
+        let Some(granted) = &request.grant else {
+            return Reply::none();
+        };
+        if !have_answered(&granted.expect, &request.answered, self.harts) {
+            return Reply::none();
         }
-        self.request = Some(*request);
-        Reply::none()
+        let (request, granted) = (*request, *granted);
+        if request.refused {
+            self.end_refused(&request)
+        } else {
+            self.end_granted(&request, &granted)
+        }
     }
 
     /// The request ends refused, and the hart is free to ask again, unless its transaction aborts now.

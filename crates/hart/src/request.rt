@@ -1,6 +1,8 @@
-ghost use Rattle.std.specs.Prelude.{◌≡◌, ◌≤◌, ◌||◌, ◌↔◌, ℕ, Option, IsTrue};
+ghost use Rattle.std.specs.Prelude.{◌≡◌, ◌≤◌, ◌||◌, ◌↔◌, ℕ, Option, IsTrue, IsFalse};
 ghost use Rattle.words.specs.Harts.{names};
 ghost use Rattle.words.specs.Limits.{most_harts};
+ghost use Rattle.hart.specs.Shown.{shown_granted, shown_request};
+ghost use Rattle.hart.specs.Answers.{Keeps, AwaitsNone};
 ghost use Rattle.protocol.specs.Requests.{new_request, with_grant, with_ack, with_nack, have_answered, content_back};
 
 use words::{Block, BlockNo, HartId, HartSet, Kind, LineState};
@@ -40,8 +42,6 @@ pub struct PutOut {
 }
 
 impl Request {
-    ghost use Rattle.hart.specs.Shown.{shown_granted, shown_request};
-
     /// A request without answers.
     pub(crate) fn new(block: BlockNo, kind: Kind) -> Self
         ensures { shown_request result ≡ new_request block kind }
@@ -57,41 +57,82 @@ impl Request {
         }
     }
 
-    /// The request with its grant.
-    pub(crate) fn with_grant(&self, granted: Granted) -> Self
-        ensures { shown_request result ≡ with_grant (shown_granted granted) (shown_request self.now) }
+    /// Keeps its grant.
+    fn keep_grant(&mut self, granted: &Granted)
+        ensures { shown_request self.new ≡ with_grant (shown_granted granted.now) (shown_request self.old) }
     {
-        Request {
-            grant: Some(granted),
-            ..*self
+        self.grant = Some(*granted);
+    }
+
+    /// Keeps an acknowledgement.
+    fn keep_ack(&mut self, from: HartId, content: &Option<Block>)
+        ensures { shown_request self.new ≡ with_ack from content.now (shown_request self.old) }
+    {
+        self.answered.insert(from);
+        if content.is_some() {
+            self.content = *content;
         }
     }
 
-    /// The request with an acknowledgement.
-    pub(crate) fn with_ack(&self, from: HartId, content: Option<Block>) -> Self
-        ensures { shown_request result ≡ with_ack from content (shown_request self.now) }
+    /// Keeps a refusal, of a transaction that is earlier or not.
+    fn keep_nack(&mut self, from: HartId, is_earlier: bool)
+        ensures { shown_request self.new ≡ with_nack from is_earlier (shown_request self.old) }
     {
-        let mut answered = self.answered;
-        answered.insert(from);
-        Request {
-            answered,
-            content: content.or(self.content),
-            ..*self
-        }
+        self.answered.insert(from);
+        self.refused = true;
+        self.earlier = self.earlier || is_earlier;
     }
+}
 
-    /// The request with a refusal, of a transaction that is earlier or not.
-    pub(crate) fn with_nack(&self, from: HartId, is_earlier: bool) -> Self
-        ensures { shown_request result ≡ with_nack from is_earlier (shown_request self.now) }
-    {
-        let mut answered = self.answered;
-        answered.insert(from);
-        Request {
-            answered,
-            refused: true,
-            earlier: self.earlier || is_earlier,
-            ..*self
+/// Keeps a block's grant with the request that is out for it. The answer is whether there is one.
+pub(crate) fn keep_grant(out: &mut Option<Request>, block: BlockNo, granted: &Granted) -> bool
+    ensures kept { IsTrue result → Keeps (with_grant (shown_granted granted.now)) block out.old out.new }
+    ensures none { IsFalse result → AwaitsNone block out.old × (out.new ≡ out.old) }
+{
+    match out {
+        Some(request) if request.block == block => {
+            request.keep_grant(granted);
+            true
         }
+        _ => false,
+    }
+}
+
+/// The same of a hart's acknowledgement.
+pub(crate) fn keep_ack(
+    out: &mut Option<Request>,
+    block: BlockNo,
+    from: HartId,
+    content: &Option<Block>,
+) -> bool
+    ensures kept { IsTrue result → Keeps (with_ack from content.now) block out.old out.new }
+    ensures none { IsFalse result → AwaitsNone block out.old × (out.new ≡ out.old) }
+{
+    match out {
+        Some(request) if request.block == block => {
+            request.keep_ack(from, content);
+            true
+        }
+        _ => false,
+    }
+}
+
+/// The same of a hart's refusal, by a transaction that is earlier or not.
+pub(crate) fn keep_nack(
+    out: &mut Option<Request>,
+    block: BlockNo,
+    from: HartId,
+    is_earlier: bool,
+) -> bool
+    ensures kept { IsTrue result → Keeps (with_nack from is_earlier) block out.old out.new }
+    ensures none { IsFalse result → AwaitsNone block out.old × (out.new ≡ out.old) }
+{
+    match out {
+        Some(request) if request.block == block => {
+            request.keep_nack(from, is_earlier);
+            true
+        }
+        _ => false,
     }
 }
 

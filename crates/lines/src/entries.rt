@@ -1,20 +1,35 @@
-ghost use Rattle.std.specs.Prelude.{◌≡◌, ◌≤◌, length, codes};
+ghost use Rattle.std.specs.Prelude.{◌≡◌, ◌≤◌, ◌+◌, ◌++◌, [], length, codes, decimal};
 ghost use Rattle.words.specs.declared.entry.Entry.TheVariants.{Retire, Abort, Trap, Refuse, Spill};
 ghost use Rattle.texts.specs.Puts.{Puts};
+ghost use Rattle.texts.specs.Numerals.{hexadecimal};
+ghost use Rattle.disassembler.specs.Canonical.{canonical};
 ghost use Rattle.lines.specs.Entries as spec;
 ghost use Rattle.lines.specs.Entries.{entry_line};
 
-use crate::parts::{first_byte, hart_text};
+use crate::parts::{first_byte, hart_digit};
 use arrayvec::ArrayString;
-use disassembler::{register_name, text};
+use disassembler::{add_text, register_name};
 use itoa::Buffer;
 use table::byte_count;
 use texts::{ascii, hexadecimal, put_all};
 use words::{AbortCause, Access, Addr, BlockNo, Cause, Entry, HartId, Reg, Sink, SinkFault};
 
+/// A line of an entry: none is longer than 180 bytes.
+type Line = ArrayString<180>;
+
 /// Puts the line of an entry.
 pub fn put_entry<S: Sink>(entry: &Entry, sink: &mut S) -> Result<(), SinkFault>
     ensures { Puts (S.taken sink.old) (S.taken sink.new) (S.failed sink.old) (S.failed sink.new) (entry_line entry.now) result }
+{
+    let mut line = Line::new();
+    write_entry(entry, &mut line);
+    put_all(sink, &[line.as_str().as_bytes()])
+}
+
+/// Writes the line of an entry into an empty one.
+fn write_entry(entry: &Entry, line: &mut Line)
+    requires { line.old.bytes ≡ [] }
+    ensures { line.new.bytes ≡ entry_line entry.now }
 {
     match *entry {
         Entry::Retire {
@@ -24,79 +39,84 @@ pub fn put_entry<S: Sink>(entry: &Entry, sink: &mut S) -> Result<(), SinkFault>
             write,
             load,
             store,
-        } => put_retired(hart, pc, word, write, load, store, sink),
-        Entry::Abort { hart, cause } => put_aborted(hart, cause, sink),
-        Entry::Trap { hart, cause, pc } => put_trapped(hart, cause, pc, sink),
+        } => write_retired(hart, pc, word, write, load, store, line),
+        Entry::Abort { hart, cause } => write_aborted(hart, cause, line),
+        Entry::Trap { hart, cause, pc } => write_trapped(hart, cause, pc, line),
         Entry::Refuse {
             hart,
             requester,
             block,
-        } => put_refused(hart, requester, block, sink),
-        Entry::Spill { hart, block } => put_spilled(hart, block, sink),
+        } => write_refused(hart, requester, block, line),
+        Entry::Spill { hart, block } => write_spilled(hart, block, line),
     }
 }
 
-fn put_retired<S: Sink>(
+fn write_retired(
     hart: HartId,
     pc: Addr,
     word: u32,
     write: Option<(Reg, u32)>,
     load: Option<Access>,
     store: Option<Access>,
-    sink: &mut S,
-) -> Result<(), SinkFault>
-    ensures { Puts (S.taken sink.old) (S.taken sink.new) (S.failed sink.old) (S.failed sink.new) (entry_line (Retire hart pc word write load store)) result }
+    line: &mut Line,
+)
+    requires { line.old.bytes ≡ [] }
+    ensures { line.new.bytes ≡ entry_line (Retire hart pc word write load store) }
 {
-    put_all(
-        sink,
-        &[
-            hart_text(hart).as_str().as_bytes(),
-            b" 0x",
-            &hexadecimal(pc.value()),
-            b" ",
-            &hexadecimal(word),
-            b" ",
-            text(word).as_str().as_bytes(),
-            write_part(write).as_str().as_bytes(),
-            access_part("load", load).as_str().as_bytes(),
-            access_part("store", store).as_str().as_bytes(),
-            b"\n",
-        ],
-    )
+    write_word(hart, pc, word, line);
+    add_write(write, line);
+    add_access("load", load, line);
+    add_access("store", store, line);
+    line.push_str("\n");
 }
 
-/// The register that was written, if one was, and its value.
-fn write_part(write: Option<(Reg, u32)>) -> ArrayString<18>
-    ensures { result.bytes ≡ spec.write_part write }
+/// Writes the hart, the pc, and the word with its text.
+fn write_word(hart: HartId, pc: Addr, word: u32, line: &mut Line)
+    requires { line.old.bytes ≡ [] }
+    ensures text { line.new.bytes ≡ decimal hart ++ codes " 0x" ++ hexadecimal pc ++ codes " " ++ hexadecimal word ++ codes " " ++ canonical word }
+    ensures short { length line.new.bytes ≤ 64 }
 {
-    let mut part = ArrayString::new();
+    line.push_str(ascii(&hart_digit(hart)));
+    line.push_str(" 0x");
+    line.push_str(ascii(&hexadecimal(pc.value())));
+    line.push_str(" ");
+    line.push_str(ascii(&hexadecimal(word)));
+    line.push_str(" ");
+    add_text(word, line);
+}
+
+/// Adds the register that was written, if one was, and its value.
+fn add_write(write: Option<(Reg, u32)>, line: &mut Line)
+    requires { length line.old.bytes ≤ 64 }
+    ensures text { line.new.bytes ≡ line.old.bytes ++ spec.write_part write }
+    ensures longer { length line.new.bytes ≤ length line.old.bytes + 18 }
+{
     if let Some((register, value)) = write {
-        part.push_str(" | ");
-        part.push_str(register_name(register));
-        part.push_str("=0x");
-        part.push_str(ascii(&hexadecimal(value)));
+        line.push_str(" | ");
+        line.push_str(register_name(register));
+        line.push_str("=0x");
+        line.push_str(ascii(&hexadecimal(value)));
     }
-    part
 }
 
-/// An access, if there was one.
-fn access_part(name: &str, access: Option<Access>) -> ArrayString<48>
-    requires { length name.now ≤ 5 }
-    ensures { result.bytes ≡ spec.access_part name.now access }
+/// Adds an access, if there was one.
+fn add_access(name: &str, access: Option<Access>, line: &mut Line)
+    requires short { length name.now ≤ 5 }
+    requires room { length line.old.bytes ≤ 130 }
+    ensures text { line.new.bytes ≡ line.old.bytes ++ spec.access_part name.now access }
+    ensures longer { length line.new.bytes ≤ length line.old.bytes + 48 }
 {
-    let mut part = ArrayString::new();
     if let Some(access) = access {
         let mut digits = Buffer::new();
-        part.push_str(" | ");
-        part.push_str(name);
-        part.push_str(" ");
-        part.push_str(digits.format(byte_count(access.width)));
-        part.push_str(" 0x");
-        part.push_str(ascii(&hexadecimal(access.addr.value())));
-        part.push_str("=0x");
-        part.push_str(ascii(&hexadecimal(access.value)));
+        line.push_str(" | ");
+        line.push_str(name);
+        line.push_str(" ");
+        line.push_str(digits.format(byte_count(access.width)));
+        line.push_str(" 0x");
+        line.push_str(ascii(&hexadecimal(access.addr.value())));
+        line.push_str("=0x");
+        line.push_str(ascii(&hexadecimal(access.value)));
     }
-    part
 }
 
 /// A cause, by its number and its name.
@@ -112,18 +132,14 @@ pub(crate) fn cause_text(cause: Cause) -> ArrayString<40>
     text
 }
 
-fn put_aborted<S: Sink>(hart: HartId, cause: AbortCause, sink: &mut S) -> Result<(), SinkFault>
-    ensures { Puts (S.taken sink.old) (S.taken sink.new) (S.failed sink.old) (S.failed sink.new) (entry_line (Abort hart cause)) result }
+fn write_aborted(hart: HartId, cause: AbortCause, line: &mut Line)
+    requires { line.old.bytes ≡ [] }
+    ensures { line.new.bytes ≡ entry_line (Abort hart cause) }
 {
-    put_all(
-        sink,
-        &[
-            hart_text(hart).as_str().as_bytes(),
-            b" abort ",
-            abort_text(cause).as_str().as_bytes(),
-            b"\n",
-        ],
-    )
+    line.push_str(ascii(&hart_digit(hart)));
+    line.push_str(" abort ");
+    line.push_str(abort_text(cause).as_str());
+    line.push_str("\n");
 }
 
 fn abort_text(cause: AbortCause) -> ArrayString<40>
@@ -146,53 +162,36 @@ fn named(name: &str) -> ArrayString<40>
     text
 }
 
-fn put_trapped<S: Sink>(hart: HartId, cause: Cause, pc: Addr, sink: &mut S) -> Result<(), SinkFault>
-    ensures { Puts (S.taken sink.old) (S.taken sink.new) (S.failed sink.old) (S.failed sink.new) (entry_line (Trap hart cause pc)) result }
+fn write_trapped(hart: HartId, cause: Cause, pc: Addr, line: &mut Line)
+    requires { line.old.bytes ≡ [] }
+    ensures { line.new.bytes ≡ entry_line (Trap hart cause pc) }
 {
-    put_all(
-        sink,
-        &[
-            hart_text(hart).as_str().as_bytes(),
-            b" ",
-            cause_text(cause).as_str().as_bytes(),
-            b" at 0x",
-            &hexadecimal(pc.value()),
-            b"\n",
-        ],
-    )
+    line.push_str(ascii(&hart_digit(hart)));
+    line.push_str(" ");
+    line.push_str(cause_text(cause).as_str());
+    line.push_str(" at 0x");
+    line.push_str(ascii(&hexadecimal(pc.value())));
+    line.push_str("\n");
 }
 
-fn put_refused<S: Sink>(
-    hart: HartId,
-    requester: HartId,
-    block: BlockNo,
-    sink: &mut S,
-) -> Result<(), SinkFault>
-    ensures { Puts (S.taken sink.old) (S.taken sink.new) (S.failed sink.old) (S.failed sink.new) (entry_line (Refuse hart requester block)) result }
+fn write_refused(hart: HartId, requester: HartId, block: BlockNo, line: &mut Line)
+    requires { line.old.bytes ≡ [] }
+    ensures { line.new.bytes ≡ entry_line (Refuse hart requester block) }
 {
-    put_all(
-        sink,
-        &[
-            hart_text(hart).as_str().as_bytes(),
-            b" refuses ",
-            hart_text(requester).as_str().as_bytes(),
-            b" block 0x",
-            &first_byte(block),
-            b"\n",
-        ],
-    )
+    line.push_str(ascii(&hart_digit(hart)));
+    line.push_str(" refuses ");
+    line.push_str(ascii(&hart_digit(requester)));
+    line.push_str(" block 0x");
+    line.push_str(ascii(&first_byte(block)));
+    line.push_str("\n");
 }
 
-fn put_spilled<S: Sink>(hart: HartId, block: BlockNo, sink: &mut S) -> Result<(), SinkFault>
-    ensures { Puts (S.taken sink.old) (S.taken sink.new) (S.failed sink.old) (S.failed sink.new) (entry_line (Spill hart block)) result }
+fn write_spilled(hart: HartId, block: BlockNo, line: &mut Line)
+    requires { line.old.bytes ≡ [] }
+    ensures { line.new.bytes ≡ entry_line (Spill hart block) }
 {
-    put_all(
-        sink,
-        &[
-            hart_text(hart).as_str().as_bytes(),
-            b" spills block 0x",
-            &first_byte(block),
-            b"\n",
-        ],
-    )
+    line.push_str(ascii(&hart_digit(hart)));
+    line.push_str(" spills block 0x");
+    line.push_str(ascii(&first_byte(block)));
+    line.push_str("\n");
 }

@@ -7,17 +7,24 @@ ghost use Rattle.lines.specs.Parts as spec;
 
 use arrayvec::ArrayString;
 use itoa::Buffer;
-use texts::hexadecimal;
+use texts::{ascii, hexadecimal};
 use words::{BLOCK_BYTES, BlockNo, HARTS, HartId, HartSet, LineState, Stamp};
 
 /// A hart's number.
 pub fn hart_text(hart: HartId) -> ArrayString<3>
     ensures { result.bytes ≡ decimal hart }
 {
-    let mut digits = Buffer::new();
     let mut text = ArrayString::new();
-    text.push_str(digits.format(hart.index() as u8));
+    text.push_str(ascii(&hart_digit(hart)));
     text
+}
+
+/// The one digit of a hart's number.
+pub(crate) fn hart_digit(hart: HartId) -> [u8; 1]
+    ensures digit { result ≡ decimal hart }
+    ensures ascii { IsAscii result }
+{
+    [b'0' + hart.index() as u8]
 }
 
 /// The digits of the address of a block's first byte.

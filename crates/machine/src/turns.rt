@@ -20,9 +20,7 @@ pub(crate) fn is_held(directory: &Directory, message: &Message) -> bool
         result ≡ is_none (directory_row n (shown_message message.now) (entry_at directory.now (block_of (shown_message message.now))) words) }
 {
     match message {
-        Message::Get { block, .. } | Message::Put { block, .. } => {
-            directory.entry(*block).busy.is_some()
-        }
+        Message::Get { block, .. } | Message::Put { block, .. } => { directory.is_busy(*block) }
         _ => false,
     }
 }
@@ -97,6 +95,7 @@ fn harts_turn<const SETS: usize, const WAYS: usize>(
 }
 
 /// The key of the oldest message that the directory doesn't hold.
+#[inline(always)]
 fn oldest_free(directory: &Directory, net: &Net) -> Option<usize>
     ensures some { IfSome result (λ key. (w : MachineState) → w.entries ≡ entry_at directory.now → IsOldestFree w net.now.slots key) }
     ensures none { IfNone result ((w : MachineState) → w.entries ≡ entry_at directory.now → AllHeld w net.now.slots) }

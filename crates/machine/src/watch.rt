@@ -1,5 +1,6 @@
 ghost use Rattle.std.specs.Prelude.{◌≡◌, ℕ, Option, None, is_some, count_by, IfOk, IfSome, IfNone, OnErr, MatchBool};
 ghost use Rattle.std.specs.List.{slice_index_or};
+ghost use Rattle.std.specs.Option.{option_map};
 ghost use Rattle.words.specs.declared.entry.Step.{Step as StepValue};
 ghost use Rattle.words.specs.declared.entry.Step.TheVariants.{Core, Evict};
 ghost use Rattle.flat.specs.State.{Flat};
@@ -55,6 +56,14 @@ impl<const SETS: usize, const WAYS: usize> Machine<SETS, WAYS> {
         ensures { result ≡ slice_index_or self.now.flights key None }
     {
         self.net.flight(key)
+    }
+
+    /// The same, where it stands.
+    #[inline(always)]
+    pub fn peek_flight(&self, key: usize) -> Option<&Flight>
+        ensures { option_map (λ flight. flight.now) result ≡ slice_index_or self.now.flights key None }
+    {
+        self.net.peek_flight(key)
     }
 
     /// Whether a hart's core has a step to make.

@@ -138,6 +138,14 @@ impl Net {
         }
     }
 
+    /// The same, where it stands.
+    #[inline(always)]
+    pub fn peek_flight(&self, key: usize) -> Option<&Flight>
+        ensures { option_map (λ flight. flight.now) result ≡ flight_at self.now key }
+    {
+        self.slab.get(key)
+    }
+
     /// Takes the message under a key out.
     pub fn take(&mut self, key: usize) -> Option<Message>
         ensures value { result ≡ message_at self.old key }

@@ -127,6 +127,6 @@ flies_not flights key is =
 pub rest_of : (first mid last : Traffic) → mid ≡ record first { sums = mid.sums } → last ≡ record mid { sums = last.sums } → last ≡ record first { sums = last.sums }
 rest_of first mid last before after = after ∙ ap (λ (t : Traffic). record t { sums = last.sums }) before
 
-pub nothing_in : (o : Option Flight) → ((f : Flight) → o ≡ Some f → ⊥) → o ≡ None
+pub nothing_in : {T : Type 0} (o : Option T) → ((x : T) → o ≡ Some x → ⊥) → o ≡ None
 nothing_in None none = refl
-nothing_in (Some f) none = absurd (none f refl)
+nothing_in (Some x) none = absurd (none x refl)

@@ -67,7 +67,7 @@ impl Traffic {
         let mut met = 0;
         let mut key = 0;
         while met < flying && key < keys {
-            if let Some(flight) = machine.flight(key) {
+            if let Some(flight) = machine.peek_flight(key) {
                 met += 1;
                 if flight.number >= sent {
                     self.add(Sum::of_message(&flight.message), 1);

@@ -1,8 +1,9 @@
 -- Hexadecimal digits are text.
-use Rattle.std.proofs.Common.{◌≡◌, ℕ, ◌<◌, Bool, true, ◌&&◌, ◌==◌, nat_lt, zero, suc, List, [], ◌∷◌, length, get_or, codes, IsAscii, refl, sym, ap, ◌∙◌, arith, ◌/◌, ◌%◌, ◌^◌}
+use Rattle.std.proofs.Common.{◌≡◌, ℕ, ◌+◌, ◌*◌, ◌<◌, slice_index_or, Bool, true, ◌&&◌, ◌==◌, nat_lt, zero, suc, List, [], ◌∷◌, length, get_or, codes, IsAscii, refl, sym, ap, ◌∙◌, arith, ◌/◌, ◌%◌, ◌^◌}
 use Rattle.std.proofs.lemmas.Bool.Decides.{Decides-below_and, Decides-ltb, Decides-eqb}
 use Rattle.std.proofs.lemmas.Str.Ascii.{IsAscii-from_reads, IsAscii-map}
 use Rattle.std.specs.Char.{digit_value}
+use Rattle.std.specs.List.{flat_map, range_with_len}
 use Rattle.texts.specs.Numerals.{hex_digit, hexadecimal}
 
 -- whether each number below n passes a test
@@ -56,3 +57,31 @@ hexadecimal-same v w hv hw same =
 pub hexadecimal-length : (n : ℕ) → length (hexadecimal n) ≡ 8
 unfolding hexadecimal
 hexadecimal-length n = refl
+
+-- the two digits of a byte
+abbrev pub pair : ℕ → List ℕ
+pair byte = hex_digit (byte / 16) ∷ hex_digit (byte % 16) ∷ []
+
+-- those of each byte, one after another
+abbrev pub pairs : List ℕ
+pairs = flat_map pair (range_with_len 0 256)
+
+pub pair-high : (k : ℕ) → k < 256 → slice_index_or pairs (2 * k) 0 ≡ hex_digit (k / 16)
+pair-high k less = (Decides-eqb (slice_index_or pairs (2 * k) 0) (hex_digit (k / 16))).0 (passes 256 (λ j. slice_index_or pairs (2 * j) 0 == hex_digit (j / 16)) refl k less)
+
+pub pair-low : (k : ℕ) → k < 256 → slice_index_or pairs (2 * k + 1) 0 ≡ hex_digit (k % 16)
+pair-low k less = (Decides-eqb (slice_index_or pairs (2 * k + 1) 0) (hex_digit (k % 16))).0 (passes 256 (λ j. slice_index_or pairs (2 * j + 1) 0 == hex_digit (j % 16)) refl k less)
+
+-- a word's digits, by its bytes
+pub hexadecimal-bytes : (n : ℕ) → n < 2 ^ 32 → flat_map pair (n / 2 ^ 24 ∷ n / 2 ^ 16 % 256 ∷ n / 2 ^ 8 % 256 ∷ n % 256 ∷ []) ≡ hexadecimal n
+unfolding hexadecimal
+hexadecimal-bytes n word =
+    let a : n / 2 ^ 24 / 16 ≡ n / 2 ^ 28 % 16 = omega arith in
+    let b : n / 2 ^ 24 % 16 ≡ n / 2 ^ 24 % 16 = omega arith in
+    let c : n / 2 ^ 16 % 256 / 16 ≡ n / 2 ^ 20 % 16 = omega arith in
+    let d : n / 2 ^ 16 % 256 % 16 ≡ n / 2 ^ 16 % 16 = omega arith in
+    let e : n / 2 ^ 8 % 256 / 16 ≡ n / 2 ^ 12 % 16 = omega arith in
+    let f : n / 2 ^ 8 % 256 % 16 ≡ n / 2 ^ 8 % 16 = omega arith in
+    let g : n % 256 / 16 ≡ n / 2 ^ 4 % 16 = omega arith in
+    let h : n % 256 % 16 ≡ n / 2 ^ 0 % 16 = omega arith in
+    rw (a, b, c, d, e, f, g, h)

@@ -50,14 +50,14 @@ fn each_entry_has_its_line(rt: HostRuntime) -> Result<(), Fail> {
 
 #[test]
 fn each_put_that_is_refused_is_told(rt: HostRuntime) -> Result<(), Fail> {
-    for left in 0..90 {
+    for left in 0..10 {
         let mut sink = Refusing { left, failed: 0 };
         let put = traced(rt.alloc(), 0, &mut sink)?;
-        // A line of a retired word is put in eleven pieces.
-        let want = if left < 88 { Err(Halt::Untold) } else { Ok(()) };
+        // Each of the eight lines is one put.
+        let want = if left < 8 { Err(Halt::Untold) } else { Ok(()) };
         if put != Err(Halt::NoMemory) {
             assert_eq!(rt; put, want, "after {left}");
-            assert_eq!(rt; sink.failed, u64::from(left < 88));
+            assert_eq!(rt; sink.failed, u64::from(left < 8));
         }
     }
     Ok(())

@@ -90,8 +90,8 @@ fn what_ended_a_session_is_told(rt: HostRuntime) -> Result<(), Fail> {
         (b"step\nste", true, 1000, stepped, UNREAD),
         (b"step\n", true, 1000, stepped, UNREAD),
         (b"", true, 1000, "", UNREAD),
-        // The first put fails.
-        (TYPED, false, 0, "", UNWRITTEN),
+        // The first put, which is that of a line, fails behind half of it.
+        (TYPED, false, 0, "0 0x00001000 000", UNWRITTEN),
     ];
     for (typed, fails, puts, out, error) in cases {
         check_end(&rt, typed, fails, puts, out, error)?;

@@ -1,11 +1,9 @@
-use Rattle.std.proofs.Common.{◌∙◌, ap}
-use Rattle.std.specs.Option.{option_map}
+use Rattle.std.proofs.Common.{refl}
+use Rattle.hart.specs.Shown.{shown_granted}
 use Rattle.protocol.specs.Requests.{with_grant}
-use Rattle.hart.specs.Shown.{shown_granted, shown_request, shown_hart}
-use Rattle.hart.proofs.Rows.{answered}
+use Rattle.hart.proofs.Keeping.{kept}
 use Rattle.hart.proofs.hart.Hart.on_grant.Goals as goal
 
-pub returns-in-Some-clause-row : goal.returns-in-Some-clause-row
-returns-in-Some-clause-row g c = λ output.
-    answered c.args.self.now.harts c.args.self.now.index c.args.block (with_grant (shown_granted c.args.granted)) (shown_request c.in-Some.request) (shown_request c.with_grant.result) (shown_hart g.row.SETS output c.args.self.now) (ap (option_map shown_request) c.in-Some.ensures.some.0) c.in-Some.ensures.some.1 c.with_grant.ensures
-    ∙ c.settle.ensures.row output
+pub returns-clause-row : goal.returns-clause-row
+returns-clause-row g c = λ output.
+    kept g.row.SETS output c.args.block (with_grant (shown_granted c.args.granted.now)) _ c.args.self.now c.keep_grant.new.out _ c.self.view_is (c.if-not-keep_grant.ensures.kept refl) (c.settle.ensures.row output)
