@@ -1,4 +1,4 @@
-ghost use Rattle.std.specs.Prelude.{◌≡◌, ℕ, List, Option, Some, None, IsSomeAnd, IfSome, false, cond, ◌==◌, option_and_then};
+ghost use Rattle.std.specs.Prelude.{◌≡◌, ℕ, List, Option, Some, None, IsSomeAnd, IfSome, false};
 ghost use Rattle.std.specs.Option.{option_map};
 ghost use Rattle.cache.specs.Sets.{line_at};
 ghost use Rattle.protocol.specs.Messages.{shown, Done};
