@@ -23,57 +23,105 @@ fn begun(rt: &impl Abort) -> Tx {
     tx
 }
 
-#[test]
-fn begins_and_commits(rt: HostRuntime) {
-    let mut tx = begun(&rt);
+/// Asserts the depth, both flags and how many records the log has.
+fn check_state(rt: &impl Abort, tx: &Tx, depth: u8, flags: bool, records: usize) {
+    assert_eq!(rt;
+        (tx.depth(), tx.overflow(), tx.cycle()),
+        (depth, flags, flags)
+    );
+    assert_eq!(rt; tx.log().len(), records);
+}
+
+fn check_commit(rt: &impl Abort, tx: &mut Tx) {
+    assert!(rt; tx.aborting().is_none());
+    assert_eq!(rt; tx.commit(), Ok(()));
+}
+
+/// A transaction in a transaction, with a record and both flags.
+fn nested(rt: &impl Abort) -> Tx {
+    let mut tx = begun(rt);
     assert!(rt; tx.aborting().is_none());
     assert_eq!(rt; tx.begin(&[0; 32], Addr::new(0), stamp(6)), Ok(false));
-    assert_eq!(rt;
-        (tx.depth(), tx.stamp(), tx.abort_pc()),
-        (2, Some(stamp(5)), Addr::new(0x1014))
-    );
-    assert_eq!(rt; tx.checkpoint()[31], 7);
     assert_eq!(rt; tx.append_record(BlockNo::new(256), &[1; 8]), Ok(()));
     tx.set_overflow();
     tx.set_cycle();
-    assert_eq!(rt; tx.commit(), Ok(()));
+    tx
+}
+
+#[test]
+fn an_inner_begin_keeps_what_the_outermost_took(rt: HostRuntime) {
+    let tx = nested(&rt);
+    check_state(&rt, &tx, 2, true, 1);
     assert_eq!(rt;
-        (tx.depth(), tx.overflow(), tx.cycle(), tx.log().len()),
-        (1, true, true, 1)
+        (tx.stamp(), tx.abort_pc()),
+        (Some(stamp(5)), Addr::new(0x1014))
     );
-    assert_eq!(rt; tx.commit(), Ok(()));
-    assert_eq!(rt;
-        (tx.depth(), tx.overflow(), tx.cycle(), tx.log().len()),
-        (0, false, false, 0)
-    );
+    assert_eq!(rt; tx.checkpoint()[31], 7);
+}
+
+#[test]
+fn the_outermost_commit_forgets_log_and_flags(rt: HostRuntime) {
+    let mut tx = nested(&rt);
+    check_commit(&rt, &mut tx);
+    check_state(&rt, &tx, 1, true, 1);
+    check_commit(&rt, &mut tx);
+    check_state(&rt, &tx, 0, false, 0);
     assert_eq!(rt; (tx.stamp(), tx.kept_stamp()), (None, None));
+}
+
+#[test]
+fn outside_nothing_commits_and_nothing_aborts(rt: HostRuntime) {
+    let mut tx = begun(&rt);
+    check_commit(&rt, &mut tx);
     let before = tx;
+    assert!(rt; tx.aborting().is_none());
     assert_eq!(rt; tx.commit(), Err(TxFault::Outside));
     assert_eq!(rt; tx.start_abort(AbortCause::Asked), Err(TxFault::Outside));
     assert!(rt; tx.same(&before) && tx.aborting().is_none());
+}
+
+#[test]
+fn a_commit_leaves_no_stamp_for_the_next(rt: HostRuntime) {
+    let mut tx = begun(&rt);
+    check_commit(&rt, &mut tx);
+    assert!(rt; tx.aborting().is_none());
     assert_eq!(rt; tx.begin(&REGS, Addr::new(0x1014), stamp(6)), Ok(true));
     assert_eq!(rt; tx.stamp(), Some(stamp(6)));
 }
 
-#[test]
-fn an_abort_keeps_the_stamp(rt: HostRuntime) {
-    let mut tx = begun(&rt);
-    let cause = AbortCause::Trapped(Cause::Illegal, Addr::new(0x1008));
+/// A transaction that aborts for this cause, whose one record is taken.
+fn undone(rt: &impl Abort, cause: AbortCause) -> Tx {
+    let mut tx = begun(rt);
     assert_eq!(rt; tx.append_record(BlockNo::new(256), &[1; 8]), Ok(()));
     tx.set_overflow();
     assert!(rt; tx.aborting().is_none());
     assert_eq!(rt; tx.start_abort(cause), Ok(()));
-    assert_eq!(rt; tx.aborting(), Some(cause));
     assert!(rt; !tx.log().is_empty());
     tx.pop_record();
+    tx
+}
+
+#[test]
+fn an_abort_restarts_at_the_checkpoint(rt: HostRuntime) {
+    let cause = AbortCause::Trapped(Cause::Illegal, Addr::new(0x1008));
+    let mut tx = undone(&rt, cause);
+    assert_eq!(rt; tx.aborting(), Some(cause));
     assert!(rt; tx.log().is_empty() && tx.aborting().is_some());
     let restart = tx.end_abort();
     assert_eq!(rt;
         (restart.regs[31], restart.pc, restart.cause),
         (7, Addr::new(0x1014), cause)
     );
-    assert_eq!(rt; (tx.depth(), tx.overflow(), tx.stamp()), (0, false, None));
-    assert_eq!(rt; tx.kept_stamp(), Some(stamp(5)));
+    check_state(&rt, &tx, 0, false, 0);
+}
+
+#[test]
+fn an_abort_keeps_the_stamp(rt: HostRuntime) {
+    let mut tx = undone(&rt, AbortCause::Asked);
+    assert!(rt; tx.log().is_empty() && tx.aborting().is_some());
+    tx.end_abort();
+    assert_eq!(rt; (tx.stamp(), tx.kept_stamp()), (None, Some(stamp(5))));
+    assert!(rt; tx.aborting().is_none());
     assert_eq!(rt; tx.begin(&REGS, Addr::new(0x1014), stamp(9)), Ok(false));
     assert_eq!(rt; tx.stamp(), Some(stamp(5)));
 }
