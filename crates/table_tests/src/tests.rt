@@ -1,58 +1,72 @@
 mod tables;
 
+use std::alloc::{AllocError, Global};
 use std::fmt::Write;
+use std::process::Abort;
 use std::test::Fail;
 use table::{
     Act, AluOp, AmoOp, BranchOp, Effect, ImmOp, Instr, Load, LoadOp, MemoryAct, Segment, ShiftOp,
     Store, StoreOp, Text, byte_count, decode, effect_at, encode, execute, extend_load, finish_amo,
     finish_load, finish_store, one_row, register, write_register, write_to,
 };
-use tables::{ATOMICS, BRANCHES, LINES, VALUES, WORDS};
+use tables::{
+    ATOMICS, BRANCHES, ILLEGAL, JUMPS, LINES, LOADED, LOADS, MISALIGNED, STORES, VALUES, WORDS,
+    WRITES,
+};
 use words::{Addr, Cause, Reg, Regs, Width};
 
-/// The assembler's name of an instruction, and its operands in the order of the table `LINES`.
-fn name_and_operands(instr: &Instr) -> (&'static str, [u32; 3]) {
+/// The assembler's name of an instruction.
+fn name(instr: &Instr) -> &'static str {
     match *instr {
-        Instr::Lui { rd, imm } => ("lui", [number(rd), imm.value() >> 12, 0]),
-        Instr::Auipc { rd, imm } => ("auipc", [number(rd), imm.value() >> 12, 0]),
-        Instr::Jal { rd, offset } => ("jal", [number(rd), offset.value(), 0]),
-        Instr::Jalr { rd, rs1, imm } => ("jalr", [number(rd), number(rs1), imm.value()]),
+        Instr::Lui { .. } => "lui",
+        Instr::Auipc { .. } => "auipc",
+        Instr::Jal { .. } => "jal",
+        Instr::Jalr { .. } => "jalr",
+        Instr::Branch { op, .. } => branch_name(op),
+        Instr::Load { op, .. } => load_name(op),
+        Instr::Store { op, .. } => store_name(op),
+        Instr::OpImm { op, .. } => imm_name(op),
+        Instr::ShiftImm { op, .. } => shift_name(op),
+        Instr::Op { op, .. } => alu_name(op),
+        Instr::Amo { op, .. } => amo_name(op),
+        Instr::Fence { .. } => "fence",
+        Instr::Ecall => "ecall",
+        Instr::Ebreak => "ebreak",
+        Instr::TBegin { .. } => "tbegin",
+        Instr::TCommit => "tcommit",
+        Instr::TAbort => "tabort",
+    }
+}
+
+/// The operands of an instruction, in the order of the table `LINES`.
+fn operands(instr: &Instr) -> [u32; 3] {
+    match *instr {
+        Instr::Lui { rd, imm } | Instr::Auipc { rd, imm } => [number(rd), imm.value() >> 12, 0],
+        Instr::Jal { rd, offset } => [number(rd), offset.value(), 0],
+        Instr::Jalr { rd, rs1, imm }
+        | Instr::Load { rd, rs1, imm, .. }
+        | Instr::OpImm { rd, rs1, imm, .. } => [number(rd), number(rs1), imm.value()],
         Instr::Branch {
-            op,
             rs1,
             rs2,
             offset,
-        } => (branch_name(op), [number(rs1), number(rs2), offset.value()]),
-        Instr::Load { op, rd, rs1, imm } => {
-            (load_name(op), [number(rd), number(rs1), imm.value()])
-        }
-        Instr::Store { op, rs1, rs2, imm } => {
-            (store_name(op), [number(rs1), number(rs2), imm.value()])
-        }
-        Instr::OpImm { op, rd, rs1, imm } => (imm_name(op), [number(rd), number(rs1), imm.value()]),
+            ..
+        } => [number(rs1), number(rs2), offset.value()],
+        Instr::Store { rs1, rs2, imm, .. } => [number(rs1), number(rs2), imm.value()],
         Instr::ShiftImm {
-            op,
             rd,
             rs1,
             amount,
-        } => (shift_name(op), [number(rd), number(rs1), amount.value()]),
-        Instr::Op { op, rd, rs1, rs2 } => (alu_name(op), [number(rd), number(rs1), number(rs2)]),
-        Instr::Amo {
-            op,
-            rd,
-            rs1,
-            rs2,
             ..
-        } => (amo_name(op), [number(rd), number(rs1), number(rs2)]),
-        Instr::Fence { bits } => (
-            "fence",
-            [(bits.value() >> 14) & 0xf, (bits.value() >> 10) & 0xf, 0],
-        ),
-        Instr::Ecall => ("ecall", [0; 3]),
-        Instr::Ebreak => ("ebreak", [0; 3]),
-        Instr::TBegin { offset } => ("tbegin", [offset.value(), 0, 0]),
-        Instr::TCommit => ("tcommit", [0; 3]),
-        Instr::TAbort => ("tabort", [0; 3]),
+        } => [number(rd), number(rs1), amount.value()],
+        Instr::Op { rd, rs1, rs2, .. } | Instr::Amo { rd, rs1, rs2, .. } => [
+            number(rd),
+            number(rs1),
+            number(rs2),
+        ],
+        Instr::Fence { bits } => [(bits.value() >> 14) & 0xf, (bits.value() >> 10) & 0xf, 0],
+        Instr::TBegin { offset } => [offset.value(), 0, 0],
+        Instr::Ecall | Instr::Ebreak | Instr::TCommit | Instr::TAbort => [0; 3],
     }
 }
 
@@ -145,54 +159,47 @@ fn amo_name(op: AmoOp) -> &'static str {
     }
 }
 
+/// Asserts that an instruction is this word again.
+fn check_encodes(rt: &impl Abort, instr: Instr, word: u32) {
+    assert_eq!(rt; encode(instr), word);
+}
+
 #[test]
 fn words_are_the_assemblers(rt: HostRuntime) -> Result<(), Fail> {
     let mut lines = String::new(rt.alloc());
-    for word in WORDS {
+    for &word in &WORDS {
         if let Some(instr) = decode(word) {
-            let (name, [a, b, c]) = name_and_operands(&instr);
-            writeln!(lines, "{name} {a} {b} {c}")?;
-            assert_eq!(rt; encode(instr), word);
+            let [a, b, c] = operands(&instr);
+            writeln!(lines, "{} {a} {b} {c}", name(&instr))?;
+            check_encodes(&rt, instr, word);
         }
     }
     assert_eq!(rt; lines.as_str(), LINES);
     Ok(())
 }
 
+/// Asserts that a word is no instruction, and has no effect.
+fn check_illegal(rt: &impl Abort, word: u32) {
+    assert_eq!(rt; decode(word), None, "{word:08x}");
+    assert_eq!(rt;
+        effect_at(word, Addr::new(0x1000), &[0; 32]),
+        Err(Cause::Illegal),
+        "{word:08x}"
+    );
+}
+
 #[test]
-fn other_words_are_illegal(rt: HostRuntime) -> Result<(), Fail> {
-    let regs = [0; 32];
-    for word in [
-        0x0000_0000,
-        0xffff_ffff,
-        0x0200_9093, // SLLI with a stray bit
-        0x0000_100f, // FENCE.I
-        0x0000_010b, // TBEGIN with offset 2
-        0x0000_300b,
-        0x0000_2063, // no branch has funct3 2
-        0x0000_3003, // LD
-        0x0000_3023, // SD
-        0x0400_0033, // funct7 2
-        0x1002_a52f, // LR.W
-        0x18b2_a52f, // SC.W
-        0x28b2_a52f, // funct5 5
-        0x00b2_b52f, // AMOADD.D
-        0x0000_1067, // JALR with funct3 1
-        0x0020_0073, // URET
-        0x0000_00f3, // ECALL with rd 1
-        0x0000_100a, // TCOMMIT with another opcode
-    ] {
-        assert_eq!(rt; decode(word), None, "{word:08x}");
-        assert_eq!(rt;
-            effect_at(word, Addr::new(0x1000), &regs),
-            Err(Cause::Illegal),
-            "{word:08x}"
-        );
+fn other_words_are_illegal(rt: HostRuntime) {
+    for &word in &ILLEGAL {
+        check_illegal(&rt, word);
     }
+}
+
+#[test]
+fn words_beside_the_illegal_ones_are_instructions(rt: HostRuntime) {
     for word in [0x8330_000f, 0x0000_100b, 0x0000_200b] {
         assert!(rt; decode(word).is_some(), "{word:08x}");
     }
-    Ok(())
 }
 
 /// Registers with these values in x5 and x6.
@@ -203,68 +210,84 @@ fn with_values(a: u32, b: u32) -> Regs {
     regs
 }
 
-fn goes_on(write: Option<(Reg, u32)>, act: Act) -> Result<Effect, Cause> {
+/// Asserts what a word at 0x1000 does over these values in x5 and x6.
+fn check_effect(rt: &impl Abort, word: u32, (a, b): (u32, u32), want: Result<Effect, Cause>) {
+    let regs = with_values(a, b);
+    assert_eq!(rt;
+        effect_at(word, Addr::new(0x1000), &regs),
+        want,
+        "{word:08x} at {a:x} {b:x}"
+    );
+}
+
+/// A register's number and the word that it is given.
+fn write_of(write: Option<(u8, u32)>) -> Option<(Reg, u32)> {
+    let (rd, value) = write?;
+    Some((Reg::new(rd & 31), value))
+}
+
+fn goes_on(write: Option<(u8, u32)>, act: Act) -> Result<Effect, Cause> {
     Ok(Effect {
         next: Addr::new(0x1004),
-        write,
+        write: write_of(write),
         act,
     })
 }
 
-fn jumps(next: u32, write: Option<(Reg, u32)>) -> Result<Effect, Cause> {
+fn jumps(next: u32, write: Option<(u8, u32)>) -> Result<Effect, Cause> {
     Ok(Effect {
         next: Addr::new(next),
-        write,
+        write: write_of(write),
         act: Act::Nothing,
     })
 }
 
 #[test]
-fn values_are_the_c_compilers(rt: HostRuntime) -> Result<(), Fail> {
-    let pc = Addr::new(0x1000);
-    for (word, a, b, value) in VALUES {
-        let regs = with_values(a, b);
-        let want = goes_on(Some((Reg::new(7), value)), Act::Nothing);
-        assert_eq!(rt;
-            effect_at(word, pc, &regs),
-            want,
-            "{word:08x} at {a:x} {b:x}"
-        );
+fn values_are_the_c_compilers(rt: HostRuntime) {
+    for &(word, a, b, value) in &VALUES {
+        check_effect(&rt, word, (a, b), goes_on(Some((7, value)), Act::Nothing));
     }
-    for (word, a, b, taken) in BRANCHES {
-        let regs = with_values(a, b);
-        let want = jumps(if taken { 0x1010 } else { 0x1004 }, None);
-        assert_eq!(rt;
-            effect_at(word, pc, &regs),
-            want,
-            "{word:08x} at {a:x} {b:x}"
-        );
-    }
-    Ok(())
 }
 
 #[test]
-fn atomic_operations_load_and_store(rt: HostRuntime) -> Result<(), Fail> {
-    let pc = Addr::new(0x1000);
-    for (word, op, old, b, new) in ATOMICS {
-        let want = Act::Memory(MemoryAct {
-            addr: Addr::new(0x2004),
-            width: Width::Word,
-            load: Some(Load {
-                rd: Reg::new(7),
-                signed: false,
-            }),
-            store: Some(Store::Atomic(op, b)),
-        });
-        assert_eq!(rt;
-            effect_at(word, pc, &with_values(0x2004, b)),
-            goes_on(None, want),
-            "{word:08x}"
-        );
-        assert_eq!(rt; finish_amo(op, old, b), new, "{word:08x} at {old:x} {b:x}");
-        assert_eq!(rt; finish_store(Store::Atomic(op, b), old), new);
+fn branches_are_the_c_compilers(rt: HostRuntime) {
+    for &(word, a, b, taken) in &BRANCHES {
+        let next = if taken { 0x1010 } else { 0x1004 };
+        check_effect(&rt, word, (a, b), jumps(next, None));
     }
-    Ok(())
+}
+
+/// What an atomic operation with this operand does to memory: it loads a word to x7 and stores one.
+fn operates(op: AmoOp, b: u32) -> Act {
+    Act::Memory(MemoryAct {
+        addr: Addr::new(0x2004),
+        width: Width::Word,
+        load: Some(Load {
+            rd: Reg::new(7),
+            signed: false,
+        }),
+        store: Some(Store::Atomic(op, b)),
+    })
+}
+
+/// Asserts the word that an atomic operation stores over an old one.
+fn check_atomic(rt: &impl Abort, op: AmoOp, (old, b): (u32, u32), new: u32) {
+    assert_eq!(rt; finish_amo(op, old, b), new, "{op:?} at {old:x} {b:x}");
+    assert_eq!(rt; finish_store(Store::Atomic(op, b), old), new);
+}
+
+#[test]
+fn atomic_operations_load_and_store(rt: HostRuntime) {
+    for &(word, op, _, b, _) in &ATOMICS {
+        check_effect(&rt, word, (0x2004, b), goes_on(None, operates(op, b)));
+    }
+}
+
+#[test]
+fn atomic_values_are_the_c_compilers(rt: HostRuntime) {
+    for &(_, op, old, b, new) in &ATOMICS {
+        check_atomic(&rt, op, (old, b), new);
+    }
 }
 
 /// amoadd.w x10, x11, (x5), with these bits.
@@ -279,165 +302,178 @@ fn add_in_order(aq: bool, rl: bool) -> Instr {
     }
 }
 
-#[test]
-fn order_bits_are_operands(rt: HostRuntime) -> Result<(), Fail> {
-    for (word, aq, rl) in [
-        (0x00b2_a52f, false, false),
-        (0x04b2_a52f, true, false),
-        (0x02b2_a52f, false, true),
-        (0x06b2_a52f, true, true),
-    ] {
-        assert_eq!(rt; decode(word), Some(add_in_order(aq, rl)));
-        assert_eq!(rt; encode(add_in_order(aq, rl)), word);
-    }
-    Ok(())
+/// Asserts that a word is the addition with these bits, and the addition this word.
+fn check_order(rt: &impl Abort, word: u32, aq: bool, rl: bool) {
+    assert_eq!(rt; decode(word), Some(add_in_order(aq, rl)));
+    assert_eq!(rt; encode(add_in_order(aq, rl)), word);
 }
 
 #[test]
-fn jumps_and_acts(rt: HostRuntime) -> Result<(), Fail> {
-    let pc = Addr::new(0x1000);
-    let regs = with_values(0x2000, 0x8765_4321);
-    let link = |r: u8| Some((Reg::new(r & 31), 0x1004));
-    for (word, want) in [
-        // lui a0, 0x12346; auipc x5, 0xfffff; addi x0, x5, 1; lui x0, 1
-        (
-            0x1234_6537,
-            goes_on(Some((Reg::new(10), 0x1234_6000)), Act::Nothing),
-        ),
-        (0xffff_f297, goes_on(Some((Reg::new(5), 0)), Act::Nothing)),
-        (0x0012_8013, goes_on(None, Act::Nothing)),
-        (0x0000_1037, goes_on(None, Act::Nothing)),
-        // jal x1, -4; jal x0, 8; jal x1, 2
-        (0xffdf_f0ef, jumps(0xffc, link(1))),
-        (0x0080_006f, jumps(0x1008, None)),
-        (0x0020_00ef, Err(Cause::JumpMisaligned)),
-        // jalr x5, 1(x5); jalr x0, -4(x5); jalr x1, 2(x5); jalr x1, 3(x5)
-        (0x0012_82e7, jumps(0x2000, link(5))),
-        (0xffc2_8067, jumps(0x1ffc, None)),
-        (0x0022_80e7, Err(Cause::JumpMisaligned)),
-        (0x0032_80e7, Err(Cause::JumpMisaligned)),
-        // bne x5, x6, 2; beq x5, x6, 2
-        (0x0062_9163, Err(Cause::JumpMisaligned)),
-        (0x0062_8163, jumps(0x1004, None)),
-    ] {
-        assert_eq!(rt; effect_at(word, pc, &regs), want, "{word:08x}");
+fn order_bits_are_operands(rt: HostRuntime) {
+    check_order(&rt, 0x00b2_a52f, false, false);
+    check_order(&rt, 0x04b2_a52f, true, false);
+    check_order(&rt, 0x02b2_a52f, false, true);
+    check_order(&rt, 0x06b2_a52f, true, true);
+}
+
+/// The values of x5 and x6 where words jump and act.
+const BASE_AND_VALUE: (u32, u32) = (0x2000, 0x8765_4321);
+
+#[test]
+fn words_write_registers_or_nothing(rt: HostRuntime) {
+    for &(word, write) in &WRITES {
+        check_effect(&rt, word, BASE_AND_VALUE, goes_on(write, Act::Nothing));
     }
-    let memory = |addr: u32, width: Width, load: Option<Load>, store: Option<Store>| {
-        Act::Memory(MemoryAct {
-            addr: Addr::new(addr),
-            width,
-            load,
-            store,
-        })
-    };
-    let read = |signed: bool| Some(Load {
-        rd: Reg::new(7),
-        signed,
-    });
-    let put = Some(Store::Value(0x8765_4321));
-    for (word, want) in [
-        // lb, lh, lw, lbu, lhu x7, -2(x5)
-        (0xffe2_8383, memory(0x1ffe, Width::Byte, read(true), None)),
-        (0xffe2_9383, memory(0x1ffe, Width::Half, read(true), None)),
-        (0xffe2_a383, memory(0x1ffe, Width::Word, read(false), None)),
-        (0xffe2_c383, memory(0x1ffe, Width::Byte, read(false), None)),
-        (0xffe2_d383, memory(0x1ffe, Width::Half, read(false), None)),
-        // sb, sh, sw x6, 4(x5)
-        (0x0062_8223, memory(0x2004, Width::Byte, None, put)),
-        (0x0062_9223, memory(0x2004, Width::Half, None, put)),
-        (0x0062_a223, memory(0x2004, Width::Word, None, put)),
-        // a fence, ecall, ebreak, tbegin -4, tcommit, tabort
-        (0x0ff0_000f, Act::Nothing),
-        (0x0000_0073, Act::Call),
-        (0x0010_0073, Act::Break),
-        (0xfe00_0e8b, Act::Begin(Addr::new(0xffc))),
-        (0x0000_100b, Act::Commit),
-        (0x0000_200b, Act::Abort),
-    ] {
-        assert_eq!(rt;
-            effect_at(word, pc, &regs),
-            goes_on(None, want),
-            "{word:08x}"
-        );
-    }
-    Ok(())
 }
 
 #[test]
-fn loads_and_stores_end(rt: HostRuntime) -> Result<(), Fail> {
+fn jumps_leave_a_link(rt: HostRuntime) {
+    for &(word, next, link) in &JUMPS {
+        let write = link.map(|rd| (rd, 0x1004));
+        check_effect(&rt, word, BASE_AND_VALUE, jumps(next, write));
+    }
+}
+
+#[test]
+fn jumps_go_to_multiples_of_4(rt: HostRuntime) {
+    for &word in &MISALIGNED {
+        check_effect(&rt, word, BASE_AND_VALUE, Err(Cause::JumpMisaligned));
+    }
+}
+
+/// Asserts that a word goes on with this act, and writes no register.
+fn check_act(rt: &impl Abort, word: u32, act: Act) {
+    check_effect(rt, word, BASE_AND_VALUE, goes_on(None, act));
+}
+
+fn accesses(addr: u32, width: Width, load: Option<Load>, store: Option<Store>) -> Act {
+    Act::Memory(MemoryAct {
+        addr: Addr::new(addr),
+        width,
+        load,
+        store,
+    })
+}
+
+#[test]
+fn loads_read_behind_a_register(rt: HostRuntime) {
+    for &(word, width, signed) in &LOADS {
+        let load = Load {
+            rd: Reg::new(7),
+            signed,
+        };
+        check_act(&rt, word, accesses(0x1ffe, width, Some(load), None));
+    }
+}
+
+#[test]
+fn stores_write_behind_a_register(rt: HostRuntime) {
+    for &(word, width) in &STORES {
+        let store = Store::Value(0x8765_4321);
+        check_act(&rt, word, accesses(0x2004, width, None, Some(store)));
+    }
+}
+
+#[test]
+fn other_words_act(rt: HostRuntime) {
+    check_act(&rt, 0x0ff0_000f, Act::Nothing); // fence
+    check_act(&rt, 0x0000_0073, Act::Call); // ecall
+    check_act(&rt, 0x0010_0073, Act::Break); // ebreak
+    check_act(&rt, 0xfe00_0e8b, Act::Begin(Addr::new(0xffc))); // tbegin -4
+    check_act(&rt, 0x0000_100b, Act::Commit); // tcommit
+    check_act(&rt, 0x0000_200b, Act::Abort); // tabort
+}
+
+#[test]
+fn loads_end_with_the_bytes_at_their_address(rt: HostRuntime) {
     // The bytes 01 7f ff 80 by rising address.
     let word = 0x80ff_7f01;
-    for (width, signed, addr, want) in [
-        (Width::Byte, true, 0x100, 0x01),
-        (Width::Byte, true, 0x101, 0x7f),
-        (Width::Byte, true, 0x102, 0xffff_ffff),
-        (Width::Byte, true, 0x103, 0xffff_ff80),
-        (Width::Byte, false, 0x103, 0x80),
-        (Width::Half, true, 0x100, 0x7f01),
-        (Width::Half, true, 0x102, 0xffff_80ff),
-        (Width::Half, false, 0x102, 0x80ff),
-        (Width::Word, false, 0x100, 0x80ff_7f01),
-    ] {
+    for &(width, signed, addr, want) in &LOADED {
         assert_eq!(rt; finish_load(width, signed, word, Addr::new(addr)), want);
     }
+}
+
+#[test]
+fn loads_and_stores_end(rt: HostRuntime) {
     assert_eq!(rt; extend_load(true, Width::Half, 0x8000), 0xffff_8000);
     assert_eq!(rt; finish_store(Store::Value(7), 9), 7);
     assert_eq!(rt; byte_count(Width::Half), 2);
-    Ok(())
+}
+
+/// Asserts the words in x0 and x10.
+fn check_registers(rt: &impl Abort, regs: &Regs, zero: u32, a0: u32) {
+    assert_eq!(rt;
+        (register(regs, Reg::new(0)), register(regs, Reg::new(10))),
+        (zero, a0)
+    );
 }
 
 #[test]
-fn registers_and_instructions(rt: HostRuntime) -> Result<(), Fail> {
+fn x0_is_never_written(rt: HostRuntime) {
     let mut regs = [9; 32];
-    let zero = Reg::new(0);
-    let a0 = Reg::new(10);
-    assert_eq!(rt; write_to(zero, 5), None);
-    write_register(&mut regs, write_to(a0, 5));
-    assert_eq!(rt; (register(&regs, zero), register(&regs, a0)), (0, 5));
+    assert_eq!(rt; write_to(Reg::new(0), 5), None);
+    write_register(&mut regs, write_to(Reg::new(10), 5));
+    check_registers(&rt, &regs, 0, 5);
     write_register(&mut regs, None);
-    assert_eq!(rt; register(&regs, a0), 5);
+    check_registers(&rt, &regs, 0, 5);
+}
+
+#[test]
+fn an_instruction_has_its_effect(rt: HostRuntime) {
+    let mut regs = [9; 32];
+    regs[10] = 5;
     assert_eq!(rt;
         execute(Instr::Ecall, Addr::new(0x1000), &regs),
         goes_on(None, Act::Call)
     );
     one_row();
-    Ok(())
+}
+
+/// A segment of text whose last three bytes are not given, and one of data.
+fn segments(alloc: Global) -> Result<Vec<Segment>, AllocError> {
+    let text = Segment {
+        addr: 0x1000,
+        bytes: vec![in alloc; 0x93, 0x08, 0xd0, 0x05, 0x13]?,
+        size: 8,
+        exec: true,
+    };
+    let data = Segment {
+        addr: 0x2000,
+        bytes: vec![in alloc; 1, 2, 3, 4]?,
+        size: 4,
+        exec: false,
+    };
+    Ok(vec![in alloc; text, data]?)
+}
+
+fn check_word(rt: &impl Abort, text: &Text, pc: u32, want: Option<u32>) {
+    assert_eq!(rt; text.word(Addr::new(pc)), want, "{pc:x}");
+}
+
+fn check_touches(rt: &impl Abort, text: &Text, addr: u32, width: Width, want: bool) {
+    assert_eq!(rt; text.touches(Addr::new(addr), width), want, "{addr:x}");
 }
 
 #[test]
 fn text_is_what_is_executable(rt: HostRuntime) -> Result<(), Fail> {
-    let segments = vec![in rt.alloc();
-        Segment {
-            addr: 0x1000,
-            bytes: vec![in rt.alloc(); 0x93, 0x08, 0xd0, 0x05, 0x13]?,
-            size: 8,
-            exec: true,
-        },
-        Segment {
-            addr: 0x2000,
-            bytes: vec![in rt.alloc(); 1, 2, 3, 4]?,
-            size: 4,
-            exec: false,
-        },
-    ]?;
+    let segments = segments(rt.alloc())?;
     let text = Text::new(&segments);
-    for (pc, want) in [
-        (0x0ffc, None),
-        (0x1000, Some(0x05d0_0893)),
-        (0x1004, Some(0x13)),
-        (0x1008, None),
-        (0x2000, None),
-    ] {
-        assert_eq!(rt; text.word(Addr::new(pc)), want, "{pc:x}");
-    }
-    for (addr, width, want) in [
-        (0x0fff, Width::Byte, false),
-        (0x0ffe, Width::Word, true),
-        (0x1007, Width::Byte, true),
-        (0x1008, Width::Word, false),
-        (0x2000, Width::Word, false),
-    ] {
-        assert_eq!(rt; text.touches(Addr::new(addr), width), want, "{addr:x}");
-    }
+    check_word(&rt, &text, 0x0ffc, None);
+    check_word(&rt, &text, 0x1000, Some(0x05d0_0893));
+    check_word(&rt, &text, 0x1004, Some(0x13));
+    check_word(&rt, &text, 0x1008, None);
+    check_word(&rt, &text, 0x2000, None);
+    Ok(())
+}
+
+#[test]
+fn accesses_touch_text_or_not(rt: HostRuntime) -> Result<(), Fail> {
+    let segments = segments(rt.alloc())?;
+    let text = Text::new(&segments);
+    check_touches(&rt, &text, 0x0fff, Width::Byte, false);
+    check_touches(&rt, &text, 0x0ffe, Width::Word, true);
+    check_touches(&rt, &text, 0x1007, Width::Byte, true);
+    check_touches(&rt, &text, 0x1008, Width::Word, false);
+    check_touches(&rt, &text, 0x2000, Width::Word, false);
     Ok(())
 }

@@ -1,9 +1,10 @@
-//! Values from outside: an assembler and a C compiler.
+//! Values from outside: an assembler, a C compiler and the manual.
 
 use table::AmoOp;
+use words::Width;
 
 /// What a compiled C program gives for these: a word over x5 and x6 that writes x7, x5, x6, and the value.
-pub const VALUES: [(u32, u32, u32, u32); 121] = [
+pub static VALUES: [(u32, u32, u32, u32); 121] = [
     (0x0062_83b3, 0x8000_0000, 0xffff_ffff, 0x7fff_ffff), // add x7, x5, x6
     (0x0062_83b3, 0x7fff_ffff, 1, 0x8000_0000), // add x7, x5, x6
     (0x0062_83b3, 0xdead_beef, 0xffff_fff1, 0xdead_bee0), // add x7, x5, x6
@@ -128,7 +129,7 @@ pub const VALUES: [(u32, u32, u32, u32); 121] = [
 ];
 
 /// Branches over x5 and x6 by 16 bytes: the word, x5, x6, and whether the branch is taken.
-pub const BRANCHES: [(u32, u32, u32, bool); 18] = [
+pub static BRANCHES: [(u32, u32, u32, bool); 18] = [
     (0x0062_8863, 0x8000_0000, 1, false), // beq x5, x6, 16
     (0x0062_8863, 1, 0x8000_0000, false), // beq x5, x6, 16
     (0x0062_8863, 7, 7, true), // beq x5, x6, 16
@@ -151,7 +152,7 @@ pub const BRANCHES: [(u32, u32, u32, bool); 18] = [
 
 /// What a compiled C program gives for these: a word that operates on memory at x5 with x6, its operation, the old word there, x6, and the
 /// new word.
-pub const ATOMICS: [(u32, AmoOp, u32, u32, u32); 45] = [
+pub static ATOMICS: [(u32, AmoOp, u32, u32, u32); 45] = [
     (0x0062_a3af, AmoOp::Add, 0xffff_ffff, 1, 0), // amoadd.w x7, x6, (x5)
     (0x0062_a3af, AmoOp::Add, 1, 0xffff_ffff, 0), // amoadd.w x7, x6, (x5)
     (
@@ -302,7 +303,7 @@ pub const ATOMICS: [(u32, AmoOp, u32, u32, u32); 45] = [
 ];
 
 /// What an assembler (LLVM 14, for riscv32) made of the lines below. The words of custom-0 were written by `.insn`.
-pub const WORDS: [u32; 152] = [
+pub static WORDS: [u32; 152] = [
     0x0050_0093,
     0xfe20_8ee3,
     0x1234_6537,
@@ -614,3 +615,79 @@ amoadd.w 10 5 11\n\
 amoswap.w 31 2 8\n\
 amomaxu.w 0 27 31\n\
 ";
+
+/// Words that are no instruction.
+pub static ILLEGAL: [u32; 18] = [
+    0x0000_0000,
+    0xffff_ffff,
+    0x0200_9093, // SLLI with a stray bit
+    0x0000_100f, // FENCE.I
+    0x0000_010b, // TBEGIN with offset 2
+    0x0000_300b,
+    0x0000_2063, // no branch has funct3 2
+    0x0000_3003, // LD
+    0x0000_3023, // SD
+    0x0400_0033, // funct7 2
+    0x1002_a52f, // LR.W
+    0x18b2_a52f, // SC.W
+    0x28b2_a52f, // funct5 5
+    0x00b2_b52f, // AMOADD.D
+    0x0000_1067, // JALR with funct3 1
+    0x0020_0073, // URET
+    0x0000_00f3, // ECALL with rd 1
+    0x0000_100a, // TCOMMIT with another opcode
+];
+
+/// Words that go on behind 0x1000, and the register that each writes with its new word.
+pub static WRITES: [(u32, Option<(u8, u32)>); 4] = [
+    (0x1234_6537, Some((10, 0x1234_6000))), // lui a0, 0x12346
+    (0xffff_f297, Some((5, 0))), // auipc x5, 0xfffff
+    (0x0012_8013, None), // addi x0, x5, 1
+    (0x0000_1037, None), // lui x0, 1
+];
+
+/// Jumps at 0x1000 where x5 holds 0x2000: the word, the next pc, and the register that the link goes to.
+pub static JUMPS: [(u32, u32, Option<u8>); 5] = [
+    (0xffdf_f0ef, 0xffc, Some(1)), // jal x1, -4
+    (0x0080_006f, 0x1008, None), // jal x0, 8
+    (0x0012_82e7, 0x2000, Some(5)), // jalr x5, 1(x5)
+    (0xffc2_8067, 0x1ffc, None), // jalr x0, -4(x5)
+    (0x0062_8163, 0x1004, None), // beq x5, x6, 2, which is not taken
+];
+
+/// Jumps to an address that is no multiple of 4, where x5 holds 0x2000.
+pub static MISALIGNED: [u32; 4] = [
+    0x0020_00ef, // jal x1, 2
+    0x0022_80e7, // jalr x1, 2(x5)
+    0x0032_80e7, // jalr x1, 3(x5)
+    0x0062_9163, // bne x5, x6, 2
+];
+
+/// Loads to x7 from -2(x5): the word, how many bytes it reads, and whether the number has a sign.
+pub static LOADS: [(u32, Width, bool); 5] = [
+    (0xffe2_8383, Width::Byte, true), // lb
+    (0xffe2_9383, Width::Half, true), // lh
+    (0xffe2_a383, Width::Word, false), // lw
+    (0xffe2_c383, Width::Byte, false), // lbu
+    (0xffe2_d383, Width::Half, false), // lhu
+];
+
+/// Stores of x6 to 4(x5), and how many bytes each writes.
+pub static STORES: [(u32, Width); 3] = [
+    (0x0062_8223, Width::Byte), // sb
+    (0x0062_9223, Width::Half), // sh
+    (0x0062_a223, Width::Word), // sw
+];
+
+/// Loads from the word 0x80ff7f01 at 0x100: the width, whether the number has a sign, the address, and what is loaded.
+pub static LOADED: [(Width, bool, u32, u32); 9] = [
+    (Width::Byte, true, 0x100, 0x01),
+    (Width::Byte, true, 0x101, 0x7f),
+    (Width::Byte, true, 0x102, 0xffff_ffff),
+    (Width::Byte, true, 0x103, 0xffff_ff80),
+    (Width::Byte, false, 0x103, 0x80),
+    (Width::Half, true, 0x100, 0x7f01),
+    (Width::Half, true, 0x102, 0xffff_80ff),
+    (Width::Half, false, 0x102, 0x80ff),
+    (Width::Word, false, 0x100, 0x80ff_7f01),
+];
