@@ -13,6 +13,22 @@ fn read(line: &str) -> Result<Command, Fail> {
     Ok(command_of(line).ok_or("a command")?)
 }
 
+/// Does a command, and once more where memory ran out.
+fn do_command(
+    rt: &impl Abort,
+    session: &mut Session<16, 4>,
+    command: Command,
+    sink: &mut Taken,
+    line: &str,
+) {
+    let mut answer = session.command(command, sink);
+    if answer == Err(DebugFault::NoMemory) {
+        assert!(rt; sink.bytes.is_empty(), "at {line}");
+        answer = session.command(command, sink);
+    }
+    assert_eq!(rt; answer, Ok(Flow::Go), "at {line}");
+}
+
 /// That a command, done once more where memory ran out, tells these lines.
 fn check_done(
     rt: &impl Abort,
@@ -21,18 +37,33 @@ fn check_done(
     line: &str,
     told: &str,
 ) -> Result<(), Fail> {
+    let command = read(line)?;
     let mut sink = Taken {
         bytes: Vec::with_capacity(alloc, 256)?,
         failed: 0,
     };
-    let command = read(line)?;
-    let mut answer = session.command(command, &mut sink);
-    if answer == Err(DebugFault::NoMemory) {
-        assert!(rt; sink.bytes.is_empty(), "at {line}");
-        answer = session.command(command, &mut sink);
-    }
-    assert_eq!(rt; answer, Ok(Flow::Go), "at {line}");
+    do_command(rt, session, command, &mut sink, line);
     assert_eq!(rt; sink.bytes.as_slice(), told.as_bytes(), "at {line}");
+    Ok(())
+}
+
+/// Does a command that goes on or comes to the limit of its turns.
+fn go(
+    rt: &impl Abort,
+    alloc: Global,
+    session: &mut Session<16, 4>,
+    line: &str,
+) -> Result<(), Fail> {
+    let command = read(line)?;
+    let mut sink = Breaking::new(alloc, 20);
+    let answer = session.command(command, &mut sink);
+    if answer == Err(DebugFault::NoMemory) {
+        Err("memory ran out")?;
+    }
+    assert!(rt;
+        answer == Ok(Flow::Go) || answer == Err(DebugFault::Limit),
+        "at {line}"
+    );
     Ok(())
 }
 
@@ -45,16 +76,16 @@ fn after(
     line: &str,
 ) -> Result<Session<16, 4>, Fail> {
     let mut session = Session::new(booted(alloc, text, harts, SIZE)?);
-    let mut sink = Breaking::new(alloc, 20);
-    let answer = session.command(read(line)?, &mut sink);
-    if answer == Err(DebugFault::NoMemory) {
-        Err("memory ran out")?;
-    }
-    assert!(rt;
-        answer == Ok(Flow::Go) || answer == Err(DebugFault::Limit),
-        "at {line}"
-    );
+    go(rt, alloc, &mut session, line)?;
     Ok(session)
+}
+
+/// That a sink has failed once if its command was cut, and then has a beginning of what the whole tells.
+fn check_sink(rt: &impl Abort, sink: &Breaking, cut: bool, told: &str, line: &str) {
+    let bytes = sink.bytes.as_slice();
+    assert_eq!(rt; sink.failed == 1, cut, "at {line}");
+    assert!(rt; told.as_bytes().starts_with(bytes), "at {line}");
+    assert_eq!(rt; bytes.len() < told.len(), cut, "at {line}");
 }
 
 /// Whether a put failed, the last of so many that the sink takes: then the fault is told, and a beginning was taken.
@@ -66,15 +97,65 @@ fn is_cut(
     told: &str,
     left: u32,
 ) -> Result<bool, Fail> {
+    let command = read(line)?;
     let mut sink = Breaking::new(alloc, left);
-    let answer = session.command(read(line)?, &mut sink);
-    let (bytes, failed) = (sink.bytes.as_slice(), sink.failed);
+    let answer = session.command(command, &mut sink);
     let cut = answer == Err(DebugFault::Device);
     assert!(rt; cut || answer == Ok(Flow::Go), "at {line}");
-    assert_eq!(rt; failed == 1, cut, "at {line}");
-    assert!(rt; told.as_bytes().starts_with(bytes), "at {line}");
-    assert_eq!(rt; bytes.len() < told.len(), cut, "at {line}");
+    check_sink(rt, &sink, cut, told, line);
     Ok(cut)
+}
+
+/// A command in a session of a program: what is typed before it, the command, and what is typed after it; what these two tell.
+#[derive(Clone, Copy)]
+struct Case<'a> {
+    text: &'a [u32],
+    harts: u32,
+    before: &'a str,
+    line: &'a str,
+    then: &'a str,
+    told: &'a str,
+    shown: &'a str,
+}
+
+/// Whether the command was cut in a session, of whose puts so many are taken. What is typed after it is done all the same.
+fn is_cut_then_done(
+    rt: &(impl Abort + AllocGlobal),
+    session: &mut Session<16, 4>,
+    case: &Case<'_>,
+    left: u32,
+) -> Result<bool, Fail> {
+    let cut = is_cut(rt, rt.alloc(), session, case.line, case.told, left)?;
+    check_done(rt, rt.alloc(), session, case.then, case.shown)?;
+    Ok(cut)
+}
+
+/// Whether the command is cut where so many puts are taken.
+fn is_cut_by(rt: &(impl Abort + AllocGlobal), case: &Case<'_>, left: u32) -> Result<bool, Fail> {
+    let mut session = after(rt, rt.alloc(), case.text, case.harts, case.before)?;
+    is_cut_then_done(rt, &mut session, case, left)
+}
+
+/// That a session tells the whole of the command, and of what is typed after it.
+fn check_both(
+    rt: &(impl Abort + AllocGlobal),
+    session: &mut Session<16, 4>,
+    case: &Case<'_>,
+) -> Result<(), Fail> {
+    check_done(rt, rt.alloc(), session, case.line, case.told)?;
+    check_done(rt, rt.alloc(), session, case.then, case.shown)
+}
+
+/// That each put of the command is refused in turn, until so many are taken that none is.
+fn check_cuts(rt: &(impl Abort + AllocGlobal), case: &Case<'_>) -> Result<(), Fail> {
+    let line = case.line;
+    let mut whole = false;
+    for left in 0..20 {
+        whole = !is_cut_by(rt, case, left)?;
+        assert!(rt; left > 0 || !whole, "at {line}");
+    }
+    assert!(rt; whole, "at {line}");
+    Ok(())
 }
 
 /// A command in a session: what is typed before it, the command, and what is typed after it; what these two tell. Each put of the command is
@@ -88,17 +169,18 @@ fn check(
     shown: &str,
 ) -> Result<(), Fail> {
     let [before, line, then] = typed;
-    let mut whole = false;
-    for left in 0..20 {
-        let mut session = after(rt, rt.alloc(), text, harts, before)?;
-        whole = !is_cut(rt, rt.alloc(), &mut session, line, told, left)?;
-        assert!(rt; left > 0 || !whole, "at {line}");
-        check_done(rt, rt.alloc(), &mut session, then, shown)?;
-    }
-    assert!(rt; whole, "at {line}");
+    let case = Case {
+        text,
+        harts,
+        before,
+        line,
+        then,
+        told,
+        shown,
+    };
+    check_cuts(rt, &case)?;
     let mut session = after(rt, rt.alloc(), text, harts, before)?;
-    check_done(rt, rt.alloc(), &mut session, line, told)?;
-    check_done(rt, rt.alloc(), &mut session, then, shown)
+    check_both(rt, &mut session, &case)
 }
 
 #[test]
@@ -205,7 +287,11 @@ fn a_step_by_hand_that_is_cut_is_done(rt: HostRuntime) -> Result<(), Fail> {
         "0x0001f000 = 0x00002000\n",
         "0x00001004: 000022b7  lui t0, 0x2\n",
     )?;
-    // What tells nothing meets no fault.
+    Ok(())
+}
+
+#[test]
+fn what_tells_nothing_meets_no_fault(rt: HostRuntime) -> Result<(), Fail> {
     let mut session: Session<16, 4> = Session::new(booted(rt.alloc(), &EXIT, 1, SIZE)?);
     let mut sink = Breaking::new(rt.alloc(), 0);
     assert_eq!(rt; session.command(Command::Quit, &mut sink), Ok(Flow::Quit));

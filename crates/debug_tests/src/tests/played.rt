@@ -11,6 +11,14 @@ use std::process::Abort;
 use std::test::Fail;
 use words::Taken;
 
+/// A sink in memory.
+fn taken(alloc: Global) -> Taken {
+    Taken {
+        bytes: Vec::new(alloc),
+        failed: 0,
+    }
+}
+
 /// What is typed, and what is shown.
 fn parts(alloc: Global, session: &str) -> Result<(Vec<u8>, Vec<u8>), AllocError> {
     let mut typed = Vec::new(alloc);
@@ -30,6 +38,31 @@ fn parts(alloc: Global, session: &str) -> Result<(Vec<u8>, Vec<u8>), AllocError>
     Ok((typed, shown))
 }
 
+/// What a session with a machine shows, once all that is typed was read.
+fn shown<const SETS: usize, const WAYS: usize>(
+    rt: &(impl Abort + AllocGlobal),
+    machine: Machine<SETS, WAYS>,
+    typed: &[u8],
+) -> Taken {
+    let mut input = Typed {
+        bytes: typed.bytes(),
+        failed: 0,
+    };
+    let mut prompts = taken(rt.alloc());
+    let mut out = taken(rt.alloc());
+    let end = debug(machine, &mut input, "", &mut prompts, &mut out);
+    assert_eq!(rt; end, Ok(()));
+    out
+}
+
+/// That what was shown is this text.
+fn check_shown(rt: &impl Abort, out: &[u8], shown: &[u8]) -> Result<(), Fail> {
+    let told = str::from_utf8(out).ok().ok_or("a text")?;
+    let wanted = str::from_utf8(shown).ok().ok_or("a text")?;
+    assert_eq!(rt; told, wanted);
+    Ok(())
+}
+
 /// That a session of a program shows just these lines.
 fn check<const SETS: usize, const WAYS: usize>(
     rt: &(impl Abort + AllocGlobal),
@@ -41,26 +74,10 @@ fn check<const SETS: usize, const WAYS: usize>(
     requires ways { 0 < WAYS }
     requires lines { SETS * WAYS < 2 ^ 32 }
 {
+    let (typed, wanted) = parts(rt.alloc(), session)?;
     let machine: Machine<SETS, WAYS> = booted(rt.alloc(), text, harts, LARGE)?;
-    let (typed, shown) = parts(rt.alloc(), session)?;
-    let mut input = Typed {
-        bytes: typed.as_slice().bytes(),
-        failed: 0,
-    };
-    let mut prompts = Taken {
-        bytes: Vec::new(rt.alloc()),
-        failed: 0,
-    };
-    let mut out = Taken {
-        bytes: Vec::new(rt.alloc()),
-        failed: 0,
-    };
-    let end = debug(machine, &mut input, "", &mut prompts, &mut out);
-    assert_eq!(rt; end, Ok(()));
-    let told = str::from_utf8(&out.bytes).ok().ok_or("a text")?;
-    let wanted = str::from_utf8(&shown).ok().ok_or("a text")?;
-    assert_eq!(rt; told, wanted);
-    Ok(())
+    let out = shown(rt, machine, &typed);
+    check_shown(rt, &out.bytes, &wanted)
 }
 
 // The program's entries, and nothing after its end.

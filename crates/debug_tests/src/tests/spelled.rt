@@ -2,111 +2,124 @@
 use commands::{Command, DebugFault, Look, command_of, help};
 use schedule::Sort;
 use std::alloc::AllocError;
+use std::process::Abort;
 use words::SinkFault;
+
+static COMMANDS: [(&str, Command); 29] = [
+    ("step", Command::Step),
+    ("run", Command::Run(1_000_000)),
+    ("run 0", Command::Run(0)),
+    ("run 20", Command::Run(20)),
+    ("run 4294967295", Command::Run(0xffff_ffff)),
+    ("break 0x1004", Command::Break(4100)),
+    ("break 3", Command::Break(3)),
+    ("core 1", Command::Core(1)),
+    ("core 99", Command::Core(99)),
+    ("evict 1 0x2000", Command::Evict(1, 8192)),
+    ("deliver get 1 0x2000", Command::Deliver(Sort::Get, 1, 8192)),
+    ("deliver putack 0 5", Command::Deliver(Sort::PutAck, 0, 5)),
+    ("#", Command::Comment),
+    ("# step", Command::Comment),
+    ("#step  ", Command::Comment),
+    ("quit", Command::Quit),
+    ("regs 0", Command::Look(Look::Regs(0))),
+    ("word 0x2000", Command::Look(Look::Word(8192))),
+    ("raw 8192", Command::Look(Look::Raw(8192))),
+    ("view 1 0xA", Command::Look(Look::View(1, 10))),
+    ("line 1 0xa", Command::Look(Look::Line(1, 10))),
+    ("dir 0", Command::Look(Look::Dir(0))),
+    ("dirs", Command::Look(Look::Dirs)),
+    ("tx 7", Command::Look(Look::Tx(7))),
+    ("log 0xfFfFfFfC", Command::Look(Look::Log(4_294_967_292))),
+    ("dis 4096", Command::Look(Look::Dis(4096))),
+    ("messages", Command::Look(Look::Messages)),
+    ("harts", Command::Look(Look::Harts)),
+    ("help", Command::Look(Look::Help)),
+];
+
+static OTHERS: [&str; 39] = [
+    "",
+    " ",
+    "step ",
+    " step",
+    "step 1",
+    "Step",
+    "stepp",
+    "run -1",
+    "run +1",
+    "run 4294967296",
+    "run 0x",
+    "run 1 2",
+    "run ",
+    "break",
+    "break 0x1000 1",
+    "core",
+    "core  1",
+    "core one",
+    "evict 1",
+    "evict 1 0x2000 0",
+    "evict 0x2000,1",
+    "deliver",
+    "deliver get 1",
+    "deliver Get 1 0x2000",
+    "deliver 1 0x2000 get",
+    "deliver get 1 0x2000 0",
+    "regs",
+    "regs a0",
+    "view 0x2000",
+    "line\t1 0x2000",
+    "dir",
+    "dirs 0",
+    "help step",
+    "harts 1",
+    "messages ",
+    "quit 0",
+    "exit",
+    " # step",
+    "step\r",
+];
+
+/// That a line spells this command, or none.
+fn check_read(rt: &impl Abort, line: &str, want: Option<Command>) {
+    assert_eq!(rt; command_of(line), want, "at {line}");
+}
 
 #[test]
 fn commands_are_read(rt: HostRuntime) {
-    let cases = [
-        ("step", Command::Step),
-        ("run", Command::Run(1_000_000)),
-        ("run 0", Command::Run(0)),
-        ("run 20", Command::Run(20)),
-        ("run 4294967295", Command::Run(0xffff_ffff)),
-        ("break 0x1004", Command::Break(4100)),
-        ("break 3", Command::Break(3)),
-        ("core 1", Command::Core(1)),
-        ("core 99", Command::Core(99)),
-        ("evict 1 0x2000", Command::Evict(1, 8192)),
-        ("deliver get 1 0x2000", Command::Deliver(Sort::Get, 1, 8192)),
-        ("deliver putack 0 5", Command::Deliver(Sort::PutAck, 0, 5)),
-        ("#", Command::Comment),
-        ("# step", Command::Comment),
-        ("#step  ", Command::Comment),
-        ("quit", Command::Quit),
-        ("regs 0", Command::Look(Look::Regs(0))),
-        ("word 0x2000", Command::Look(Look::Word(8192))),
-        ("raw 8192", Command::Look(Look::Raw(8192))),
-        ("view 1 0xA", Command::Look(Look::View(1, 10))),
-        ("line 1 0xa", Command::Look(Look::Line(1, 10))),
-        ("dir 0", Command::Look(Look::Dir(0))),
-        ("dirs", Command::Look(Look::Dirs)),
-        ("tx 7", Command::Look(Look::Tx(7))),
-        ("log 0xfFfFfFfC", Command::Look(Look::Log(4_294_967_292))),
-        ("dis 4096", Command::Look(Look::Dis(4096))),
-        ("messages", Command::Look(Look::Messages)),
-        ("harts", Command::Look(Look::Harts)),
-        ("help", Command::Look(Look::Help)),
-    ];
-    for (line, want) in cases {
-        assert_eq!(rt; command_of(line), Some(want), "at {line}");
+    for (line, want) in &COMMANDS {
+        check_read(&rt, line, Some(*want));
     }
 }
 
 #[test]
 fn other_lines_are_no_commands(rt: HostRuntime) {
-    let cases = [
-        "",
-        " ",
-        "step ",
-        " step",
-        "step 1",
-        "Step",
-        "stepp",
-        "run -1",
-        "run +1",
-        "run 4294967296",
-        "run 0x",
-        "run 1 2",
-        "run ",
-        "break",
-        "break 0x1000 1",
-        "core",
-        "core  1",
-        "core one",
-        "evict 1",
-        "evict 1 0x2000 0",
-        "evict 0x2000,1",
-        "deliver",
-        "deliver get 1",
-        "deliver Get 1 0x2000",
-        "deliver 1 0x2000 get",
-        "deliver get 1 0x2000 0",
-        "regs",
-        "regs a0",
-        "view 0x2000",
-        "line\t1 0x2000",
-        "dir",
-        "dirs 0",
-        "help step",
-        "harts 1",
-        "messages ",
-        "quit 0",
-        "exit",
-        " # step",
-        "step\r",
-    ];
-    for line in cases {
-        assert_eq!(rt; command_of(line), None, "at {line}");
+    for line in &OTHERS {
+        check_read(&rt, line, None);
     }
 }
 
+/// That a fault has this text.
+fn check_fault(
+    rt: &(impl Abort + AllocGlobal),
+    fault: DebugFault,
+    text: &str,
+) -> Result<(), AllocError> {
+    assert_eq!(rt; fault.to_string(rt.alloc())?.as_str(), text);
+    Ok(())
+}
+
 #[test]
-fn faults_and_help_are_told(rt: HostRuntime) -> Result<(), AllocError> {
-    assert_eq!(rt;
-        DebugFault::Unknown.to_string(rt.alloc())?.as_str(),
-        "1 Unknown"
-    );
-    assert_eq!(rt;
-        DebugFault::Stopped.to_string(rt.alloc())?.as_str(),
-        "4 Stopped"
-    );
-    assert_eq!(rt;
-        DebugFault::from(SinkFault).to_string(rt.alloc())?.as_str(),
-        "7 Device"
-    );
+fn faults_are_told(rt: HostRuntime) -> Result<(), AllocError> {
+    check_fault(&rt, DebugFault::Unknown, "1 Unknown")?;
+    check_fault(&rt, DebugFault::Stopped, "4 Stopped")?;
+    check_fault(&rt, DebugFault::from(SinkFault), "7 Device")?;
     assert_eq!(rt; DebugFault::from(AllocError).text(), "6 NoMemory");
+    Ok(())
+}
+
+#[test]
+fn help_is_told(rt: HostRuntime) {
     assert!(rt; help().starts_with("Words are parted by one space."));
     assert_eq!(rt; help().split('\n').count(), 29);
     assert!(rt; help().ends_with("begins a comment\n"));
-    Ok(())
 }

@@ -126,44 +126,62 @@ fn lines_are_answered_in_order(rt: HostRuntime) {
     check(&rt, &very_long, b"??", refused);
 }
 
+/// That a session ends where its answer to this line cannot be put.
+fn check_unwritten(rt: &(impl Abort + AllocGlobal), typed: &str, closed: &mut Closed) {
+    let mut input = Typed {
+        bytes: typed.as_bytes().bytes(),
+        failed: 0,
+    };
+    let end = play(&mut Steps, &mut input, "", &mut taken(rt.alloc()), closed);
+    assert_eq!(rt; end, Err(ConsoleFault::Unwritten));
+}
+
 #[test]
-fn what_cannot_be_put_or_read_ends_it(rt: HostRuntime) {
+fn an_answer_that_cannot_be_put_ends_it(rt: HostRuntime) {
     let mut closed = Closed { failed: 0 };
     for typed in ["step\n", "core 0\n", "?\n"] {
-        let mut input = Typed {
-            bytes: typed.as_bytes().bytes(),
-            failed: 0,
-        };
-        let end = play(
-            &mut Steps,
-            &mut input,
-            "",
-            &mut taken(rt.alloc()),
-            &mut closed,
-        );
-        assert_eq!(rt; end, Err(ConsoleFault::Unwritten));
+        check_unwritten(&rt, typed, &mut closed);
     }
+}
+
+/// That a session ends where its input fails, once it told of the step that was typed.
+fn check_unreadable(rt: &(impl Abort + AllocGlobal), out: &mut Taken) {
     let mut input = Typed {
         bytes: Torn { given: 0 }.bytes(),
         failed: 0,
     };
-    let mut out = taken(rt.alloc());
-    let end = play(&mut Steps, &mut input, "", &mut taken(rt.alloc()), &mut out);
+    let end = play(&mut Steps, &mut input, "", &mut taken(rt.alloc()), out);
     assert_eq!(rt; end, Err(ConsoleFault::Unreadable));
     assert_eq!(rt; out.bytes.as_slice(), b"stepped\n".as_slice());
+}
+
+#[test]
+fn what_cannot_be_read_ends_it(rt: HostRuntime) {
+    check_unreadable(&rt, &mut taken(rt.alloc()));
+}
+
+/// That a session whose prompt cannot be put ends before its first line, and tells nothing more.
+fn check_unprompted(rt: &impl Abort, closed: &mut Closed, out: &mut Taken) {
     let mut input = Typed {
         bytes: b"step\n".as_slice().bytes(),
         failed: 0,
     };
-    let end = play(&mut Steps, &mut input, "?", &mut closed, &mut out);
+    let end = play(&mut Steps, &mut input, "?", closed, out);
     assert_eq!(rt; end, Err(ConsoleFault::Unwritten));
     assert_eq!(rt; out.bytes.as_slice(), b"stepped\n".as_slice());
 }
 
 #[test]
-fn a_machine_is_debugged(rt: HostRuntime) -> Result<(), Fail> {
-    let program = read_elf(rt.alloc(), &elf_file(rt.alloc(), &EXIT)?)?;
-    let machine: Machine<16, 4> = Machine::boot(rt.alloc(), program, 1, 131_072)?;
+fn a_prompt_that_cannot_be_put_ends_it(rt: HostRuntime) {
+    let mut closed = Closed { failed: 0 };
+    check_unwritten(&rt, "step\n", &mut closed);
+    let mut out = taken(rt.alloc());
+    check_unreadable(&rt, &mut out);
+    check_unprompted(&rt, &mut closed, &mut out);
+}
+
+/// That what is typed to the debugger of a machine is refused, line by line.
+fn check_debugged(rt: &(impl Abort + AllocGlobal), machine: Machine<16, 4>) {
     let mut input = Typed {
         bytes: b"regs 1\nword 0x2002\nbreak 0x2000\nquit\nregs 1\n"
             .as_slice()
@@ -182,5 +200,11 @@ fn a_machine_is_debugged(rt: HostRuntime) -> Result<(), Fail> {
         prompts.bytes.as_slice(),
         b"(logtm) (logtm) (logtm) (logtm) ".as_slice()
     );
+}
+
+#[test]
+fn a_machine_is_debugged(rt: HostRuntime) -> Result<(), Fail> {
+    let program = read_elf(rt.alloc(), &elf_file(rt.alloc(), &EXIT)?)?;
+    check_debugged(&rt, Machine::boot(rt.alloc(), program, 1, 131_072)?);
     Ok(())
 }
