@@ -1,6 +1,6 @@
 -- The program's command, as clap knows it.
-use Rattle.std.specs.Prelude.{Some, [], ◌∷◌, true, false, codes}
-use Rattle.clap.specs.Words.{App, Rule, Shape, Text, new_rule}
+use Rattle.std.specs.Prelude.{List, Some, [], ◌∷◌, true, false, codes}
+use Rattle.clap.specs.Words.{App, Rule, Shape, Text, new_rule, with_rule}
 use Rattle.clap.specs.Simple.{new_shape}
 use Rattle.clap.specs.declared.builder.ArgAction.TheVariants.{Append, SetTrue}
 
@@ -19,6 +19,25 @@ flag_named name = record (new_rule name) { long = Some name; action = Some SetTr
 -- the arguments WORD, as many as the user likes
 abbrev pub words : Rule
 words = record (new_rule (codes "words")) { action = Some Append; value_names = 1 }
+
+-- a command with these arguments after its own
+unfoldable pub with_rules : List Rule → App → App
+with_rules [] app = app
+with_rules (rule ∷ rules) app = with_rules rules (with_rule app rule)
+
+-- the program and the machine that runs it, for `run` and `debug`
+abbrev pub machine : List Rule
+machine = required_named (codes "file") ∷ option_named (codes "harts") ∷ option_named (codes "memory") ∷ []
+
+-- of `run`: how far it goes, what is shown of it, and the rest
+abbrev pub limits : List Rule
+limits = option_named (codes "steps") ∷ option_named (codes "cache") ∷ option_named (codes "schedule") ∷ []
+
+abbrev pub views : List Rule
+views = option_named (codes "trace") ∷ option_named (codes "timeline") ∷ option_named (codes "stats") ∷ []
+
+abbrev pub threads_and_words : List Rule
+threads_and_words = flag_named (codes "threads") ∷ option_named (codes "history") ∷ words ∷ []
 
 -- the subcommand `run`
 abbrev pub run : Shape

@@ -1,8 +1,9 @@
 ghost use Rattle.std.specs.Prelude.{◌≡◌, IfOk, MatchResult, codes, false, map};
-ghost use Rattle.clap.specs.Words.{app_of, kind_of, new_app, rule_of, shape_of};
+ghost use Rattle.clap.specs.Words.{app_of, kind_of, new_app, rule_of, shape_of, with_subcommand};
 ghost use Rattle.clap.specs.declared.builder.command.Command.TheViews.{out-Command};
 ghost use Rattle.clap.specs.declared.error.ErrorKind.TheVariants.{OutOfMemory};
 ghost use Rattle.command_line.specs.Command as spec;
+ghost use Rattle.command_line.specs.Command.{with_rules};
 ghost use Rattle.command_line.specs.Reading.{IsFaultOf, IsRequestOf, IsRefusal};
 ghost use Rattle.command_line.specs.declared.fault.OrderFault.TheVariants.{NoMemory};
 
@@ -47,12 +48,27 @@ pub fn parse<'a>(alloc: Global, words: &'a [&'a str]) -> Result<Request<'a>, Ord
 fn command<'a>(alloc: Global) -> Result<Command<'a>, AllocError>
     ensures { IfOk result (λ c. app_of c ≡ spec.logtm) }
 {
-    Command::new(alloc, "logtm")
+    let command = Command::new(alloc, "logtm")
         .about("Simulates harts with transactional memory")
         .disable_help_subcommand(true)
-        .subcommand_required(true)
+        .subcommand_required(true);
+    with_listings(alloc, with_runs(alloc, command)?)
+}
+
+/// The command with the subcommands that run a program.
+fn with_runs<'a>(alloc: Global, command: Command<'a>) -> Result<Command<'a>, AllocError>
+    ensures { IfOk result (λ c. app_of c ≡ with_subcommand (with_subcommand (app_of command.entry) spec.run) spec.debug) }
+{
+    command
         .subcommand(run_command(alloc)?)?
-        .subcommand(debug_command(alloc)?)?
+        .subcommand(debug_command(alloc)?)
+}
+
+/// The command with the subcommands that turn text into a program and back.
+fn with_listings<'a>(alloc: Global, command: Command<'a>) -> Result<Command<'a>, AllocError>
+    ensures { IfOk result (λ c. app_of c ≡ with_subcommand (with_subcommand (app_of command.entry) spec.dis) spec.asm) }
+{
+    command
         .subcommand(dis_command(alloc)?)?
         .subcommand(asm_command(alloc)?)
 }
@@ -62,43 +78,77 @@ fn run_command<'a>(alloc: Global) -> Result<Command<'a>, AllocError>
     ensures local { IfOk result (λ c. (out-Command c).has_globals ≡ false) }
 {
     let about = "Runs a program, and reports what became of it";
-    let steps = "How many steps are taken at most, 10000000 if not given";
-    let schedule = "A file whose lines choose the first steps";
-    let trace = "A file for the trace, a line for each entry; - for standard output";
-    let timeline =
-        "A file for the timeline: FILE.json, as trace events, or FILE.svg, a picture of 2000 steps at most";
-    let stats = "Counts behind the report, as a table or as csv; not with a trace or a timeline";
-    let threads =
-        "Runs each hart in a thread of its own, with no schedule, trace, timeline and counts";
-    let history = "A file for the steps that threads made, as a schedule that plays them again";
-    bare(alloc, "run", about)
-        .arg(program(alloc))?
-        .arg(option(alloc, "harts", "N", HARTS_HELP))?
-        .arg(option(alloc, "memory", "S", MEMORY_HELP))?
-        .arg(option(alloc, "steps", "N", steps))?
-        .arg(option(alloc, "cache", "NAME", CACHE_HELP))?
-        .arg(option(alloc, "schedule", "LIST", schedule))?
-        .arg(option(alloc, "trace", "FILE", trace))?
-        .arg(option(alloc, "timeline", "FILE", timeline))?
-        .arg(option(alloc, "stats", "NAME", stats))?
-        .arg(flag(alloc, "threads", threads))?
-        .arg(option(alloc, "history", "FILE", history))?
-        .arg(words(alloc))
+    let command = with_machine(alloc, bare(alloc, "run", about))?;
+    let command = with_limits(alloc, command)?;
+    let command = with_views(alloc, command)?;
+    with_threads(alloc, command)
 }
 
 fn debug_command<'a>(alloc: Global) -> Result<Command<'a>, AllocError>
     ensures shape { IfOk result (λ c. shape_of c ≡ spec.debug) }
     ensures local { IfOk result (λ c. (out-Command c).has_globals ≡ false) }
 {
-    bare(
-        alloc,
-        "debug",
-        "Plays a program by hand, command by command",
-    )
-    .arg(program(alloc))?
-    .arg(option(alloc, "harts", "N", HARTS_HELP))?
-    .arg(option(alloc, "memory", "S", MEMORY_HELP))?
-    .arg(option(alloc, "cache", "NAME", CACHE_HELP))
+    let about = "Plays a program by hand, command by command";
+    with_machine(alloc, bare(alloc, "debug", about))?.arg(option(
+        alloc, "cache", "NAME", CACHE_HELP,
+    ))
+}
+
+/// The command with the program and the size of the machine that runs it.
+fn with_machine<'a>(alloc: Global, command: Command<'a>) -> Result<Command<'a>, AllocError>
+    requires { (out-Command command).has_globals ≡ false }
+    ensures app { IfOk result (λ c. app_of c ≡ with_rules spec.machine (app_of command.entry)) }
+    ensures local { IfOk result (λ c. (out-Command c).has_globals ≡ false) }
+{
+    command
+        .arg(program(alloc))?
+        .arg(option(alloc, "harts", "N", HARTS_HELP))?
+        .arg(option(alloc, "memory", "S", MEMORY_HELP))
+}
+
+/// The command with how far a run goes, with which caches, and by which first steps.
+fn with_limits<'a>(alloc: Global, command: Command<'a>) -> Result<Command<'a>, AllocError>
+    requires { (out-Command command).has_globals ≡ false }
+    ensures app { IfOk result (λ c. app_of c ≡ with_rules spec.limits (app_of command.entry)) }
+    ensures local { IfOk result (λ c. (out-Command c).has_globals ≡ false) }
+{
+    let steps = "How many steps are taken at most, 10000000 if not given";
+    let schedule = "A file whose lines choose the first steps";
+    command
+        .arg(option(alloc, "steps", "N", steps))?
+        .arg(option(alloc, "cache", "NAME", CACHE_HELP))?
+        .arg(option(alloc, "schedule", "LIST", schedule))
+}
+
+/// The command with what is shown of a run beside its report.
+fn with_views<'a>(alloc: Global, command: Command<'a>) -> Result<Command<'a>, AllocError>
+    requires { (out-Command command).has_globals ≡ false }
+    ensures app { IfOk result (λ c. app_of c ≡ with_rules spec.views (app_of command.entry)) }
+    ensures local { IfOk result (λ c. (out-Command c).has_globals ≡ false) }
+{
+    let trace = "A file for the trace, a line for each entry; - for standard output";
+    let timeline =
+        "A file for the timeline: FILE.json, as trace events, or FILE.svg, a picture of 2000 steps at most";
+    let stats = "Counts behind the report, as a table or as csv; not with a trace or a timeline";
+    command
+        .arg(option(alloc, "trace", "FILE", trace))?
+        .arg(option(alloc, "timeline", "FILE", timeline))?
+        .arg(option(alloc, "stats", "NAME", stats))
+}
+
+/// The command with a run in threads, and with the words of memory that the report shows.
+fn with_threads<'a>(alloc: Global, command: Command<'a>) -> Result<Command<'a>, AllocError>
+    requires { (out-Command command).has_globals ≡ false }
+    ensures app { IfOk result (λ c. app_of c ≡ with_rules spec.threads_and_words (app_of command.entry)) }
+    ensures local { IfOk result (λ c. (out-Command c).has_globals ≡ false) }
+{
+    let threads =
+        "Runs each hart in a thread of its own, with no schedule, trace, timeline and counts";
+    let history = "A file for the steps that threads made, as a schedule that plays them again";
+    command
+        .arg(flag(alloc, "threads", threads))?
+        .arg(option(alloc, "history", "FILE", history))?
+        .arg(words(alloc))
 }
 
 fn dis_command<'a>(alloc: Global) -> Result<Command<'a>, AllocError>

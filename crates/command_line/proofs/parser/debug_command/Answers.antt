@@ -1,20 +1,22 @@
-use Rattle.std.proofs.Common.{IfOk, [], ap, codes}
+use Rattle.std.proofs.Common.{IfOk, [], ◌∙◌, ap}
 use Rattle.std.proofs.lemmas.Result.{IfOk-weaker}
-use Rattle.clap.specs.Words.{App, new_app}
+use Rattle.clap.specs.Words.{App}
 use Rattle.command_line.specs.Command as spec
+use Rattle.command_line.specs.Command.{with_rules}
 use Rattle.command_line.proofs.Commands.{IsApp, with_argument}
 use Rattle.command_line.proofs.parser.debug_command.Goals as goal
 
-made : (c : goal.After-arg-4) → IfOk c.arg-4.result (λ r. IsApp r (record { top = spec.debug; subs = [] }))
+made : (c : goal.After-arg) → IfOk c.arg.result (λ r. IsApp r (record { top = spec.debug; subs = [] }))
+unfolding with_rules
 made c =
-    let start : IsApp c.bare.result (new_app (codes "debug")) = record { shape = c.bare.ensures.app; local = c.bare.ensures.local } in
-    let file = with_argument _ _ _ _ _ start c.program.ensures.rule c.program.ensures.local c.in_ok-arg.ensures in
-    let harts = with_argument _ _ _ _ _ file c.option.ensures.rule c.option.ensures.local c.in_ok-arg-2.ensures in
-    let memory = with_argument _ _ _ _ _ harts c.option-2.ensures.rule c.option-2.ensures.local c.in_ok-arg-3.ensures in
-    IfOk-weaker c.arg-4.result _ _ (λ r adds. with_argument _ _ _ _ _ memory c.option-3.ensures.rule c.option-3.ensures.local adds) c.arg-4.ensures
+    let machine : IsApp c.in_ok-with_machine.field-0 _ = record {
+      shape = c.in_ok-with_machine.ensures.app ∙ ap (with_rules spec.machine) c.bare.ensures.app;
+      local = c.in_ok-with_machine.ensures.local;
+    } in
+    IfOk-weaker c.arg.result _ _ (λ r adds. with_argument _ _ _ _ _ machine c.option.ensures.rule c.option.ensures.local adds) c.arg.ensures
 
 pub returns-clause-shape : goal.returns-clause-shape
-returns-clause-shape c = IfOk-weaker c.arg-4.result _ _ (λ r is. ap (λ (a : App). a.top) is.shape) (made c)
+returns-clause-shape c = IfOk-weaker c.arg.result _ _ (λ r is. ap (λ (a : App). a.top) is.shape) (made c)
 
 pub returns-clause-local : goal.returns-clause-local
-returns-clause-local c = IfOk-weaker c.arg-4.result _ _ (λ r is. is.local) (made c)
+returns-clause-local c = IfOk-weaker c.arg.result _ _ (λ r is. is.local) (made c)
