@@ -7,7 +7,8 @@ use loader::Program;
 use machine_play::{SIZE, one, zero};
 use std::alloc::{AllocError, Global};
 use std::cell::RefCell;
-use std::sync::Mutex;
+use std::process::Abort;
+use std::sync::{Mutex, Wait};
 use std::test::Fail;
 use words::HartId;
 use workers::{Desk, End, Gate, serve, work};
@@ -103,6 +104,22 @@ impl<'d, 'p> Gate<Loan<'p>> for Free<'d, 'p> {
     }
 }
 
+/// Asserts how hart 0 ends after so many turns, of leases of so many steps, and which calls it makes.
+fn check_calls(
+    rt: &(impl Abort + Wait + AllocGlobal),
+    program: &Program,
+    (most, turns): (usize, u64),
+    ends: End,
+    calls: &[Call],
+) -> Result<(), Fail> {
+    let desk = desk(rt.alloc(), program, 1)?;
+    let end = work(rt, &desk, zero(), &Free { desk: &desk, most }, turns)?;
+    assert_eq!(rt; end, ends);
+    let noted = desk.into_inner().calls.into_inner();
+    assert_eq!(rt; noted.as_slice(), calls);
+    Ok(())
+}
+
 #[test]
 fn the_lock_is_free_while_the_gate_is_called(rt: HostRuntime) -> Result<(), Fail> {
     let program = program(rt.alloc(), &TEN)?;
@@ -126,16 +143,7 @@ fn the_lock_is_free_while_the_gate_is_called(rt: HostRuntime) -> Result<(), Fail
         Call::Visit(h),
         Call::Settled(h),
     ];
-    for (most, turns, ends, calls) in [
-        (64, 9, End::Stopped, whole.as_slice()),
-        (0, 2, End::Limit, none.as_slice()),
-        (64, 0, End::Limit, &whole[..0]),
-    ] {
-        let desk = desk(rt.alloc(), &program, 1)?;
-        let end = work(&rt, &desk, h, &Free { desk: &desk, most }, turns)?;
-        assert_eq!(rt; end, ends);
-        let noted = desk.into_inner().calls.into_inner();
-        assert_eq!(rt; noted.as_slice(), calls);
-    }
-    Ok(())
+    check_calls(&rt, &program, (64, 9), End::Stopped, &whole)?;
+    check_calls(&rt, &program, (0, 2), End::Limit, &none)?;
+    check_calls(&rt, &program, (64, 0), End::Limit, &[])
 }

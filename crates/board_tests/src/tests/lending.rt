@@ -1,34 +1,58 @@
 //! Harts that are lent again, in place of a lease that isn't needed any more.
 
-use super::play::{TEN, check_again, made};
-use board::Board;
+use super::play::{Small, TEN, check_again, make};
+use board::{Board, Lease};
 use elf_samples::program;
 use machine_play::{SIZE, one, zero};
+use std::alloc::AllocError;
+use std::process::Abort;
 use std::test::Fail;
 use words::{HartId, Step};
 
-type Small<'p> = Board<'p, 2, 1>;
+/// Hart 1 makes so many steps of its own.
+fn core_steps<'p>(board: &mut Small<'p>, steps: u32) -> Result<(), AllocError> {
+    for _ in 0..steps {
+        make(board, Step::Core(one()))?;
+    }
+    Ok(())
+}
+
+/// Asserts that a lease of hart 0 with three steps doesn't become one of a hart that doesn't run, and settles.
+fn check_stays<'p>(rt: &impl Abort, board: &mut Small<'p>, lease: &mut Lease<'p, 2, 1>) {
+    assert_eq!(rt; lease.run(3), 3);
+    for id in [one(), HartId::new(2)] {
+        assert!(rt; !board.lend_again(id, lease));
+        check_lease(rt, lease, zero(), 3);
+    }
+    assert!(rt; board.settle(lease).is_ok());
+}
+
+fn check_lease(rt: &impl Abort, lease: &Lease<'_, 2, 1>, hart: HartId, steps: usize) {
+    assert_eq!(rt; (lease.hart(), lease.len()), (hart, steps));
+    assert_eq!(rt; lease.is_empty(), steps == 0);
+}
 
 #[test]
 fn a_lease_stays_where_the_hart_does_not_run(rt: HostRuntime) -> Result<(), Fail> {
     let program = program(rt.alloc(), &TEN)?;
     let mut board: Small = Board::boot(rt.alloc(), &program, 2, SIZE)?;
-    for _ in 0..13 {
-        made(board.turn(Step::Core(one())))?;
-    }
+    core_steps(&mut board, 13)?;
     let lease = board.lend(zero());
     assert!(rt; lease.is_some());
     if let Some(mut lease) = lease {
-        assert_eq!(rt; lease.run(3), 3);
-        for id in [one(), HartId::new(2)] {
-            assert!(rt; !board.lend_again(id, &mut lease));
-            assert_eq!(rt; lease.hart(), zero());
-            assert_eq!(rt; lease.len(), 3);
-        }
-        assert!(rt; board.settle(&lease).is_ok());
+        check_stays(&rt, &mut board, &mut lease);
     }
     assert_eq!(rt; board.history().len(), 16);
     check_again(&rt, &board.finish())
+}
+
+/// Asserts that a lease of hart 0 with three steps becomes one of hart 1 with none, which runs to its end and settles.
+fn check_serves_again<'p>(rt: &impl Abort, board: &mut Small<'p>, lease: &mut Lease<'p, 2, 1>) {
+    assert_eq!(rt; lease.run(3), 3);
+    assert!(rt; board.lend_again(one(), lease));
+    check_lease(rt, lease, one(), 0);
+    assert_eq!(rt; lease.run(64), 12);
+    assert!(rt; board.settle(lease).is_ok());
 }
 
 #[test]
@@ -38,12 +62,7 @@ fn a_lease_serves_again(rt: HostRuntime) -> Result<(), Fail> {
     let lease = board.lend(zero());
     assert!(rt; lease.is_some());
     if let Some(mut lease) = lease {
-        assert_eq!(rt; lease.run(3), 3);
-        assert!(rt; board.lend_again(one(), &mut lease));
-        assert_eq!(rt; lease.hart(), one());
-        assert!(rt; lease.is_empty());
-        assert_eq!(rt; lease.run(64), 12);
-        assert!(rt; board.settle(&lease).is_ok());
+        check_serves_again(&rt, &mut board, &mut lease);
     }
     assert_eq!(rt; board.history().len(), 12);
     check_again(&rt, &board.finish())

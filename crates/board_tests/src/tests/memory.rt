@@ -1,15 +1,17 @@
 //! Boards that want memory for their history.
 
-ghost use Rattle.std.specs.Prelude.{◌≤◌};
+ghost use Rattle.std.specs.Prelude.{◌≤◌, ◌<◌};
 
 use super::gates::Runs;
 use super::play::{check_again, made};
-use board::{Board, Refusal};
+use board::{Board, Finished, Refusal};
 use elf_samples::{COMMITS, program};
 use linked_list_allocator::LocalHeap;
+use loader::Program;
 use machine_play::{SIZE, peek, place, zero};
 use std::alloc::AllocError;
-use std::sync::Mutex;
+use std::process::Abort;
+use std::sync::{Mutex, Wait};
 use std::test::Fail;
 use words::Step;
 use workers::{End, work};
@@ -67,20 +69,39 @@ fn play<'p, 'h>(
     Ok(())
 }
 
+/// Asserts that the word is written, and that the history makes the board again.
+fn check_end(
+    rt: &(impl Abort + AllocGlobal),
+    end: &Finished<'_, 2, 1, &LocalHeap>,
+) -> Result<(), Fail> {
+    assert_eq!(rt; peek(&end.machine, place()), Some(7));
+    check_again(rt, end)
+}
+
+/// Plays on a heap on which so many times 32 bytes are left.
+fn play_with(
+    rt: &(impl Abort + AllocGlobal),
+    program: &Program,
+    places: usize,
+    refused: &mut Refused,
+) -> Result<(), Fail>
+    requires { places < 256 }
+{
+    let heap = LocalHeap::new(rt.alloc(), HEAP)?;
+    let Ok(rest) = taken(&heap, 32 * places) else {
+        return Ok(());
+    };
+    let mut board: Small = Board::boot_in(rt.alloc(), &heap, program, 1, SIZE)?;
+    play(&mut board, rest, refused)?;
+    check_end(rt, &board.finish())
+}
+
 #[test]
 fn nothing_is_lost_where_memory_is_refused(rt: HostRuntime) -> Result<(), Fail> {
     let program = program(rt.alloc(), &COMMITS)?;
     let mut refused = Refused::default();
     for places in 0..120usize {
-        let heap = LocalHeap::new(rt.alloc(), HEAP)?;
-        let Ok(rest) = taken(&heap, 32 * places) else {
-            continue;
-        };
-        let mut board: Small = Board::boot_in(rt.alloc(), &heap, &program, 1, SIZE)?;
-        play(&mut board, rest, &mut refused)?;
-        let end = board.finish();
-        assert_eq!(rt; peek(&end.machine, place()), Some(7));
-        check_again(&rt, &end)?;
+        play_with(&rt, &program, places, &mut refused)?;
     }
     let all = Refused {
         settle: true,
@@ -91,28 +112,49 @@ fn nothing_is_lost_where_memory_is_refused(rt: HostRuntime) -> Result<(), Fail> 
     Ok(())
 }
 
+/// Works on a desk until memory is refused, and then to the end with the rest of the heap. The answer is whether it was refused.
+fn work_twice<'h>(
+    rt: &(impl Abort + Wait),
+    desk: &Mutex<Small<'_, 'h>>,
+    rest: Vec<u8, &'h LocalHeap>,
+) -> Result<bool, Fail> {
+    let gate = Runs { most: 2 };
+    let first = work(rt, desk, zero(), &gate, 40);
+    drop(rest);
+    if first.is_ok() {
+        return Ok(false);
+    }
+    assert_eq!(rt; work(rt, desk, zero(), &gate, 40)?, End::Stopped);
+    Ok(true)
+}
+
+/// A worker on a heap on which so many times 32 bytes are left. The answer is whether it was refused memory.
+fn work_with(
+    rt: &(impl Abort + Wait + AllocGlobal),
+    program: &Program,
+    places: usize,
+) -> Result<bool, Fail>
+    requires { places < 256 }
+{
+    let heap = LocalHeap::new(rt.alloc(), HEAP)?;
+    let Ok(rest) = taken(&heap, 32 * places) else {
+        return Ok(false);
+    };
+    let board: Small = Board::boot_in(rt.alloc(), &heap, program, 1, SIZE)?;
+    let desk = Mutex::new(board);
+    let was_refused = work_twice(rt, &desk, rest)?;
+    check_end(rt, &desk.into_inner().finish())?;
+    Ok(was_refused)
+}
+
 #[test]
 fn a_worker_ends_where_memory_is_refused(rt: HostRuntime) -> Result<(), Fail> {
     let program = program(rt.alloc(), &COMMITS)?;
     let mut refused = 0u32;
     for places in 0..120usize {
-        let heap = LocalHeap::new(rt.alloc(), HEAP)?;
-        let Ok(rest) = taken(&heap, 32 * places) else {
-            continue;
-        };
-        let board: Small = Board::boot_in(rt.alloc(), &heap, &program, 1, SIZE)?;
-        let desk = Mutex::new(board);
-        let gate = Runs { most: 2 };
-        let first = work::<Small, Runs, HostRuntime>(&rt, &desk, zero(), &gate, 40);
-        drop(rest);
-        if first.is_err() {
+        if work_with(&rt, &program, places)? {
             refused = refused.saturating_add(1);
-            let again = work::<Small, Runs, HostRuntime>(&rt, &desk, zero(), &gate, 40)?;
-            assert_eq!(rt; again, End::Stopped);
         }
-        let end = desk.into_inner().finish();
-        assert_eq!(rt; peek(&end.machine, place()), Some(7));
-        check_again(&rt, &end)?;
     }
     assert!(rt; refused > 2);
     Ok(())

@@ -2,13 +2,13 @@
 
 ghost use Rattle.std.specs.Prelude.{◌≤◌, ◌<◌, ◌*◌, ◌^◌};
 
-use board::Finished;
+use board::{Board, Finished};
 use machine::Machine;
 use machine_play::{peek, regs};
 use std::alloc::{AllocError, Allocator, Global};
 use std::process::Abort;
 use std::test::Fail;
-use words::{Addr, Entry, HartId};
+use words::{Addr, Entry, HartId, Step};
 
 /// Adds 1 to the word at 0x2000 in a transaction, and exits with 0. After each abort a hart waits before it tries again, longer than the time
 /// before, and each for a time of its own.
@@ -52,6 +52,16 @@ pub(crate) const TEN: [u32; 13] = [
     0x0000_0073,
 ];
 
+pub(crate) type Small<'p> = Board<'p, 2, 1>;
+
+/// Makes a step, whatever its entry.
+pub(crate) fn make<'p>(board: &mut Small<'p>, step: Step) -> Result<(), AllocError> {
+    match board.turn(step) {
+        Ok(_) => Ok(()),
+        Err(error) => Err(error),
+    }
+}
+
 /// That a step was made, whatever its entry.
 pub(crate) fn made<T: Drop>(answer: Result<T, AllocError>) -> Result<(), AllocError> {
     let _entry = answer?;
@@ -83,7 +93,27 @@ fn again<const SETS: usize, const WAYS: usize, A: Allocator>(
 /// How many words from 0x1000 on are compared. No program here reaches beyond them.
 const WORDS: u32 = 2048;
 
-/// That the history of a board, made again, gives its entries, and its machine's registers and memory.
+/// Asserts that two machines have the same registers and memory.
+fn check_same<const SETS: usize, const WAYS: usize>(
+    rt: &impl Abort,
+    machine: &Machine<SETS, WAYS>,
+    other: &Machine<SETS, WAYS>,
+)
+    requires sets { 0 < SETS }
+    requires ways { 0 < WAYS }
+    requires lines { SETS * WAYS < 2 ^ 32 }
+{
+    for number in 0..8 {
+        let hart = HartId::new(number);
+        assert_eq!(rt; regs(machine, hart), regs(other, hart));
+    }
+    for word in 0..WORDS {
+        let addr = Addr::new(0x1000 + 4 * word);
+        assert_eq!(rt; peek(machine, addr), peek(other, addr));
+    }
+}
+
+/// Asserts that the history of a board, made again, gives its entries, and its machine's registers and memory.
 pub(crate) fn check_again<const SETS: usize, const WAYS: usize, A: Allocator>(
     rt: &(impl Abort + AllocGlobal),
     end: &Finished<'_, SETS, WAYS, A>,
@@ -94,13 +124,6 @@ pub(crate) fn check_again<const SETS: usize, const WAYS: usize, A: Allocator>(
 {
     let (machine, entries) = again(rt.alloc(), end)?;
     assert_eq!(rt; entries.as_slice(), end.entries.as_slice());
-    for number in 0..8 {
-        let hart = HartId::new(number);
-        assert_eq!(rt; regs(&machine, hart), regs(&end.machine, hart));
-    }
-    for word in 0..WORDS {
-        let addr = Addr::new(0x1000 + 4 * word);
-        assert_eq!(rt; peek(&machine, addr), peek(&end.machine, addr));
-    }
+    check_same(rt, &machine, &end.machine);
     Ok(())
 }

@@ -5,6 +5,7 @@ use super::play::TEN;
 use board::Board;
 use elf_samples::program;
 use machine_play::{SIZE, one, zero};
+use std::process::Abort;
 use std::sync::Mutex;
 use std::test::Fail;
 use words::{Entry, HartId};
@@ -30,6 +31,12 @@ fn is_retired_by(entry: &Entry, id: HartId) -> bool {
     }
 }
 
+/// Asserts how many words a hart has retired.
+fn check_retired(rt: &impl Abort, entries: &[Entry], hart: HartId, want: usize) {
+    let retired = entries.iter().filter(|entry| is_retired_by(entry, hart));
+    assert_eq!(rt; retired.count(), want);
+}
+
 #[test]
 fn empty_leases_leave_all_to_the_visits(rt: HostRuntime) -> Result<(), Fail> {
     let program = program(rt.alloc(), &TEN)?;
@@ -40,13 +47,7 @@ fn empty_leases_leave_all_to_the_visits(rt: HostRuntime) -> Result<(), Fail> {
     assert_eq!(rt; ends.as_slice(), [End::Limit; 2].as_slice());
     let end = desk.into_inner().finish();
     assert_eq!(rt; end.history.len(), 10);
-    for hart in [zero(), one()] {
-        let retired = end
-            .entries
-            .iter()
-            .filter(|entry| is_retired_by(entry, hart))
-            .count();
-        assert_eq!(rt; retired, 5);
-    }
+    check_retired(&rt, &end.entries, zero(), 5);
+    check_retired(&rt, &end.entries, one(), 5);
     Ok(())
 }

@@ -1,6 +1,6 @@
 //! A lease whose hart has changed while it was out, and one of another program.
 
-use super::play::check_again;
+use super::play::{Small, check_again, make};
 use board::{Board, Lease, Refusal, is_hart};
 use elf_samples::{COMMITS, program};
 use loader::Program;
@@ -9,8 +9,6 @@ use std::alloc::{AllocError, AllocGlobal, Global};
 use std::process::Abort;
 use std::test::Fail;
 use words::{HartId, Step};
-
-type Small<'p> = Board<'p, 2, 1>;
 
 /// Reads the word at 0x2000, adds 1, and writes it.
 #[rattlefmt::skip]
@@ -24,13 +22,6 @@ const READS_AND_WRITES: [u32; 4] = [
 /// A board of a program for so many harts.
 fn booted<'p>(alloc: Global, program: &'p Program, harts: u32) -> Result<Small<'p>, Fail> {
     Ok(Board::boot(alloc, program, harts, SIZE)?)
-}
-
-fn make<'p>(board: &mut Small<'p>, step: Step) -> Result<(), AllocError> {
-    match board.turn(step) {
-        Ok(_) => Ok(()),
-        Err(error) => Err(error),
-    }
 }
 
 /// So many messages arrive, the oldest first, or fewer if there are no more.
@@ -61,9 +52,47 @@ fn refusal<'p>(board: &mut Small<'p>, lease: &Lease<'p, 2, 1>) -> Option<Refusal
     board.settle(lease).err()
 }
 
+/// Hart 1 asks for the block to write it, and then so many messages arrive.
+fn ask<'p>(board: &mut Small<'p>, messages: usize) -> Result<(), AllocError> {
+    make(board, Step::Core(one()))?;
+    make(board, Step::Core(one()))?;
+    deliver(board, messages)
+}
+
+/// Asserts what refuses the lease once its hart has added. One that is settled makes a step more.
+fn check_refusal<'p>(
+    rt: &impl Abort,
+    board: &mut Small<'p>,
+    lease: &mut Lease<'p, 2, 1>,
+    want: Option<Refusal>,
+) {
+    let made = board.history().len();
+    assert_eq!(rt; lease.run(64), 1);
+    assert_eq!(rt; refusal(board, lease), want);
+    let more = if want.is_none() { 1 } else { 0 };
+    assert_eq!(rt; board.history().len(), made + more);
+}
+
 /// Both harts hold the block to read it. Hart 0 is lent, and adds; hart 1 asks for the block to write it; then so many messages arrive, the first of
-/// which is that request, and the others what the directory sends for it. What refuses the lease then? Where it is refused, nothing more was made, and
-/// the machine is still what the history makes of it.
+/// which is that request, and the others what the directory sends for it. What refuses the lease then?
+fn play<'p>(
+    rt: &impl Abort,
+    board: &mut Small<'p>,
+    messages: usize,
+    want: Option<Refusal>,
+) -> Result<(), AllocError> {
+    read(board, zero())?;
+    read(board, one())?;
+    let mut lease = lent(board);
+    ask(board, messages)?;
+    assert!(rt; lease.is_some());
+    if let Some(lease) = &mut lease {
+        check_refusal(rt, board, lease, want);
+    }
+    Ok(())
+}
+
+/// Where a lease is refused, nothing more was made, and the machine is still what the history makes of it.
 fn refusal_after(
     rt: &(impl Abort + AllocGlobal),
     messages: usize,
@@ -71,20 +100,7 @@ fn refusal_after(
 ) -> Result<(), Fail> {
     let program = program(rt.alloc(), &READS_AND_WRITES)?;
     let mut board: Small = booted(rt.alloc(), &program, 2)?;
-    read(&mut board, zero())?;
-    read(&mut board, one())?;
-    let lease = lent(&board);
-    make(&mut board, Step::Core(one()))?;
-    make(&mut board, Step::Core(one()))?;
-    deliver(&mut board, messages)?;
-    let made = board.history().len();
-    assert!(rt; lease.is_some());
-    if let Some(mut lease) = lease {
-        assert_eq!(rt; lease.run(64), 1);
-        assert_eq!(rt; refusal(&mut board, &lease), want);
-    }
-    let more = if want.is_none() { 1 } else { 0 };
-    assert_eq!(rt; board.history().len(), made + more);
+    play(rt, &mut board, messages, want)?;
     check_again(rt, &board.finish())
 }
 
@@ -95,6 +111,17 @@ fn a_lease_is_stale_once_its_hart_has_changed(rt: HostRuntime) -> Result<(), Fai
     refusal_after(&rt, 9, Some(Refusal::Stale))
 }
 
+/// Asserts that a lease of the one board is stale for the other, on which nothing is made.
+fn check_strange<'p>(rt: &impl Abort, board: &Small<'p>, others: &mut Small<'p>) {
+    assert!(rt; are_alike(board, others));
+    let lease = lent(board);
+    assert!(rt; lease.is_some());
+    if let Some(lease) = lease {
+        assert_eq!(rt; refusal(others, &lease), Some(Refusal::Stale));
+    }
+    assert!(rt; others.history().is_empty());
+}
+
 /// That a lease of the one program's board is stale for the other's.
 fn check_stale<'p>(
     rt: &(impl Abort + AllocGlobal),
@@ -103,13 +130,7 @@ fn check_stale<'p>(
 ) -> Result<(), Fail> {
     let board: Small<'p> = booted(rt.alloc(), first, 1)?;
     let mut others: Small<'p> = booted(rt.alloc(), other, 1)?;
-    assert!(rt; are_alike(&board, &others));
-    let lease = lent(&board);
-    assert!(rt; lease.is_some());
-    if let Some(lease) = lease {
-        assert_eq!(rt; refusal(&mut others, &lease), Some(Refusal::Stale));
-    }
-    assert!(rt; others.history().is_empty());
+    check_strange(rt, &board, &mut others);
     Ok(())
 }
 
