@@ -1,4 +1,4 @@
-//! Programs that are run, traced, counted, played by hand, listed and assembled, with the texts and statuses that they have to give.
+//! Programs that are run, traced, counted, drawn, played by hand, listed and assembled, where a text cannot be put, an input fails or memory runs out.
 #![tactic(auto)]
 
 #[cfg(test)]

@@ -6,5 +6,4 @@ mod drawing;
 mod memory;
 mod paper;
 mod running;
-mod schedules;
 mod tracing;

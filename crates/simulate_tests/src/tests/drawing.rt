@@ -1,4 +1,4 @@
-//! Runs with a timeline, and with a picture, apart from the report.
+//! Timelines and pictures that cannot be put.
 use super::calls::{file_of, run_of, shown_apart};
 use super::checks::check_told;
 use super::paper::Paper;
@@ -6,7 +6,6 @@ use command_line::Run;
 use elf_samples::COMMITS;
 use simulate::showing::Form;
 use std::process::Abort;
-use std::str;
 use std::test::Fail;
 
 /// Two steps of a program that begins a transaction.
@@ -25,17 +24,6 @@ const REPORT: &str = "hart 0: running\n";
 const UNWRITTEN: &str = "logtm: cannot write t\n";
 
 static TWO_STEPS: [&str; 5] = ["logtm", "run", "f", "--steps", "2"];
-
-#[test]
-fn the_timeline_goes_apart(rt: HostRuntime) -> Result<(), Fail> {
-    let file = file_of(rt.alloc(), &COMMITS)?;
-    let run = run_of(rt.alloc(), TWO_STEPS.as_slice()).ok_or("a run")?;
-    let paper = Paper::new(rt.alloc(), 1000);
-    let (told, timeline) = shown_apart(rt.alloc(), &run, Form::Timeline, &file, &[], paper);
-    check_told(&rt, &told, 5, REPORT, "");
-    assert_eq!(rt; timeline.bytes.as_slice(), TIMELINE.as_bytes());
-    Ok(())
-}
 
 /// That a timeline is whole if so many puts are enough: 9 for the names of the lanes, 5 for the transaction's begin, 7 for each step, and the last line;
 /// and else that it is cut, which is told.
@@ -74,32 +62,6 @@ fn a_timeline_that_is_not_written_out_is_told(rt: HostRuntime) -> Result<(), Fai
     let (told, timeline) = shown_apart(rt.alloc(), &run, Form::Timeline, &file, &[], paper);
     check_told(&rt, &told, 3, "", UNWRITTEN);
     assert_eq!(rt; timeline.failed, 1);
-    Ok(())
-}
-
-#[test]
-fn a_refused_run_has_no_timeline(rt: HostRuntime) -> Result<(), Fail> {
-    let run = run_of(rt.alloc(), TWO_STEPS.as_slice()).ok_or("a run")?;
-    let paper = Paper::new(rt.alloc(), 1000);
-    let (told, timeline) = shown_apart(rt.alloc(), &run, Form::Timeline, &[], &[], paper);
-    check_told(&rt, &told, 4, "", "logtm: load 1 Truncated\n");
-    assert_eq!(rt; timeline.bytes.len(), 0);
-    Ok(())
-}
-
-#[test]
-fn the_picture_goes_apart(rt: HostRuntime) -> Result<(), Fail> {
-    let file = file_of(rt.alloc(), &COMMITS)?;
-    let run = run_of(rt.alloc(), TWO_STEPS.as_slice()).ok_or("a run")?;
-    let paper = Paper::new(rt.alloc(), 1000);
-    let (told, picture) = shown_apart(rt.alloc(), &run, Form::Picture, &file, &[], paper);
-    check_told(&rt, &told, 5, REPORT, "");
-    let picture = str::from_utf8(&picture.bytes)?;
-    assert!(rt; picture.starts_with("<svg "));
-    for label in [">hart 0<", ">directory<", ">tbegin 20<", ">lui t0, 0x2<"] {
-        assert!(rt; picture.contains(label));
-    }
-    assert!(rt; picture.ends_with("</svg>\n"));
     Ok(())
 }
 

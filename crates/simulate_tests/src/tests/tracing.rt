@@ -1,4 +1,4 @@
-//! Runs with a trace, in one sink with the report and apart from it.
+//! Traces that cannot be put, in one sink with the report and apart from it.
 use super::calls::{file_of, run_of, traced_apart, traced_before};
 use super::checks::{Cuts, check_cut, check_told};
 use super::paper::Paper;
@@ -22,47 +22,6 @@ const REPORT: &str = "hart 0: exit 0\nword 0x00002000 = 0x00000007\n";
 const UNWRITTEN: &str = "logtm: cannot write t\n";
 
 static SHOWS: [&str; 6] = ["logtm", "run", "f", "--memory", "65536", "0x2000"];
-
-/// That a run by a list of steps puts its whole trace apart from the report.
-fn check_apart(rt: &(impl Abort + AllocGlobal), run: &Run<'_>, file: &[u8], list: &[u8]) {
-    let paper = Paper::new(rt.alloc(), 1000);
-    let (told, trace) = traced_apart(rt.alloc(), run, file, list, paper);
-    check_told(rt, &told, 0, REPORT, "");
-    assert_eq!(rt; trace.bytes.as_slice(), TRACE.as_bytes());
-}
-
-#[test]
-fn the_trace_goes_apart(rt: HostRuntime) -> Result<(), Fail> {
-    let file = file_of(rt.alloc(), &COMMITS)?;
-    let run = run_of(rt.alloc(), SHOWS.as_slice()).ok_or("a run")?;
-    check_apart(&rt, &run, &file, b"");
-    check_apart(&rt, &run, &file, b"core 0\nevict 0 0x2000\ncore 0\n");
-    Ok(())
-}
-
-#[test]
-fn the_trace_stands_before_the_report(rt: HostRuntime) -> Result<(), Fail> {
-    let file = file_of(rt.alloc(), &COMMITS)?;
-    let run = run_of(rt.alloc(), SHOWS.as_slice()).ok_or("a run")?;
-    let told = traced_before(rt.alloc(), &run, &file, &[], Paper::endless(rt.alloc()));
-    let mut both = String::new(rt.alloc());
-    both.push_str(TRACE)?;
-    both.push_str(REPORT)?;
-    check_told(&rt, &told, 0, both.as_str(), "");
-    Ok(())
-}
-
-#[test]
-fn a_trace_ends_with_the_steps(rt: HostRuntime) -> Result<(), Fail> {
-    let file = file_of(rt.alloc(), &COMMITS)?;
-    let words = ["logtm", "run", "f", "--steps", "2"];
-    let run = run_of(rt.alloc(), &words).ok_or("a run")?;
-    let told = traced_before(rt.alloc(), &run, &file, &[], Paper::endless(rt.alloc()));
-    let lines =
-        "0 0x00001000 00000a0b tbegin 20\n0 0x00001004 000022b7 lui t0, 0x2 | t0=0x00002000\nhart 0: running\n";
-    check_told(&rt, &told, 5, lines, "");
-    Ok(())
-}
 
 /// That a trace is whole if so many puts are enough, one for each of its eight lines; and else that it is cut, which is told.
 fn check_trace_cut(rt: &(impl Abort + AllocGlobal), run: &Run<'_>, file: &[u8], left: u32) {
@@ -109,32 +68,5 @@ fn each_put_of_both_is_refused(rt: HostRuntime) -> Result<(), Fail> {
         check_cut(&rt, &mut cuts, &told);
     }
     assert_eq!(rt; cuts.whole, Some(TRACE.len() + REPORT.len()));
-    Ok(())
-}
-
-/// That a run is refused with this status and text, by both ways of a trace, and no trace is put.
-fn check_untraced(
-    rt: &(impl Abort + AllocGlobal),
-    run: &Run<'_>,
-    file: &[u8],
-    list: &[u8],
-    status: u8,
-    text: &str,
-) {
-    let paper = Paper::new(rt.alloc(), 1000);
-    let (apart, trace) = traced_apart(rt.alloc(), run, file, list, paper);
-    check_told(rt, &apart, status, "", text);
-    assert_eq!(rt; trace.bytes.len(), 0);
-    let before = traced_before(rt.alloc(), run, file, list, Paper::endless(rt.alloc()));
-    check_told(rt, &before, status, "", text);
-}
-
-#[test]
-fn a_refused_run_has_no_trace(rt: HostRuntime) -> Result<(), Fail> {
-    let file = file_of(rt.alloc(), &COMMITS)?;
-    let run = run_of(rt.alloc(), SHOWS.as_slice()).ok_or("a run")?;
-    check_untraced(&rt, &run, &[], &[], 4, "logtm: load 1 Truncated\n");
-    let no_step = "logtm: schedule line 1: no step\n";
-    check_untraced(&rt, &run, &file, b"cor 0", 2, no_step);
     Ok(())
 }

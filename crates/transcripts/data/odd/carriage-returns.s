@@ -1,0 +1,3 @@
+nop
+	foo	a0
+nop

@@ -1,0 +1,10 @@
+# Stores 7 to 0x2000 in a transaction, aborts it, and exits with 0.
+    tbegin after
+    lui t0, 2
+    li t1, 7
+    sw t1, 0(t0)
+    tabort
+after:
+    li a7, 93
+    li a0, 0
+    ecall

@@ -1,0 +1,23 @@
+//! Plays the lists of commands that test `logtm`, and shows each command with all that it prints, what it is told on standard error and its status: the
+//! gate compares that with what is expected.
+#![tactic(auto)]
+
+use std::io;
+use transcript::{Telling, play};
+
+static LISTS: [&str; 6] = [
+    "running",
+    "sources",
+    "schedules",
+    "counting",
+    "tracing",
+    "drawing",
+];
+
+fn main(rt: HostRuntime) -> io::Result<()> {
+    for list in LISTS {
+        println!(rt; "== {list}")?;
+        play(&rt, list, Telling::Apart)?;
+    }
+    Ok(())
+}
