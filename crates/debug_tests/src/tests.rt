@@ -1,4 +1,3 @@
 mod cut;
-mod played;
 mod spelled;
 mod talks;

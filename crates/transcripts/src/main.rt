@@ -5,13 +5,14 @@
 use std::io;
 use transcript::{Telling, play};
 
-static LISTS: [&str; 6] = [
+static LISTS: [&str; 7] = [
     "running",
     "sources",
     "schedules",
     "counting",
     "tracing",
     "drawing",
+    "debugger",
 ];
 
 fn main(rt: HostRuntime) -> io::Result<()> {

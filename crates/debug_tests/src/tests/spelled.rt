@@ -1,5 +1,5 @@
 //! Lines with what they spell, and the texts of faults.
-use commands::{Command, DebugFault, Look, command_of, help};
+use commands::{Command, DebugFault, Look, command_of};
 use schedule::Sort;
 use std::alloc::AllocError;
 use std::process::Abort;
@@ -37,64 +37,15 @@ static COMMANDS: [(&str, Command); 29] = [
     ("help", Command::Look(Look::Help)),
 ];
 
-static OTHERS: [&str; 39] = [
-    "",
-    " ",
-    "step ",
-    " step",
-    "step 1",
-    "Step",
-    "stepp",
-    "run -1",
-    "run +1",
-    "run 4294967296",
-    "run 0x",
-    "run 1 2",
-    "run ",
-    "break",
-    "break 0x1000 1",
-    "core",
-    "core  1",
-    "core one",
-    "evict 1",
-    "evict 1 0x2000 0",
-    "evict 0x2000,1",
-    "deliver",
-    "deliver get 1",
-    "deliver Get 1 0x2000",
-    "deliver 1 0x2000 get",
-    "deliver get 1 0x2000 0",
-    "regs",
-    "regs a0",
-    "view 0x2000",
-    "line\t1 0x2000",
-    "dir",
-    "dirs 0",
-    "help step",
-    "harts 1",
-    "messages ",
-    "quit 0",
-    "exit",
-    " # step",
-    "step\r",
-];
-
-/// That a line spells this command, or none.
-fn check_read(rt: &impl Abort, line: &str, want: Option<Command>) {
-    assert_eq!(rt; command_of(line), want, "at {line}");
+/// That a line spells this command.
+fn check_read(rt: &impl Abort, line: &str, want: Command) {
+    assert_eq!(rt; command_of(line), Some(want), "at {line}");
 }
 
 #[test]
 fn commands_are_read(rt: HostRuntime) {
     for (line, want) in &COMMANDS {
-        check_read(&rt, line, Some(*want));
-    }
-}
-
-#[test]
-fn other_lines_are_no_commands(rt: HostRuntime) {
-    for line in &OTHERS {
-        check_read(&rt, line, None);
+        check_read(&rt, line, *want);
     }
 }
 
@@ -115,11 +66,4 @@ fn faults_are_told(rt: HostRuntime) -> Result<(), AllocError> {
     check_fault(&rt, DebugFault::from(SinkFault), "7 Device")?;
     assert_eq!(rt; DebugFault::from(AllocError).text(), "6 NoMemory");
     Ok(())
-}
-
-#[test]
-fn help_is_told(rt: HostRuntime) {
-    assert!(rt; help().starts_with("Words are parted by one space."));
-    assert_eq!(rt; help().split('\n').count(), 29);
-    assert!(rt; help().ends_with("begins a comment\n"));
 }

@@ -1,14 +1,10 @@
 //! Lines that are typed, with what the user is told and how often they are asked for.
 use commands::{Command, DebugFault};
-use console::{ConsoleFault, Debugged, Typed, debug, play};
-use elf_samples::{EXIT, elf_file};
-use loader::read_elf;
-use machine::Machine;
+use console::{ConsoleFault, Debugged, Typed, play};
 use std::alloc::Global;
 use std::io;
 use std::io::{ErrorKind, Read};
 use std::process::Abort;
-use std::test::Fail;
 use words::{Sink, SinkFault, Taken};
 
 /// A session that tells each step that it is asked for, and knows no hart.
@@ -178,33 +174,4 @@ fn a_prompt_that_cannot_be_put_ends_it(rt: HostRuntime) {
     let mut out = taken(rt.alloc());
     check_unreadable(&rt, &mut out);
     check_unprompted(&rt, &mut closed, &mut out);
-}
-
-/// That what is typed to the debugger of a machine is refused, line by line.
-fn check_debugged(rt: &(impl Abort + AllocGlobal), machine: Machine<16, 4>) {
-    let mut input = Typed {
-        bytes: b"regs 1\nword 0x2002\nbreak 0x2000\nquit\nregs 1\n"
-            .as_slice()
-            .bytes(),
-        failed: 0,
-    };
-    let mut prompts = taken(rt.alloc());
-    let mut out = taken(rt.alloc());
-    let end = debug(machine, &mut input, "(logtm) ", &mut prompts, &mut out);
-    assert_eq!(rt; end, Ok(()));
-    assert_eq!(rt;
-        out.bytes.as_slice(),
-        b"refused 2 NoHart\nrefused 3 Address\nrefused 3 Address\n".as_slice()
-    );
-    assert_eq!(rt;
-        prompts.bytes.as_slice(),
-        b"(logtm) (logtm) (logtm) (logtm) ".as_slice()
-    );
-}
-
-#[test]
-fn a_machine_is_debugged(rt: HostRuntime) -> Result<(), Fail> {
-    let program = read_elf(rt.alloc(), &elf_file(rt.alloc(), &EXIT)?)?;
-    check_debugged(&rt, Machine::boot(rt.alloc(), program, 1, 131_072)?);
-    Ok(())
 }
