@@ -1,4 +1,4 @@
-//! What the looks show of programs on the coherent machine.
+//! Looks at programs on the coherent machine, with each put refused in turn.
 #![tactic(auto)]
 
 #[cfg(test)]

@@ -5,7 +5,7 @@
 use std::io;
 use transcript::{Telling, play};
 
-static LISTS: [&str; 7] = [
+static LISTS: [&str; 8] = [
     "running",
     "sources",
     "schedules",
@@ -13,6 +13,7 @@ static LISTS: [&str; 7] = [
     "tracing",
     "drawing",
     "debugger",
+    "looks",
 ];
 
 fn main(rt: HostRuntime) -> io::Result<()> {
