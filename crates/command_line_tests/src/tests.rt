@@ -1,10 +1,8 @@
 //! What the words of a command line ask for, and how they are refused.
 use command_line::{Cache, Debug, Order, OrderFault, Request, Run, Target, View, parse};
 use numerals::number;
-use simulate::Fault;
 use std::alloc::Global;
 use std::test::Fail;
-use words::Taken;
 
 #[test]
 fn reads_numbers(rt: HostRuntime) {
@@ -245,66 +243,9 @@ fn bad_value(alloc: Global, words: &'static [&'static str]) -> Option<&'static s
 }
 
 #[test]
-fn names_the_first_bad_value(rt: HostRuntime) {
-    let cases: [(&[&str], &str); 34] = [
-        (&["logtm", "debug", "f", "--harts", "x"], "x"),
-        (&["logtm", "debug", "f", "--memory", "0x1g"], "0x1g"),
-        (&["logtm", "debug", "f", "--cache", "tiny"], "tiny"),
-        (
-            &["logtm", "debug", "f", "--cache", "c", "--memory", "m"],
-            "m",
-        ),
-        (
-            &["logtm", "debug", "f", "--memory", "m", "--harts", "h"],
-            "h",
-        ),
-        // A trace that would go to a file which the run reads.
-        (&["logtm", "run", "f", "--trace", "f"], "f"),
-        (
-            &["logtm", "run", "f", "--trace", "l", "--schedule", "l"],
-            "l",
-        ),
-        (
-            &["logtm", "run", "f", "--trace", "f", "--schedule", "l"],
-            "f",
-        ),
-        (&["logtm", "run", "f", "--trace", "f", "w"], "w"),
-        (&["logtm", "run", "f", "--threads", "--trace", "f"], "f"),
-        (
-            &["logtm", "run", "f", "--threads", "--schedule=l", "w"],
-            "w",
-        ),
-        // A history that would go to the program's file, or to standard output.
-        (&["logtm", "run", "f", "--threads", "--history", "f"], "f"),
-        (&["logtm", "run", "f", "--threads", "--history", "-"], "-"),
-        (&["logtm", "run", "-", "--threads", "--history=-"], "-"),
-        (&["logtm", "run", "f", "--trace", "f", "--harts", "h"], "h"),
-        (&["logtm", "run", "", "--trace="], ""),
-        (&["logtm", "run", "f", "--harts", "x"], "x"),
-        (&["logtm", "run", "f", "--memory", "0x1g"], "0x1g"),
-        (
-            &["logtm", "run", "f", "--steps", "4294967296"],
-            "4294967296",
-        ),
-        (&["logtm", "run", "f", "--harts="], ""),
-        (&["logtm", "run", "f", "--harts", ""], ""),
-        (&["logtm", "run", "f", "0X10"], "0X10"),
-        (&["logtm", "run", "f", "1", "zz", "yy"], "zz"),
-        (&["logtm", "run", "f", "--steps", "y", "--harts", "x"], "x"),
-        (&["logtm", "run", "f", "--steps", "y", "--memory", "m"], "m"),
-        (&["logtm", "run", "f", "w", "--steps", "y"], "y"),
-        (&["logtm", "run", "f", "--cache", "tiny"], "tiny"),
-        (&["logtm", "run", "f", "--cache", "Small"], "Small"),
-        (&["logtm", "run", "f", "--cache="], ""),
-        (&["logtm", "run", "f", "--cache", "normal "], "normal "),
-        (&["logtm", "run", "f", "--cache", "2"], "2"),
-        (&["logtm", "run", "f", "--harts", "small"], "small"),
-        (&["logtm", "run", "f", "--cache", "c", "--steps", "y"], "y"),
-        (&["logtm", "run", "f", "w", "--cache", "c"], "c"),
-    ];
-    for (words, value) in cases {
-        assert_eq!(rt; bad_value(rt.alloc(), words), Some(value));
-    }
+fn a_blank_is_no_part_of_a_name(rt: HostRuntime) {
+    let words = &["logtm", "run", "f", "--cache", "normal "];
+    assert_eq!(rt; bad_value(rt.alloc(), words), Some("normal "));
 }
 
 // Whether the words give an order with so many words, or memory ran out.
@@ -399,66 +340,6 @@ fn reads_what_is_played_by_hand(rt: HostRuntime) -> Result<(), Fail> {
         assert_eq!(rt; debug.file, "f");
         assert_eq!(rt; (debug.harts, debug.memory), sizes);
         assert_eq!(rt; debug.cache, cache);
-    }
-    Ok(())
-}
-
-// What the user is told of words that are refused, with the status.
-#[test]
-fn tells_of_refused_words(rt: HostRuntime) -> Result<(), Fail> {
-    let cases: [(&[&str], &str); 11] = [
-        (
-            &["logtm", "debug", "f", "--harts", "two"],
-            "logtm: value two\n",
-        ),
-        (
-            &["logtm", "debug", "f", "--memory", "-"],
-            "logtm: value -\n",
-        ),
-        (
-            &["logtm", "debug", "f", "--cache", "tiny"],
-            "logtm: value tiny\n",
-        ),
-        (&["logtm", "run", "f", "0X10"], "logtm: value 0X10\n"),
-        (&["logtm", "run", "f", "--trace", "f"], "logtm: value f\n"),
-        (
-            &["logtm", "run", "f", "--timeline", "t.png"],
-            "logtm: value t.png\n",
-        ),
-        (
-            &["logtm", "run", "f.json", "--timeline", "f.json"],
-            "logtm: value f.json\n",
-        ),
-        (
-            &["logtm", "run", "f", "--timeline", "t.json", "--stats=table"],
-            "logtm: --trace, --timeline and --stats exclude each other\n",
-        ),
-        (
-            &["logtm", "run", "f", "--timeline", "t.svg"],
-            "logtm: a picture takes --steps of at most 2000\n",
-        ),
-        (
-            &["logtm", "run", "f", "--schedule=l", "--trace=l"],
-            "logtm: value l\n",
-        ),
-        (
-            &["logtm", "run", "f", "--history", "h"],
-            "logtm: --threads excludes --schedule, --trace, --timeline and --stats, and --history needs --threads\n",
-        ),
-    ];
-    for (words, text) in cases {
-        let mut told = Taken {
-            bytes: Vec::new(rt.alloc()),
-            failed: 0,
-        };
-        match parse(rt.alloc(), words) {
-            Ok(_request) => return Err("no fault".into()),
-            Err(fault) => {
-                let fault = Fault::from(fault);
-                assert_eq!(rt; fault.tell(&mut told), 2);
-            }
-        }
-        assert_eq!(rt; told.bytes.as_slice(), text.as_bytes());
     }
     Ok(())
 }
@@ -590,50 +471,6 @@ fn reads_a_run_in_threads(rt: HostRuntime) {
     ];
     for (words, path) in cases {
         assert_eq!(rt; history(rt.alloc(), words), path);
-    }
-}
-
-// Why threads and what else is asked for don't go together: 1 for the threads, 2 for two of a trace, a timeline and counts.
-fn apart(alloc: Global, words: &'static [&'static str]) -> u32 {
-    match parse(alloc, words) {
-        Err(OrderFault::ThreadsAlone) => 1,
-        Err(OrderFault::TwoViews) => 2,
-        _ => 0,
-    }
-}
-
-#[test]
-fn threads_stand_alone(rt: HostRuntime) {
-    let cases: [(&[&str], u32); 13] = [
-        (&["logtm", "run", "f", "--threads", "--schedule", "l"], 1),
-        (&["logtm", "run", "f", "--threads", "--trace", "t"], 1),
-        (&["logtm", "run", "f", "--trace", "-", "--threads"], 1),
-        (&["logtm", "run", "f", "--threads", "--stats", "csv"], 1),
-        (
-            &["logtm", "run", "f", "--threads", "--trace=t", "--stats=csv"],
-            2,
-        ),
-        (
-            &[
-                "logtm",
-                "run",
-                "f",
-                "--threads",
-                "--schedule=l",
-                "--history=-",
-            ],
-            1,
-        ),
-        (&["logtm", "run", "f", "--threads", "--timeline=t.json"], 1),
-        (&["logtm", "run", "f", "--timeline=t.json", "--trace=t"], 2),
-        (&["logtm", "run", "f", "--trace=f", "--timeline=f"], 2),
-        (&["logtm", "run", "f", "--timeline=f", "--stats=csv"], 2),
-        (&["logtm", "run", "f", "--history", "h"], 1),
-        (&["logtm", "run", "f", "--history", "f"], 1),
-        (&["logtm", "run", "f", "--trace=t", "--history", "h"], 1),
-    ];
-    for (words, why) in cases {
-        assert_eq!(rt; apart(rt.alloc(), words), why);
     }
 }
 

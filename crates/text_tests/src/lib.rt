@@ -1,4 +1,4 @@
-//! The assembler and the disassembler on words and texts from outside: one table of both, read in either direction.
+//! Assembled programs as segments and as a file, sources as large as they may be, and listings that cannot be put.
 #![tactic(auto)]
 
 #[cfg(test)]

@@ -1,5 +1,3 @@
 mod assembling;
-mod hostile;
 mod large;
 mod listings;
-mod vectors;

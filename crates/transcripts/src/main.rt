@@ -5,7 +5,7 @@
 use std::io;
 use transcript::{Telling, play};
 
-static LISTS: [&str; 8] = [
+static LISTS: [&str; 13] = [
     "running",
     "sources",
     "schedules",
@@ -14,6 +14,11 @@ static LISTS: [&str; 8] = [
     "drawing",
     "debugger",
     "looks",
+    "instructions",
+    "assembling",
+    "faults",
+    "listings",
+    "command-lines",
 ];
 
 fn main(rt: HostRuntime) -> io::Result<()> {

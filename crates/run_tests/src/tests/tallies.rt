@@ -2,11 +2,10 @@
 use super::booted::booted;
 use elf_samples::{ABORTS, COMMITS};
 use machine::Silent;
-use schedule::Sort;
 use std::alloc::Global;
 use std::process::Abort;
 use std::test::Fail;
-use tally::{Figure, Kind, Sum, Tally, tally_run};
+use tally::{Kind, Tally, tally_run};
 use words::HartId;
 
 fn counted(alloc: Global, text: &[u32], harts: u32) -> Result<Tally, Fail> {
@@ -37,30 +36,5 @@ fn an_abort_is_counted_by_its_cause(rt: HostRuntime) -> Result<(), Fail> {
     let tally = counted(rt.alloc(), &ABORTS, 2)?;
     check_both(&rt, &tally, Kind::Asked, 1);
     check_both(&rt, &tally, Kind::Committed, 0);
-    Ok(())
-}
-
-#[test]
-fn the_machine_is_counted(rt: HostRuntime) -> Result<(), Fail> {
-    // One store misses: its hart asks, and goes on once the block is granted.
-    let told = counted(rt.alloc(), &COMMITS, 1)?.machine;
-    let wanted = [
-        (Sum::Cores, 9),
-        (Sum::Evictions, 0),
-        (Sum::Deliveries, 3),
-        (Sum::Sent(Sort::Get), 1),
-        (Sum::Sent(Sort::Put), 0),
-        (Sum::Sent(Sort::Done), 1),
-        (Sum::Sent(Sort::Grant), 1),
-        (Sum::Sent(Sort::Forward), 0),
-        (Sum::Sent(Sort::PutAck), 0),
-        (Sum::Sent(Sort::Ack), 0),
-        (Sum::Sent(Sort::Nack), 0),
-    ];
-    for (sum, count) in wanted {
-        assert_eq!(rt; told.figure(Figure::Sum(sum)), count);
-    }
-    assert_eq!(rt; told.figure(Figure::MostInFlight), 1);
-    assert_eq!(rt; told.figure(Figure::MostInUse), 1);
     Ok(())
 }

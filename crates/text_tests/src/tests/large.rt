@@ -1,8 +1,8 @@
 //! Sources as large as they may be, and one line past it.
 
-use super::assembling::check_outcome;
 use assembler::assemble;
 use std::alloc::{AllocError, Global};
+use std::process::Abort;
 use std::test::Fail;
 
 /// A mebibyte of source, which makes a mebibyte of text: 4,096 lines of 255 bytes, each with 64 words 19, which are NOPs.
@@ -24,6 +24,18 @@ fn largest(alloc: Global) -> Result<String, AllocError> {
     Ok(source)
 }
 
+/// That a source is refused at this line, by a fault of this name.
+fn check_fault(
+    rt: &(impl Abort + AllocGlobal),
+    source: &str,
+    line: usize,
+    name: &str,
+) -> Result<(), Fail> {
+    let fault = assemble(rt.alloc(), source).err().ok_or("a fault")?;
+    assert_eq!(rt; (fault.line, fault.fault.name()), (line, name));
+    Ok(())
+}
+
 #[test]
 fn a_mebibyte_is_assembled(rt: HostRuntime) -> Result<(), Fail> {
     let mut source = largest(rt.alloc())?;
@@ -36,7 +48,7 @@ fn a_mebibyte_is_assembled(rt: HostRuntime) -> Result<(), Fail> {
     assert_eq!(rt; text.bytes[1_048_572..], [0x13, 0, 0, 0][..]);
     // A word more is too much.
     source.push_str("nop")?;
-    check_outcome(&rt, source.as_str(), "line 4097: TooLarge")
+    check_fault(&rt, source.as_str(), 4097, "TooLarge")
 }
 
 // The last lines jump back over 100,000 instructions, each with a label of its own, and over one.

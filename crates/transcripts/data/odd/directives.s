@@ -1,0 +1,6 @@
+.globl _start
+.text
+_start: # here
+li a7, 93
+li a0, 0
+last: ecall

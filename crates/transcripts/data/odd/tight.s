@@ -1,0 +1,4 @@
+li a7,93
+	li	a0 ,	0
+
+  ecall  # calls
