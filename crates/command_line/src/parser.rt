@@ -1,4 +1,4 @@
-ghost use Rattle.std.specs.Prelude.{◌≡◌, IfOk, MatchResult, codes, false, map};
+ghost use Rattle.std.specs.Prelude.{◌≡◌, IfOk, IsOkAnd, MatchResult, codes, false, map};
 ghost use Rattle.clap.specs.Words.{app_of, kind_of, new_app, rule_of, shape_of, with_subcommand};
 ghost use Rattle.clap.specs.declared.builder.command.Command.TheViews.{out-Command};
 ghost use Rattle.clap.specs.declared.error.ErrorKind.TheVariants.{OutOfMemory};
@@ -59,18 +59,27 @@ fn command<'a>(alloc: Global) -> Result<Command<'a>, AllocError>
 fn with_runs<'a>(alloc: Global, command: Command<'a>) -> Result<Command<'a>, AllocError>
     ensures { IfOk result (λ c. app_of c ≡ with_subcommand (with_subcommand (app_of command.entry) spec.run) spec.debug) }
 {
-    command
-        .subcommand(run_command(alloc)?)?
-        .subcommand(debug_command(alloc)?)
+    let command = add(command, run_command(alloc))?;
+    add(command, debug_command(alloc))
 }
 
 /// The command with the subcommands that turn text into a program and back.
 fn with_listings<'a>(alloc: Global, command: Command<'a>) -> Result<Command<'a>, AllocError>
     ensures { IfOk result (λ c. app_of c ≡ with_subcommand (with_subcommand (app_of command.entry) spec.dis) spec.asm) }
 {
-    command
-        .subcommand(dis_command(alloc)?)?
-        .subcommand(asm_command(alloc)?)
+    let command = add(command, dis_command(alloc))?;
+    add(command, asm_command(alloc))
+}
+
+/// The command with a subcommand more, which could not be made where memory ran out.
+fn add<'a>(
+    command: Command<'a>,
+    made: Result<Command<'a>, AllocError>,
+) -> Result<Command<'a>, AllocError>
+    requires { IfOk made (λ sub. (out-Command sub).has_globals ≡ false) }
+    ensures { IfOk result (λ c. IsOkAnd made.entry (λ sub. app_of c ≡ with_subcommand (app_of command.entry) (shape_of sub))) }
+{
+    command.subcommand(made?)
 }
 
 fn run_command<'a>(alloc: Global) -> Result<Command<'a>, AllocError>

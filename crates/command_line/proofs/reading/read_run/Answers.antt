@@ -2,10 +2,18 @@ use Rattle.std.proofs.Common.{None, codes}
 use Rattle.std.proofs.lemmas.Result.{err_from_is_err_and}
 use Rattle.clap.specs.Words.{first_of, found_of, rows_of}
 use Rattle.numerals.specs.Numbers.{number_of}
-use Rattle.command_line.specs.Reading.{cache_of, malformed, stats_of, words_of}
+use Rattle.command_line.specs.Reading.{cache_of, given, malformed, stats_of, words_of}
 use Rattle.command_line.specs.declared.request.Cache.TheVariants.{Normal}
 use Rattle.command_line.proofs.Values.{none_malformed, first_of_more, first_behind, none_of_both}
 use Rattle.command_line.proofs.reading.read_run.Goals as goal
+
+pub returns-in_err-harts : goal.returns-in_err-harts
+returns-in_err-harts c =
+    let rows = rows_of (found_of c.args.matches.now) in
+    let p = err_from_is_err_and c.from_residual.result c.from_residual.ensures.1 in
+    rw (p.1, p.2) (first_of_more _ (malformed number_of (words_of rows)) _ (first_of_more _ (malformed stats_of (given (codes "stats") rows)) _
+    (first_of_more _ (malformed cache_of (given (codes "cache") rows)) _ (first_of_more _ (malformed number_of (given (codes "steps") rows)) _
+    (first_of_more _ (malformed number_of (given (codes "memory") rows)) _ c.in_err-harts.ensures)))))
 
 pub returns-in_err-stats : goal.returns-in_err-stats
 returns-in_err-stats c =
