@@ -21,11 +21,19 @@ use Rattle.tally.specs.Runs.{IsTally}
 use Rattle.count_texts.proofs.Same.{same_table, same_csv, same_machine_table, same_machine_lines}
 use Rattle.texts.specs.Puts.{Puts}
 use Rattle.texts.proofs.Putting.{puts-both, puts-cut}
-use Rattle.simulate.specs.Answers.{IsGiven, IsCut}
+use Rattle.simulate.specs.Answers.{IsGiven}
+use Rattle.simulate.specs.Begins.{IsBegunBy}
+use Rattle.simulate.specs.Conclusions.{IsConcluded, IsHalfConcluded}
 use Rattle.simulate.specs.Counted.{AreCounts, IsCountedIn, counts_part, counts_text, with_counts}
-use Rattle.simulate.specs.Reports.{report_of}
+use Rattle.simulate.specs.Orders.{geometry_of}
+use Rattle.simulate.specs.Refusals.{IsUnreported}
+use Rattle.simulate.specs.Reports.{AllReadable, report_of}
 use Rattle.simulate.specs.Runs.{IsReportOf}
-use Rattle.simulate.proofs.Performing.{HasReport}
+use Rattle.simulate.specs.Sinks.{TookAll, TookPart}
+use Rattle.simulate.specs.Statuses.{IsReported, IsStatusOf}
+use Rattle.simulate.specs.declared.fault.Fault.{Fault}
+use Rattle.simulate.specs.declared.fault.Fault.TheVariants.{Unwritten, NoMemory}
+use Rattle.simulate.proofs.Performing.{HasCome, come_to, its_report, still_readable}
 
 -- a run that nobody counts
 pub uncounted : (g : Geometry) (choices : List Choice) (n : ℕ) (v w : State) (t : Tally) → Plays g choices n v w → IsCountedIn None g choices n v w t
@@ -46,28 +54,65 @@ put_as None ms t n m report are same = append-nil report
 put_as (Some form) ms t n m report are same =
     ap (λ l. report ++ l) (text_of form ms t n are ∙ ap (λ (k : ℕ). counts_text form (λ h k. number_of h k ms) k (figure_of ms)) same)
 
-module _ (run : Run) (file list : List ℕ) (g : Geometry) (w : State) (words : List ℕ) (status : ℕ) (ms : List Moment) (counts : Tally) (harts : ℕ)
-    (has : HasReport run file list g w words status ms) (are : AreCounts run.stats ms counts) (count : (f : Flat) → Belongs g f (shown g.sets w) → harts ≡ f.setting.count) where
-  abbrev first : List ℕ
-  first = report_of has.end words
+-- memory ran out before anything was put
+pub unbegun : (run : Run) (file list : List ℕ) (a : Option (List ℕ)) (f : ℕ) → IsUnreported run file list a a f f NoMemory
+unbegun run file list a f = record { why = tt; cut = λ e. absurd (cc); refused = λ other. record { taken = refl; failed = refl } }
 
-  abbrev behind : List ℕ
-  behind = counts_part run.stats counts harts
+module _ (run : Run) (file list : List ℕ) (g : Geometry) (v w : State) (addrs words : List ℕ) (choices followed : List Choice) (caches : geometry_of run.cache ≡ g) (same : followed ≡ choices) (as_given : words ≡ addrs)
+    (begun : IsBegunBy g run file list v addrs choices) (counts : Tally) (counted : IsCountedIn run.stats g followed run.steps v w counts) where
+  come : HasCome run file list g w words counted.0
+  come = come_to run file list choices followed g v w addrs words counted.0 same as_given caches begun counted.1
 
-  pub whole : IsReportOf run file list (first ++ behind) status
-  whole = (ms, has.end, has.comes, (first, has.is, put_as run.stats ms counts harts has.end.setting.count first are (count has.end has.belongs)))
+  -- the machine at the end can be asked for the words
+  pub readable_then : AllReadable (setting_of w) words
+  readable_then = still_readable run file list g w words counted.0 come
 
-  pub given : {a b c : Option (List ℕ)} {fa fb fc : ℕ} → Puts a b fa fb first (Ok tt) → Puts b c fb fc behind (Ok tt) → IsGiven (IsReportOf run file list) status a c fa fc
-  given {a} {b} {c} {fa} {fb} {fc} put more =
-      let all : Puts a c fa fc (first ++ behind) (Ok tt) = puts-both put more in
-      (first ++ behind, whole, record { whole = all.whole; clean = all.clean })
+  module _ (harts : ℕ) (count : (f : Flat) → Belongs g f (shown g.sets w) → harts ≡ f.setting.count) where
+    abbrev first : List ℕ
+    first = report_of come.end words
 
-  pub cut_in_report : {a b : Option (List ℕ)} {fa fb : ℕ} (e : SinkFault) → Puts a b fa fb first (Err e) → IsCut (IsReportOf run file list) a b fa fb
-  cut_in_report {a} {b} {fa} {fb} e put =
-      let part : Puts a b fa fb (first ++ behind) (Err e) = puts-cut behind {r = Err e} {s = Err e} {e = e} refl put refl in
-      (first ++ behind, status, whole, record { part = part.part; fault = part.fault })
+    abbrev behind : List ℕ
+    behind = counts_part run.stats counts harts
 
-  pub cut_behind : {a b c : Option (List ℕ)} {fa fb fc : ℕ} (e : SinkFault) → Puts a b fa fb first (Ok tt) → Puts b c fb fc behind (Err e) → IsCut (IsReportOf run file list) a c fa fc
-  cut_behind {a} {b} {c} {fa} {fb} {fc} e put more =
-      let part : Puts a c fa fc (first ++ behind) (Err e) = puts-both put more in
-      (first ++ behind, status, whole, record { part = part.part; fault = part.fault })
+    whole : (status : ℕ) → IsStatusOf come.end status → IsReportOf run file list (first ++ behind) status
+    whole status of = (
+      counted.0,
+      come.end,
+      come.comes,
+      (first, its_report run file list g w words counted.0 come status of, put_as run.stats counted.0 counts harts come.end.setting.count first counted.2 (count come.end come.belongs)),
+    )
+
+    cut : (a b : Option (List ℕ)) (fa fb : ℕ) (status : ℕ) → IsStatusOf come.end status → TookPart a b fa fb (first ++ behind) → IsUnreported run file list a b fa fb Unwritten
+    cut a b fa fb status of took = record {
+      why = (first ++ behind, status, whole status of);
+      cut = λ e. (first ++ behind, status, whole status of, took);
+      refused = λ other. absurd (other refl);
+    }
+
+    -- a put of the report failed
+    pub half_reported : (a b : Option (List ℕ)) (fa fb : ℕ) (fault : Fault) → IsHalfConcluded g w words a b fa fb fault → IsUnreported run file list a b fa fb fault
+    half_reported a b fa fb fault (unwritten, of) =
+        let half = of come.end come.belongs in
+        let e : SinkFault = record {} in
+        let short : Puts a b fa fb first (Err e) = record { whole = tt; clean = tt; part = half.2.part; fault = half.2.fault } in
+        let part : Puts a b fa fb (first ++ behind) (Err e) = puts-cut behind {r = Err e} {s = Err e} {e = e} refl short refl in
+        subst (λ (f : Fault). IsUnreported run file list a b fa fb f) (sym unwritten) (cut a b fa fb half.0 half.1 (record { part = part.part; fault = part.fault }))
+
+    module _ (a b c : Option (List ℕ)) (fa fb fc : ℕ) (status : ℕ) (concluded : IsConcluded g w words a b fa fb status) where
+      abbrev of_end : IsStatusOf come.end status × TookAll a b fa fb first
+      of_end = concluded.1 come.end come.belongs
+
+      put : Puts a b fa fb first (Ok tt)
+      put = record { whole = of_end.1.whole; clean = of_end.1.clean; part = tt; fault = tt }
+
+      -- all was put
+      pub reported : Puts b c fb fc behind (Ok tt) → IsReported status × IsGiven (IsReportOf run file list) status a c fa fc
+      reported more =
+          let all : Puts a c fa fc (first ++ behind) (Ok tt) = puts-both put more in
+          (concluded.0, (first ++ behind, whole status of_end.0, record { whole = all.whole; clean = all.clean }))
+
+      -- a put of the counts failed
+      pub half_counted : (e : SinkFault) → Puts b c fb fc behind (Err e) → IsUnreported run file list a c fa fc Unwritten
+      half_counted e more =
+          let part : Puts a c fa fc (first ++ behind) (Err e) = puts-both put more in
+          cut a c fa fc status of_end.0 (record { part = part.part; fault = part.fault })

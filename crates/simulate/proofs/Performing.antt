@@ -1,5 +1,5 @@
 -- The report that an order asks for, from what its parts came to.
-use Rattle.std.proofs.Common.{◌≡◌, ℕ, List, refl, sym, subst, ◌∙◌}
+use Rattle.std.proofs.Common.{◌≡◌, ℕ, List, ap, sym, subst, ◌∙◌}
 use Rattle.protocol.specs.Caches.{Geometry}
 use Rattle.flat.specs.Boots.{booted}
 use Rattle.flat.specs.State.{Flat}
@@ -54,31 +54,37 @@ pub with_caches : (run : Run) (file list : List ℕ) (g : Geometry) (steps : ℕ
     → ComesBy run.file.now file list (geometry_of run.cache) run.harts run.memory steps moments f
 with_caches run file list g steps moments f caches comes = subst (λ (c : Geometry). ComesBy run.file.now file list c run.harts run.memory steps moments f) (sym caches) comes
 
--- the report on the run is that of a flat state which belongs to the machine at the end, where the words can be read still
-pub record HasReport (run : Run) (file list : List ℕ) (g : Geometry) (w : State) (words : List ℕ) (status : ℕ) (moments : List Moment) : Type 0 where
+-- all steps of the run were made: a flat state belongs to the machine that they lead to, in which the words at these addresses can be read
+pub record HasCome (run : Run) (file list : List ℕ) (g : Geometry) (w : State) (addrs : List ℕ) (moments : List Moment) : Type 0 where
   pub end : Flat
   pub belongs : Belongs g end (shown g.sets w)
   pub comes : ComesBy run.file.now file list (geometry_of run.cache) run.harts run.memory run.steps moments end
-  pub is : IsReport end run.words.items (report_of end words) status
-  pub readable : AllReadable (setting_of w) words
+  pub asked : addrs ≡ addresses run.words.items
+  pub readable : AllReadable end.setting addrs
 
-of_end : (run : Run) (file list : List ℕ) (g : Geometry) (moments : List Moment) (v w : State) (status : ℕ) → geometry_of run.cache ≡ g → HasEnd g run.file.now file list run.harts run.memory run.steps moments v w
-    → AllReadable (setting_of v) (addresses run.words.items) → ((f : Flat) → Belongs g f (shown g.sets w) → IsStatusOf f status) → HasReport run file list g w (addresses run.words.items) status moments
-of_end run file list g moments v w status caches e readable given =
-    let words : List ℕ = addresses run.words.items in
-    let end_readable : AllReadable e.end.setting words = readable-stays (setting_of v) e.end.setting words e.same readable in
-    let comes = with_caches run file list g run.steps moments e.end caches e.comes in
-    let is : IsReport e.end run.words.items (report_of e.end words) status = record { readable = end_readable; text = refl; status = given e.end e.belongs } in
+-- the same of what the run's parts answered
+pub come_to : (run : Run) (file list : List ℕ) (choices followed : List Choice) (g : Geometry) (v w : State) (addrs words : List ℕ) (moments : List Moment) → followed ≡ choices → words ≡ addrs → geometry_of run.cache ≡ g
+    → IsBegunBy g run file list v addrs choices → PlaysWith g followed run.steps v moments w → HasCome run file list g w words moments
+come_to run file list choices followed g v w addrs words moments same as_given caches begun plays =
+    let e : HasEnd g run.file.now file list run.harts run.memory run.steps moments v w = begun_end run file list choices followed g run.steps moments v w addrs same begun plays in
+    let asked : words ≡ addresses run.words.items = as_given ∙ begun.same in
     record {
       end = e.end;
       belongs = e.belongs;
-      comes = comes;
-      is = is;
-      readable = readable-stays e.end.setting (setting_of w) words (sym (same_setting g e.end w e.belongs)) end_readable;
+      comes = with_caches run file list g run.steps moments e.end caches e.comes;
+      asked = asked;
+      readable = subst (λ (l : List ℕ). AllReadable e.end.setting l) (sym asked) (readable-stays (setting_of v) e.end.setting (addresses run.words.items) e.same begun.readable);
     }
 
--- the same of what the program's parts answered
-pub made_report : (run : Run) (file list : List ℕ) (choices followed : List Choice) (g : Geometry) (v w : State) (status : ℕ) (addrs words : List ℕ) (moments : List Moment) → followed ≡ choices → words ≡ addrs → geometry_of run.cache ≡ g
-    → IsBegunBy g run file list v addrs choices → PlaysWith g followed run.steps v moments w → ((f : Flat) → Belongs g f (shown g.sets w) → IsStatusOf f status) → HasReport run file list g w words status moments
-made_report run file list choices followed g v w status addrs words moments same as_given caches begun plays given =
-    rw (as_given ∙ begun.same) (of_end run file list g moments v w status caches (begun_end run file list choices followed g run.steps moments v w addrs same begun plays) begun.readable given)
+module _ (run : Run) (file list : List ℕ) (g : Geometry) (w : State) (addrs : List ℕ) (moments : List Moment) (come : HasCome run file list g w addrs moments) where
+  -- the machine at the end can be asked for the words
+  pub still_readable : AllReadable (setting_of w) addrs
+  still_readable = readable-stays come.end.setting (setting_of w) addrs (sym (same_setting g come.end w come.belongs)) come.readable
+
+  -- what is put of it is the run's report
+  pub its_report : (status : ℕ) → IsStatusOf come.end status → IsReport come.end run.words.items (report_of come.end addrs) status
+  its_report status given = record {
+    readable = subst (λ (l : List ℕ). AllReadable come.end.setting l) come.asked come.readable;
+    text = ap (report_of come.end) come.asked;
+    status = given;
+  }

@@ -1,5 +1,5 @@
 -- A run of which more is shown than its report, from what its parts came to.
-use Rattle.std.proofs.Common.{◌≡◌, ◌≢◌, ◌≤◌, ◌+◌, ◌++◌, ◌∙◌, ℕ, List, [], Option, Some, None, Result, Ok, Err, MatchResult, inl, inr, refl, sym, ap, ap₂, arith, append-nil}
+use Rattle.std.proofs.Common.{◌≡◌, ◌≢◌, ◌≤◌, ◌+◌, ◌++◌, ◌∙◌, ℕ, List, [], Option, Some, None, Result, Ok, Err, MatchResult, inl, inr, refl, sym, subst, ap, ap₂, arith, append-nil}
 use Rattle.std.specs.Option.{option_map}
 use Rattle.words.specs.declared.sink.SinkFault.{SinkFault}
 use Rattle.protocol.specs.Caches.{Geometry}
@@ -17,17 +17,19 @@ use Rattle.picture.specs.Pictures.{IsPictured, IsNotPictured}
 use Rattle.texts.specs.Puts.{Puts}
 use Rattle.texts.proofs.Putting.{puts-both, puts-same}
 use Rattle.simulate.specs.Begins.{IsBegunBy}
+use Rattle.simulate.specs.Conclusions.{IsConcluded, IsHalfConcluded}
 use Rattle.simulate.specs.Faults.{of_halt}
 use Rattle.simulate.specs.Orders.{geometry_of}
 use Rattle.simulate.specs.Refusals.{IsRunFault}
-use Rattle.simulate.specs.Reports.{report_of}
+use Rattle.simulate.specs.Reports.{AllReadable, report_of}
 use Rattle.simulate.specs.Sinks.{TookAll, TookPart, IsUntouched}
 use Rattle.simulate.specs.Shown.{view_of, begun_view, run_view, begun_run_view, IsShown, IsShownInPart, IsCutShort, IsPutFault, IsTextOf, IsShownReport, IsGivenApart, IsApartFault, IsGivenBefore, IsBeforeFault}
+use Rattle.simulate.specs.Statuses.{IsReported, IsStatusOf}
 use Rattle.simulate.specs.declared.fault.Fault.{Fault}
 use Rattle.simulate.specs.declared.fault.Fault.TheVariants.{NotText, Refused, Value, TwoViews, LongPicture, ThreadsAlone, Unread, NotSource, Source, Load, Boot, Word, NotSchedule, Schedule, Unwritten, Unmade, NoMemory}
 use Rattle.simulate.specs.declared.showing.Form.{Form}
 use Rattle.simulate.specs.declared.showing.Form.TheVariants.{Trace, Timeline, Picture}
-use Rattle.simulate.proofs.Performing.{HasEnd, HasReport, begun_end, with_caches}
+use Rattle.simulate.proofs.Performing.{HasCome, HasEnd, begun_end, come_to, its_report, still_readable, with_caches}
 
 -- ---- what a sink took
 
@@ -46,6 +48,20 @@ untouched a f = record { taken = refl; failed = refl }
 -- a text was put, and then written out
 written : (a b c : Option (List ℕ)) (fa fb fc : ℕ) (text : List ℕ) (r : Result Unit SinkFault) → TookAll a b fa fb text → Puts b c fb fc [] r → Puts a c fa fc text r
 written a b c fa fb fc text r took flushed = puts-same (append-nil text) (puts-both (took_puts a b fa fb text took) flushed)
+
+-- a trace was put, and then another text, or a beginning of it
+module _ (a b c : Option (List ℕ)) (fa fb fc : ℕ) (trace text : List ℕ) where
+  traced : Took a b fa fb trace → Puts a b fa fb trace (Ok tt)
+  traced took = record { whole = took.0; clean = took.1; part = tt; fault = tt }
+
+  behind_all : Took a b fa fb trace → TookAll b c fb fc text → TookAll a c fa fc (trace ++ text)
+  behind_all took all = took_all a c fa fc (trace ++ text) (puts-both (traced took) (took_puts b c fb fc text all))
+
+  behind_part : Took a b fa fb trace → TookPart b c fb fc text → TookPart a c fa fc (trace ++ text)
+  behind_part took part =
+      let e : SinkFault = record {} in
+      let half : Puts b c fb fc text (Err e) = record { whole = tt; clean = tt; part = part.part; fault = part.fault } in
+      took_part a c fa fc (trace ++ text) e (puts-both (traced took) half)
 
 -- ---- what a form shows
 
@@ -101,10 +117,10 @@ module _ (run : Run) (file list : List ℕ) (g : Geometry) (v : State) (addrs : 
   same_count : (setting_of v).count ≡ run.harts
   same_count = ap (λ (m : Machine). m.setting.count) begun.starts.2.begins
 
-  pub viewed : (form : Form) (ms : List Moment) → view_of form g.sets (setting_of v).count ms ≡ run_view form run ms
+  viewed : (form : Form) (ms : List Moment) → view_of form g.sets (setting_of v).count ms ≡ run_view form run ms
   viewed form ms = ap₂ (λ (sets harts : ℕ). view_of form sets harts ms) same_sets same_count
 
-  pub viewed_so_far : (form : Form) (ms : List Moment) → begun_view form g.sets (setting_of v).count ms ≡ begun_run_view form run ms
+  viewed_so_far : (form : Form) (ms : List Moment) → begun_view form g.sets (setting_of v).count ms ≡ begun_run_view form run ms
   viewed_so_far form ms = ap₂ (λ (sets harts : ℕ). begun_view form sets harts ms) same_sets same_count
 
 module _ (run : Run) (file list : List ℕ) (g : Geometry) (v w : State) (addrs : List ℕ) (choices followed : List Choice) (caches : geometry_of run.cache ≡ g) (same : followed ≡ choices)
@@ -188,26 +204,48 @@ module _ (run : Run) (file list : List ℕ) where
 
 -- ---- the report behind what is shown
 
-module _ (run : Run) (file list : List ℕ) (g : Geometry) (w : State) (words : List ℕ) (status : ℕ) (ms : List Moment) (has : HasReport run file list g w words status ms) where
+module _ (run : Run) (file list : List ℕ) (g : Geometry) (w : State) (addrs : List ℕ) (ms : List Moment) (come : HasCome run file list g w addrs ms) where
   module _ (form : Form) (view : List ℕ) (is : view ≡ run_view form run ms) where
-    report : IsShownReport form run file list view (report_of has.end words) status
-    report = (ms, has.end, has.comes, is, has.is)
+    report : (status : ℕ) → IsStatusOf come.end status → IsShownReport form run file list view (report_of come.end addrs) status
+    report status of = (ms, come.end, come.comes, is, its_report run file list g w addrs ms come status of)
 
-    pub given_apart : (path : List ℕ) (a b o p : Option (List ℕ)) (fa fb fo fp : ℕ) → TookAll a b fa fb view → Puts o p fo fp (report_of has.end words) (Ok tt)
-        → IsGivenApart run file list form path a b fa fb o p fo fp status
-    given_apart path a b o p fa fb fo fp took puts = (view, report_of has.end words, report, took, took_all o p fo fp (report_of has.end words) puts)
+    concluded_apart : (path : List ℕ) (a b o p : Option (List ℕ)) (fa fb fo fp : ℕ) (r : Result ℕ Fault) → TookAll a b fa fb view → MatchResult r (IsConcluded g w addrs o p fo fp) (IsHalfConcluded g w addrs o p fo fp)
+        → MatchResult r (λ status. IsReported status × IsGivenApart run file list form path a b fa fb o p fo fp status) (IsApartFault run file list form path a b fa fb o p fo fp)
+    concluded_apart path a b o p fa fb fo fp (Ok status) took (reported, of) =
+        let whole = of come.end come.belongs in
+        (reported, (view, report_of come.end addrs, report status whole.0, took, whole.1))
+    concluded_apart path a b o p fa fb fo fp (Err fault) took (unwritten, of) =
+        let half = of come.end come.belongs in
+        subst (λ (e : Fault). IsApartFault run file list form path a b fa fb o p fo fp e) (sym unwritten) (view, report_of come.end addrs, half.0, report half.0 half.1, took, half.2)
 
-    pub cut_apart : (path : List ℕ) (a b o p : Option (List ℕ)) (fa fb fo fp : ℕ) (e : SinkFault) → TookAll a b fa fb view → Puts o p fo fp (report_of has.end words) (Err e)
-        → IsApartFault run file list form path a b fa fb o p fo fp Unwritten
-    cut_apart path a b o p fa fb fo fp e took puts = (view, report_of has.end words, status, report, took, took_part o p fo fp (report_of has.end words) e puts)
+  concluded_before : (a b c : Option (List ℕ)) (fa fb fc : ℕ) (r : Result ℕ Fault) → Took a b fa fb (trace_of ms) → MatchResult r (IsConcluded g w addrs b c fb fc) (IsHalfConcluded g w addrs b c fb fc)
+      → MatchResult r (λ status. IsReported status × IsGivenBefore run file list a c fa fc status) (IsBeforeFault run file list a c fa fc)
+  concluded_before a b c fa fb fc (Ok status) took (reported, of) =
+      let whole = of come.end come.belongs in
+      let text : List ℕ = report_of come.end addrs in
+      (reported, (trace_of ms, text, report Trace (trace_of ms) refl status whole.0, behind_all a b c fa fb fc (trace_of ms) text took whole.1))
+  concluded_before a b c fa fb fc (Err fault) took (unwritten, of) =
+      let half = of come.end come.belongs in
+      let text : List ℕ = report_of come.end addrs in
+      let why : IsBeforeFault run file list a c fa fc Unwritten = inr (trace_of ms, text, half.0, report Trace (trace_of ms) refl half.0 half.1, behind_part a b c fa fb fc (trace_of ms) text took half.2) in
+      subst (λ (e : Fault). IsBeforeFault run file list a c fa fc e) (sym unwritten) why
 
-  traced : (a b : Option (List ℕ)) (fa fb : ℕ) → Took a b fa fb (trace_of ms) → Puts a b fa fb (trace_of ms) (Ok tt)
-  traced a b fa fb took = record { whole = took.0; clean = took.1; part = tt; fault = tt }
+-- the same from what the run's parts answered
+module _ (run : Run) (file list : List ℕ) (g : Geometry) (v w : State) (addrs words : List ℕ) (choices followed : List Choice) (caches : geometry_of run.cache ≡ g) (same : followed ≡ choices) (as_given : words ≡ addrs)
+    (begun : IsBegunBy g run file list v addrs choices) (ms : List Moment) (plays : PlaysWith g followed run.steps v ms w) where
+  come : HasCome run file list g w words ms
+  come = come_to run file list choices followed g v w addrs words ms same as_given caches begun plays
 
-  pub given_before : (a b c : Option (List ℕ)) (fa fb fc : ℕ) → Took a b fa fb (trace_of ms) → Puts b c fb fc (report_of has.end words) (Ok tt) → IsGivenBefore run file list a c fa fc status
-  given_before a b c fa fb fc took puts =
-      (trace_of ms, report_of has.end words, report Trace (trace_of ms) refl, took_all a c fa fc (trace_of ms ++ report_of has.end words) (puts-both (traced a b fa fb took) puts))
+  -- the machine at the end can be asked for the words
+  pub readable_then : AllReadable (setting_of w) words
+  readable_then = still_readable run file list g w words ms come
 
-  pub cut_before : (a b c : Option (List ℕ)) (fa fb fc : ℕ) (e : SinkFault) → Took a b fa fb (trace_of ms) → Puts b c fb fc (report_of has.end words) (Err e) → IsBeforeFault run file list a c fa fc Unwritten
-  cut_before a b c fa fb fc e took puts =
-      inr (trace_of ms, report_of has.end words, status, report Trace (trace_of ms) refl, took_part a c fa fc (trace_of ms ++ report_of has.end words) e (puts-both (traced a b fa fb took) puts))
+  pub apart : (form : Form) (path : List ℕ) (a b o p : Option (List ℕ)) (fa fb fo fp : ℕ) → TookAll a b fa fb (view_of form g.sets (setting_of v).count ms)
+      → (r : Result ℕ Fault) → MatchResult r (IsConcluded g w words o p fo fp) (IsHalfConcluded g w words o p fo fp)
+      → MatchResult r (λ status. IsReported status × IsGivenApart run file list form path a b fa fb o p fo fp status) (IsApartFault run file list form path a b fa fb o p fo fp)
+  apart form path a b o p fa fb fo fp took r ended =
+      concluded_apart run file list g w words ms come form (view_of form g.sets (setting_of v).count ms) (viewed run file list g v addrs choices caches begun form ms) path a b o p fa fb fo fp r took ended
+
+  pub before : (a b c : Option (List ℕ)) (fa fb fc : ℕ) → Took a b fa fb (trace_of ms) → (r : Result ℕ Fault) → MatchResult r (IsConcluded g w words b c fb fc) (IsHalfConcluded g w words b c fb fc)
+      → MatchResult r (λ status. IsReported status × IsGivenBefore run file list a c fa fc status) (IsBeforeFault run file list a c fa fc)
+  before a b c fa fb fc took r ended = concluded_before run file list g w words ms come a b c fa fb fc r took ended

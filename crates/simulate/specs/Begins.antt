@@ -15,3 +15,11 @@ pub record IsBegunBy (cache : Geometry) (run : Run) (file list : List ℕ) (firs
   pub same : addrs ≡ addresses run.words.items
   pub readable : AllReadable (setting_of first) (addresses run.words.items)
   pub chosen : AreChosenBy list choices
+
+-- some file's program has begun so, by some list
+abbrev pub HasBegun : Geometry → Run → State → List ℕ → List Choice → Type 0
+HasBegun cache run first addrs choices = (file : List ℕ) × (list : List ℕ) × IsBegunBy cache run file list first addrs choices
+
+-- this holds of each file and list of which a run has begun so
+abbrev pub OfBegun : Geometry → Run → State → List ℕ → List Choice → (List ℕ → List ℕ → Type 0) → Type 0
+OfBegun cache run first addrs choices P = (file list : List ℕ) → IsBegunBy cache run file list first addrs choices → P file list

@@ -1,5 +1,5 @@
 -- The counts behind a report.
-use Rattle.std.specs.Prelude.{ℕ, ◌≡◌, ◌++◌, List, [], Option, Some, None}
+use Rattle.std.specs.Prelude.{ℕ, ◌++◌, List, [], Option, Some, None}
 use Rattle.command_line.specs.declared.request.Stats.{Stats}
 use Rattle.command_line.specs.declared.request.Stats.TheVariants.{Table, Csv}
 use Rattle.protocol.specs.Caches.{Geometry}

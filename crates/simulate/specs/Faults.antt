@@ -81,6 +81,15 @@ fault_text Unwritten = line (codes "cannot write standard output") []
 fault_text (Unmade file) = line (codes "cannot write ") file.now
 fault_text NoMemory = line (codes "no memory") []
 
+-- a line with a text and a name tells of the fault
+abbrev pub IsPlain : Fault → Type 0
+IsPlain (Refused text) = ⊥
+IsPlain (Source refused) = ⊥
+IsPlain (Load fault) = ⊥
+IsPlain (Boot fault) = ⊥
+IsPlain (Schedule number) = ⊥
+IsPlain other = Unit {0}
+
 -- the fault of a command line
 abbrev pub of_order : OrderFault → Fault
 of_order (order.Refused text) = Refused text

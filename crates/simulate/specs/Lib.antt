@@ -9,6 +9,7 @@ pub mod Statuses
 pub mod Counted
 pub mod Runs
 pub mod Unreadable
+pub mod Conclusions
 pub mod Starts
 pub mod Begins
 pub mod Shown

@@ -1,5 +1,5 @@
 -- Why an order isn't carried out, and what the user is told of it.
-use Rattle.std.specs.Prelude.{ℕ, ◌≡◌, List, Option, Some, None}
+use Rattle.std.specs.Prelude.{ℕ, ◌≡◌, ◌≢◌, List, Option, Some, None}
 use Rattle.loader.specs.Programs.{Program}
 use Rattle.command_line.specs.declared.request.Order.{Order}
 use Rattle.command_line.specs.declared.request.Order.TheVariants as order
@@ -7,10 +7,10 @@ use Rattle.command_line.specs.declared.request.Run.{Run}
 use Rattle.command_line.specs.declared.request.Word.{Word}
 use Rattle.flat.specs.Boots.{boot_fault, booted}
 use Rattle.simulate.specs.Faults.{fault_status, fault_text}
-use Rattle.simulate.specs.Answers.{IsListingOf}
+use Rattle.simulate.specs.Answers.{IsListingOf, IsCut}
 use Rattle.simulate.specs.Runs.{IsReportOf}
 use Rattle.simulate.specs.Schedules.{IsScheduleFault}
-use Rattle.simulate.specs.Sinks.{IsPut}
+use Rattle.simulate.specs.Sinks.{IsPut, IsUntouched}
 use Rattle.simulate.specs.Sources.{IsProgramIn, IsElfFault, IsProgramFault, IsSourceFault}
 use Rattle.simulate.specs.Unreadable.{IsFirstUnreadable}
 use Rattle.simulate.specs.declared.fault.Fault.{Fault}
@@ -33,6 +33,12 @@ IsRunFault run file list (Schedule number) = IsScheduleFault list (Schedule numb
 IsRunFault run file list Unwritten = (text : List ℕ) × (status : ℕ) × IsReportOf run file list text status
 IsRunFault run file list NoMemory = Unit {0}
 IsRunFault run file list other = IsProgramFault run.file.now file other
+
+-- such a fault, with what was put by then: a beginning of the report where a put of it failed, and else nothing
+pub record IsUnreported (run : Run) (file list : List ℕ) (before after : Option (List ℕ)) (failed_before failed_after : ℕ) (fault : Fault) : Type 0 where
+  pub why : IsRunFault run file list fault
+  pub cut : fault ≡ Unwritten → IsCut (IsReportOf run file list) before after failed_before failed_after
+  pub refused : fault ≢ Unwritten → IsUntouched before after failed_before failed_after
 
 -- why there is no listing of the file with these bytes, or none that could be written
 abbrev pub IsListingFault : List ℕ → Fault → Type 0

@@ -1,5 +1,5 @@
 ghost use Rattle.std.specs.Prelude.{◌≡◌};
-ghost use Rattle.simulate.specs.Faults.{fault_status, fault_text, line, refusal_line, refused_text, refused_line, unspelled_text, of_order, of_load, of_boot, of_schedule, of_halt};
+ghost use Rattle.simulate.specs.Faults.{fault_status, fault_text, IsPlain, line, refusal_line, refused_text, refused_line, unspelled_text, of_order, of_load, of_boot, of_schedule, of_halt};
 ghost use Rattle.simulate.specs.Sinks.{IsPut};
 ghost use Rattle.texts.specs.Puts.{Puts};
 ghost use Rattle.simulate.specs.declared.fault.Fault.TheVariants.{NoMemory, Unwritten};
@@ -83,31 +83,40 @@ impl<'a> Fault<'a> {
         ensures { Puts (S.taken sink.old) (S.taken sink.new) (S.failed sink.old) (S.failed sink.new) (fault_text self.now) result }
     {
         match self {
-            Fault::NotText => put_line(sink, b"an argument is not text", ""),
             Fault::Refused(text) => put_all(sink, &[text.as_bytes()]),
-            Fault::Value(text) => put_line(sink, b"value ", text),
-            Fault::TwoViews => put_line(
-                sink,
-                b"--trace, --timeline and --stats exclude each other",
-                "",
-            ),
-            Fault::LongPicture => put_line(sink, b"a picture takes --steps of at most 2000", ""),
-            Fault::ThreadsAlone => put_line(
-                sink,
-                b"--threads excludes --schedule, --trace, --timeline and --stats, and --history needs --threads",
-                "",
-            ),
-            Fault::Unread(file) => put_line(sink, b"cannot read ", file),
-            Fault::NotSource => put_line(sink, b"source is not text", ""),
             Fault::Source(refused) => put_refused(sink, refused),
             Fault::Load(fault) => put_refusal(sink, b"load ", fault.number(), fault.name()),
             Fault::Boot(fault) => put_refusal(sink, b"boot ", fault.number(), fault.name()),
-            Fault::Word(text) => put_line(sink, b"word ", text),
-            Fault::NotSchedule => put_line(sink, b"schedule is not text", ""),
             Fault::Schedule(line) => put_unspelled(sink, *line),
-            Fault::Unwritten => put_line(sink, b"cannot write standard output", ""),
-            Fault::Unmade(file) => put_line(sink, b"cannot write ", file),
-            Fault::NoMemory => put_line(sink, b"no memory", ""),
+            _ => {
+                let (what, name) = self.plain();
+                put_line(sink, what, name)
+            }
+        }
+    }
+
+    /// What is told of a fault in a line with no more than a text and a name, which may be empty.
+    fn plain(&self) -> (&'static [u8], &'a str)
+        requires { IsPlain self.now }
+        ensures { fault_text self.now ≡ line result.0.now result.1.now }
+    {
+        match self {
+            Fault::NotText => (b"an argument is not text", ""),
+            Fault::Value(text) => (b"value ", *text),
+            Fault::TwoViews => (b"--trace, --timeline and --stats exclude each other", ""),
+            Fault::LongPicture => (b"a picture takes --steps of at most 2000", ""),
+            Fault::ThreadsAlone => (
+                b"--threads excludes --schedule, --trace, --timeline and --stats, and --history needs --threads",
+                "",
+            ),
+            Fault::Unread(file) => (b"cannot read ", *file),
+            Fault::NotSource => (b"source is not text", ""),
+            Fault::Word(text) => (b"word ", *text),
+            Fault::NotSchedule => (b"schedule is not text", ""),
+            Fault::Unwritten => (b"cannot write standard output", ""),
+            Fault::Unmade(file) => (b"cannot write ", *file),
+            Fault::NoMemory => (b"no memory", ""),
+            _ => unreachable!(),
         }
     }
 

@@ -4,9 +4,9 @@ ghost use Rattle.loader.specs.Programs.{Program};
 ghost use Rattle.loader.specs.Writing.{elf_of};
 ghost use Rattle.machine.specs.States.{geometry};
 ghost use Rattle.simulate.specs.Orders.{geometry_of};
-ghost use Rattle.simulate.specs.Begins.{IsBegunBy};
+ghost use Rattle.simulate.specs.Begins.{IsBegunBy, HasBegun, OfBegun};
 ghost use Rattle.simulate.specs.Answers.{IsAnswerTo, IsListingOf, IsImageFor, AsksForFile, IsGiven, IsCut};
-ghost use Rattle.simulate.specs.Refusals.{IsFaultOf, IsListingFault, IsRunFault, IsTold};
+ghost use Rattle.simulate.specs.Refusals.{IsFaultOf, IsListingFault, IsRunFault, IsUnreported, IsTold};
 ghost use Rattle.simulate.specs.Runs.{IsReportOf};
 ghost use Rattle.simulate.specs.Sources.{IsSourceOf, IsSourceFault};
 ghost use Rattle.simulate.specs.Sinks.{IsUntouched};
@@ -17,9 +17,8 @@ ghost use Rattle.simulate.specs.declared.fault.Fault.TheVariants.{Unwritten};
 use crate::counting::{play, put_counts};
 use crate::fault::Fault;
 use crate::readable::readable;
-use crate::report::report;
+use crate::report::conclude;
 use crate::source::{choices_in, program_in, program_of_source};
-use crate::status::status;
 use command_line::{Cache, Order, Run};
 use disassembler::listing;
 use loader::{read_elf, write_elf};
@@ -149,11 +148,9 @@ fn run_and_report<'a, P: Progress, S: Sink>(
     progress: &mut P,
     out: &mut S,
 ) -> Result<u8, Fault<'a>>
-    ensures reported { IfOk result (λ status. IsGiven (IsReportOf run.now file.now schedule.now) status (S.taken out.old) (S.taken out.new) (S.failed out.old) (S.failed out.new)) }
-    ensures status { IfOk result IsReported }
-    ensures cut { IfErr result (λ fault. fault ≡ Unwritten → IsCut (IsReportOf run.now file.now schedule.now) (S.taken out.old) (S.taken out.new) (S.failed out.old) (S.failed out.new)) }
-    ensures refused { IfErr result (λ fault. fault ≢ Unwritten → IsUntouched (S.taken out.old) (S.taken out.new) (S.failed out.old) (S.failed out.new)) }
-    ensures why { IfErr result (IsRunFault run.now file.now schedule.now) }
+    ensures { MatchResult result
+        (λ status. IsReported status × IsGiven (IsReportOf run.now file.now schedule.now) status (S.taken out.old) (S.taken out.new) (S.failed out.old) (S.failed out.new))
+        (IsUnreported run.now file.now schedule.now (S.taken out.old) (S.taken out.new) (S.failed out.old) (S.failed out.new)) }
 {
     match run.cache {
         Cache::Small => run_on::<2, 1, P, S>(alloc, run, file, schedule, progress, out),
@@ -174,23 +171,12 @@ fn run_on<'a, const SETS: usize, const WAYS: usize, P: Progress, S: Sink>(
     requires ways { 0 < WAYS }
     requires lines { SETS * WAYS < 2 ^ 32 }
     requires cache { geometry_of run.now.cache ≡ geometry SETS WAYS }
-    ensures reported { IfOk result (λ status. IsGiven (IsReportOf run.now file.now schedule.now) status (S.taken out.old) (S.taken out.new) (S.failed out.old) (S.failed out.new)) }
-    ensures status { IfOk result IsReported }
-    ensures cut { IfErr result (λ fault. fault ≡ Unwritten → IsCut (IsReportOf run.now file.now schedule.now) (S.taken out.old) (S.taken out.new) (S.failed out.old) (S.failed out.new)) }
-    ensures refused { IfErr result (λ fault. fault ≢ Unwritten → IsUntouched (S.taken out.old) (S.taken out.new) (S.failed out.old) (S.failed out.new)) }
-    ensures why { IfErr result (IsRunFault run.now file.now schedule.now) }
+    ensures { MatchResult result
+        (λ status. IsReported status × IsGiven (IsReportOf run.now file.now schedule.now) status (S.taken out.old) (S.taken out.new) (S.failed out.old) (S.failed out.new))
+        (IsUnreported run.now file.now schedule.now (S.taken out.old) (S.taken out.new) (S.failed out.old) (S.failed out.new)) }
 {
-    let Begun {
-        mut machine,
-        addrs,
-        choices,
-    } = begin::<SETS, WAYS>(alloc, run, file, schedule)?;
-    let counts = play(&mut machine, &choices, run.steps, run.stats, progress)?;
-    let status = status(&machine);
-    let harts = machine.harts();
-    report(&machine, &addrs, out)?;
-    put_counts(run.stats, &counts, harts, out)?;
-    Ok(status)
+    let mut begun: Begun<SETS, WAYS> = begin(alloc, run, file, schedule)?;
+    begun.finish(run, progress, out)
 }
 
 /// What there is before the first step of a run.
@@ -201,6 +187,35 @@ pub(crate) struct Begun<const SETS: usize, const WAYS: usize> {
     pub(crate) addrs: Vec<Addr>,
     /// The choices of the first steps.
     pub(crate) choices: Vec<Choice>,
+}
+
+impl<const SETS: usize, const WAYS: usize> Begun<SETS, WAYS> {
+    /// Makes the steps of the run, and puts the report, and the counts behind it where they are asked for. It answers the status.
+    fn finish<'a, P: Progress, S: Sink>(
+        &mut self,
+        run: &Run<'a>,
+        progress: &mut P,
+        out: &mut S,
+    ) -> Result<u8, Fault<'a>>
+        requires cache { geometry_of run.now.cache ≡ geometry SETS WAYS }
+        requires begun { HasBegun (geometry SETS WAYS) run.now self.old.machine self.old.addrs.items self.old.choices.items }
+        ensures { OfBegun (geometry SETS WAYS) run.now self.old.machine self.old.addrs.items self.old.choices.items
+            (λ file list. MatchResult result
+            (λ status. IsReported status × IsGiven (IsReportOf run.now file list) status (S.taken out.old) (S.taken out.new) (S.failed out.old) (S.failed out.new))
+            (IsUnreported run.now file list (S.taken out.old) (S.taken out.new) (S.failed out.old) (S.failed out.new))) }
+    {
+        let counts = play(
+            &mut self.machine,
+            &self.choices,
+            run.steps,
+            run.stats,
+            progress,
+        )?;
+        let harts = self.machine.harts();
+        let status = conclude(&self.machine, &self.addrs, out)?;
+        put_counts(run.stats, &counts, harts, out)?;
+        Ok(status)
+    }
 }
 
 /// Begins a run of the program in a file.
@@ -218,13 +233,30 @@ pub(crate) fn begin<'a, const SETS: usize, const WAYS: usize>(
     ensures unput { IfErr result (λ fault. fault ≢ Unwritten) }
 {
     let machine: Machine<SETS, WAYS> = boot(alloc, run.file, file, run.harts, run.memory)?;
-    let addrs = readable(alloc, &machine, &run.words)?;
-    let choices = choices_in(alloc, schedule)?;
+    let (addrs, choices) = words_and_choices(alloc, &machine, run, schedule)?;
     Ok(Begun {
         machine,
         addrs,
         choices,
     })
+}
+
+/// The addresses of the words that a run shows, on the machine that it begins in, and the choices of its first steps.
+fn words_and_choices<'a, const SETS: usize, const WAYS: usize>(
+    alloc: Global,
+    machine: &Machine<SETS, WAYS>,
+    run: &Run<'a>,
+    schedule: &[u8],
+) -> Result<(Vec<Addr>, Vec<Choice>), Fault<'a>>
+    ensures begun { IfOk result (λ p. (file : List ℕ) → IsStartOf (geometry SETS WAYS) run.now.file.now file run.now.harts run.now.memory machine.now
+        → IsBegunBy (geometry SETS WAYS) run.now file schedule.now machine.now p.0.items p.1.items) }
+    ensures why { IfErr result (λ fault. (file : List ℕ) → IsStartOf (geometry SETS WAYS) run.now.file.now file run.now.harts run.now.memory machine.now
+        → IsRunFault run.now file schedule.now fault) }
+    ensures unput { IfErr result (λ fault. fault ≢ Unwritten) }
+{
+    let addrs = readable(alloc, machine, &run.words)?;
+    let choices = choices_in(alloc, schedule)?;
+    Ok((addrs, choices))
 }
 
 /// The machine that the program in a file begins in.

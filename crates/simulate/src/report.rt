@@ -1,16 +1,20 @@
 //! The report on a machine that has stopped, or was stopped.
-ghost use Rattle.std.specs.Prelude.{◌≡◌, ◌<◌, true};
+ghost use Rattle.std.specs.Prelude.{◌≡◌, ◌<◌, true, MatchResult};
 ghost use Rattle.words.specs.declared.cause.Status.TheVariants.{Stopped};
 ghost use Rattle.words.specs.declared.entry.Width.TheVariants.{Word};
 ghost use Rattle.words.specs.Bytes.{number_at};
 ghost use Rattle.flat.specs.State.{Flat};
 ghost use Rattle.flat.specs.Reads.{is_readable};
+ghost use Rattle.machine.specs.States.{geometry, setting_of};
+ghost use Rattle.simulate.specs.Conclusions.{IsConcluded, IsHalfConcluded};
 ghost use Rattle.simulate.specs.Reports.{output_text, status_text, hart_text, harts_text, word_text, words_text, report_of, AllReadable};
 ghost use Rattle.texts.specs.Puts.{Puts};
 
-use crate::status::status_of;
+use crate::fault::Fault;
+use crate::status::{status, status_of};
 use flat::Engine;
 use itoa::Buffer;
+use machine::Machine;
 use texts::{hexadecimal, put_all};
 use words::{Addr, Cause, HartId, Sink, SinkFault, Status};
 
@@ -26,6 +30,22 @@ pub fn report<M: Engine, S: Sink>(
 {
     put_harts(machine, sink)?;
     put_words(machine, words, sink)
+}
+
+/// Concludes a run: puts the report on the machine that it has led to, and answers the status that the program ends with.
+pub fn conclude<'a, const SETS: usize, const WAYS: usize, S: Sink>(
+    machine: &Machine<SETS, WAYS>,
+    words: &[Addr],
+    sink: &mut S,
+) -> Result<u8, Fault<'a>>
+    requires { AllReadable (setting_of machine.now) words.now }
+    ensures { MatchResult result
+        (IsConcluded (geometry SETS WAYS) machine.now words.now (S.taken sink.old) (S.taken sink.new) (S.failed sink.old) (S.failed sink.new))
+        (IsHalfConcluded (geometry SETS WAYS) machine.now words.now (S.taken sink.old) (S.taken sink.new) (S.failed sink.old) (S.failed sink.new)) }
+{
+    let status = status(machine);
+    report(machine, words, sink)?;
+    Ok(status)
 }
 
 fn put_harts<M: Engine, S: Sink>(machine: &M, sink: &mut S) -> Result<(), SinkFault>

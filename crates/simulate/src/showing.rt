@@ -2,6 +2,7 @@
 ghost use Rattle.std.specs.Prelude.{◌≡◌, ◌<◌, ◌*◌, ◌^◌, [], MatchResult};
 ghost use Rattle.machine.specs.States.{geometry};
 ghost use Rattle.texts.specs.Puts.{Puts};
+ghost use Rattle.simulate.specs.Begins.{HasBegun, OfBegun};
 ghost use Rattle.simulate.specs.Orders.{geometry_of};
 ghost use Rattle.simulate.specs.Sinks.{IsUntouched};
 ghost use Rattle.simulate.specs.Statuses.{IsReported};
@@ -10,8 +11,7 @@ ghost use Rattle.simulate.specs.Shown.{IsShown, IsCutShort, IsPutFault, IsGivenA
 
 use crate::fault::Fault;
 use crate::perform::{Begun, begin};
-use crate::report::report;
-use crate::status::status;
+use crate::report::conclude;
 use command_line::{Cache, Run};
 use machine::{Machine, Progress, Silent};
 use picture::put_picture;
@@ -141,24 +141,8 @@ fn show_apart_on<'a, const SETS: usize, const WAYS: usize, P: Progress, T: Page,
         (IsApartFault run.now file.now schedule.now form path.now (T.taken chart.old.sink) (T.taken chart.new.sink) (T.failed chart.old.sink) (T.failed chart.new.sink)
         (O.taken out.old) (O.taken out.new) (O.failed out.old) (O.failed out.new)) }
 {
-    let Begun {
-        mut machine,
-        addrs,
-        choices,
-    } = begin::<SETS, WAYS>(alloc, run, file, schedule)?;
-    put_view(
-        alloc,
-        &mut machine,
-        &choices,
-        run.steps,
-        form,
-        path,
-        progress,
-        chart,
-    )?;
-    let status = status(&machine);
-    report(&machine, &addrs, out)?;
-    Ok(status)
+    let mut begun: Begun<SETS, WAYS> = begin(alloc, run, file, schedule)?;
+    begun.finish_apart(alloc, run, form, path, progress, chart, out)
 }
 
 /// Plays a run, puts what the form shows of it, and has it written out. If that fails, the fault names the path of the file.
@@ -311,13 +295,60 @@ fn trace_before_on<'a, const SETS: usize, const WAYS: usize, O: Sink>(
         (λ status. IsReported status × IsGivenBefore run.now file.now schedule.now (O.taken out.old) (O.taken out.new) (O.failed out.old) (O.failed out.new) status)
         (IsBeforeFault run.now file.now schedule.now (O.taken out.old) (O.taken out.new) (O.failed out.old) (O.failed out.new)) }
 {
-    let Begun {
-        mut machine,
-        addrs,
-        choices,
-    } = begin::<SETS, WAYS>(alloc, run, file, schedule)?;
-    put_trace(&mut machine, &choices, run.steps, out, &mut Silent)?;
-    let status = status(&machine);
-    report(&machine, &addrs, out)?;
-    Ok(status)
+    let mut begun: Begun<SETS, WAYS> = begin(alloc, run, file, schedule)?;
+    begun.finish_before(run, out)
+}
+
+impl<const SETS: usize, const WAYS: usize> Begun<SETS, WAYS> {
+    /// Makes the steps of the run, puts what the form shows of them, and then the report. It answers the status.
+    fn finish_apart<'a, P: Progress, T: Page, O: Sink>(
+        &mut self,
+        alloc: Global,
+        run: &Run<'a>,
+        form: Form,
+        path: &'a str,
+        progress: &mut P,
+        chart: &mut Chart<T>,
+        out: &mut O,
+    ) -> Result<u8, Fault<'a>>
+        requires cache { geometry_of run.now.cache ≡ geometry SETS WAYS }
+        requires begun { HasBegun (geometry SETS WAYS) run.now self.old.machine self.old.addrs.items self.old.choices.items }
+        ensures { OfBegun (geometry SETS WAYS) run.now self.old.machine self.old.addrs.items self.old.choices.items
+            (λ file list. MatchResult result
+            (λ status. IsReported status × IsGivenApart run.now file list form path.now (T.taken chart.old.sink) (T.taken chart.new.sink) (T.failed chart.old.sink) (T.failed chart.new.sink)
+            (O.taken out.old) (O.taken out.new) (O.failed out.old) (O.failed out.new) status)
+            (IsApartFault run.now file list form path.now (T.taken chart.old.sink) (T.taken chart.new.sink) (T.failed chart.old.sink) (T.failed chart.new.sink)
+            (O.taken out.old) (O.taken out.new) (O.failed out.old) (O.failed out.new))) }
+    {
+        put_view(
+            alloc,
+            &mut self.machine,
+            &self.choices,
+            run.steps,
+            form,
+            path,
+            progress,
+            chart,
+        )?;
+        conclude(&self.machine, &self.addrs, out)
+    }
+
+    /// Makes the steps of the run, puts the line of each entry, and then the report. It answers the status.
+    fn finish_before<'a, O: Sink>(&mut self, run: &Run<'a>, out: &mut O) -> Result<u8, Fault<'a>>
+        requires cache { geometry_of run.now.cache ≡ geometry SETS WAYS }
+        requires begun { HasBegun (geometry SETS WAYS) run.now self.old.machine self.old.addrs.items self.old.choices.items }
+        ensures { OfBegun (geometry SETS WAYS) run.now self.old.machine self.old.addrs.items self.old.choices.items
+            (λ file list. MatchResult result
+            (λ status. IsReported status × IsGivenBefore run.now file list (O.taken out.old) (O.taken out.new) (O.failed out.old) (O.failed out.new) status)
+            (IsBeforeFault run.now file list (O.taken out.old) (O.taken out.new) (O.failed out.old) (O.failed out.new))) }
+    {
+        put_trace(
+            &mut self.machine,
+            &self.choices,
+            run.steps,
+            out,
+            &mut Silent,
+        )?;
+        conclude(&self.machine, &self.addrs, out)
+    }
 }
