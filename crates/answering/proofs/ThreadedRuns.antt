@@ -1,7 +1,6 @@
 -- A run in threads, from what its parts came to.
-use Rattle.std.proofs.Common.{◌≡◌, ◌≤◌, ◌⊎◌, ℕ, All, Bool, true, false, cond, arith, List, [], Option, Some, None, Result, Ok, Err, inl, inr, refl, sym, subst, ap, ◌∙◌, append-nil, length}
+use Rattle.std.proofs.Common.{◌≡◌, ◌≤◌, ◌⊎◌, ℕ, All, Bool, true, false, cond, arith, List, Option, Some, None, Result, Ok, Err, IsErrAnd, MatchResult, inl, inr, refl, sym, subst, ap, ◌∙◌, length}
 use Rattle.std.proofs.lemmas.Bool.Decides.{nat_tests}
-use Rattle.words.specs.declared.sink.SinkFault.{SinkFault}
 use Rattle.words.specs.Limits.{most_harts}
 use Rattle.std.specs.Str.{IsUtf8}
 use Rattle.table.specs.Program.{Segment}
@@ -12,26 +11,22 @@ use Rattle.simulate.specs.Unreadable.{IsFirstUnreadable, IsUnreadable}
 use Rattle.flat.specs.Boots.{boot_fault, is_size, is_count, fits_below}
 use Rattle.flat.specs.declared.boot_fault.BootFault.{BootFault}
 use Rattle.flat.specs.declared.boot_fault.BootFault.TheVariants as boot
-use Rattle.flat.specs.State.{Flat, Setting}
-use Rattle.flat.specs.Steps.{IsRun}
+use Rattle.flat.specs.State.{Setting}
 use Rattle.flat.proofs.Runs.{run_setting}
 use Rattle.command_line.specs.declared.request.Run.{Run}
 use Rattle.protocol.specs.Caches.{Geometry}
 use Rattle.protocol.specs.Machine.{Machine}
 use Rattle.protocol.specs.Start.{start}
-use Rattle.isolation.specs.Belongs.{Belongs}
 use Rattle.machine.specs.States.{State, setting_of, shown}
 use Rattle.board.specs.Boards.{first_flat}
 use Rattle.schedule.specs.declared.choices.Choice.{Choice}
 use Rattle.history.specs.Lines.{text_of, IsWritable}
 use Rattle.hub.specs.Hubs.{IsEnd}
-use Rattle.watch.specs.Moments.{Moment, entries_of}
+use Rattle.watch.specs.Moments.{Moment}
 use Rattle.watch.proofs.Moments.{steps_by}
-use Rattle.texts.specs.Puts.{Puts}
-use Rattle.texts.proofs.Putting.{puts-both, puts-same}
+use Rattle.simulate.specs.Conclusions.{IsConcluded, IsHalfConcluded}
 use Rattle.simulate.specs.Faults.{of_boot}
 use Rattle.simulate.specs.Orders.{geometry_of}
-use Rattle.simulate.specs.Refusals.{IsRunFault}
 use Rattle.simulate.specs.Reports.{AllReadable, report_of}
 use Rattle.simulate.specs.Runs.{addresses, ComesBy, IsReport}
 use Rattle.simulate.specs.Schedules.{AreChosenBy}
@@ -43,7 +38,7 @@ use Rattle.simulate.specs.declared.fault.Fault.TheVariants.{NotText, Refused, Va
 use Rattle.simulate.proofs.Performing.{same_setting}
 use Rattle.answering.specs.declared.stop.Stop.{Stop}
 use Rattle.answering.specs.declared.stop.Stop.TheVariants as stop
-use Rattle.answering.specs.Threaded.{IsReportBy, IsReady, IsUnready, IsShown, IsHalfShown, IsHalfKept, IsGiven, IsFault, IsStop, IsGivenKept, IsKeptFault, IsKeptStop}
+use Rattle.answering.specs.Threaded.{IsReportBy, IsReady, IsUnready, IsHalfKept, IsHalfPut, IsGiven, IsFault, IsStop, IsGivenKept, IsKeptFault, IsKeptStop}
 
 pub untouched : (a : Option (List ℕ)) (f : ℕ) → IsUntouched a a f f
 untouched a f = record { taken = refl; failed = refl }
@@ -123,6 +118,11 @@ few_harts segments n size boots = few (passed (is_size size) (is_count n) (fits_
 pub end_same : (g : Geometry) (p q : Program) (n k size bytes : ℕ) (tells : List Choice → Type 0) (m : State) → q ≡ p → k ≡ n → bytes ≡ size → IsEnd g q k bytes tells m → IsEnd g p n size tells m
 end_same g p q n k size bytes tells m program harts memory end = rw (← program, ← harts, ← memory) end
 
+-- one that isn't
+pub not_same : {A : Type 0} (is : A → Type 0) (r : Result A Stop) → MatchResult r is (λ s. s ≡ stop.Exchanged) → MatchResult r is (λ s. (s ≡ stop.Refused NoMemory) ⊎ (s ≡ stop.Exchanged))
+not_same is (Ok x) has = has
+not_same is (Err s) has = inr has
+
 -- ---- the run that was made
 
 -- the harts have come to this machine, by choices which the text of the history spells
@@ -130,15 +130,15 @@ pub record IsComeTo (g : Geometry) (run : Run) (p : Program) (tells : List Choic
   pub end : IsEnd g p run.harts run.memory tells m
   pub chosen : AreChosenBy (text_of end.kept.choices) end.kept.choices
   pub same : addrs ≡ addresses run.words.items
-  pub readable : AllReadable (setting_of m) (addresses run.words.items)
+  pub readable : AllReadable (setting_of m) addrs
 
-abbrev pub come_to : (g : Geometry) (run : Run) (p : Program) (tells : List Choice → Type 0) (m : State) (addrs : List ℕ) → IsReady run p addrs → IsEnd g p run.harts run.memory tells m
+pub come_to : (g : Geometry) (run : Run) (p : Program) (tells : List Choice → Type 0) (m : State) (addrs : List ℕ) → IsReady run p addrs → IsEnd g p run.harts run.memory tells m
     → ((cs : List Choice) → All IsWritable cs → IsUtf8 (text_of cs)) → ((cs : List Choice) → All IsWritable cs → AreSpelledBy (lines_of (text_of cs)) cs) → IsComeTo g run p tells m addrs
 come_to g run p tells m addrs ready end is_text spelled = record {
   end = end;
   chosen = (is_text end.kept.choices end.kept.writable, spelled end.kept.choices end.kept.writable);
   same = ready.same;
-  readable = readable_at_end g p run.harts run.memory tells m (addresses run.words.items) end ready.readable;
+  readable = subst (λ (l : List ℕ). AllReadable (setting_of m) l) (sym ready.same) (readable_at_end g p run.harts run.memory tells m (addresses run.words.items) end ready.readable);
 }
 
 module _ (run : Run) (file : List ℕ) (p : Program) (holds : IsProgramIn run.file.now file p) (g : Geometry) (caches : geometry_of run.cache ≡ g) (tells : List Choice → Type 0) (m : State) (addrs : List ℕ)
@@ -171,60 +171,60 @@ module _ (run : Run) (file : List ℕ) (p : Program) (holds : IsProgramIn run.fi
   reported : (words : List ℕ) (status : ℕ) → words ≡ addrs → IsStatusOf come.end.flat status → IsReportBy run file list steps (report_of come.end.flat words) status
   reported words status as_given is =
       let same : words ≡ addresses run.words.items = as_given ∙ come.same in
+      let setting : setting_of m ≡ come.end.flat.setting = sym (same_setting g come.end.flat m come.end.belongs) in
       let readable : AllReadable come.end.flat.setting (addresses run.words.items) =
-      subst (λ (s : Setting). AllReadable s (addresses run.words.items)) (sym (same_setting g come.end.flat m come.end.belongs)) come.readable in
+      subst (λ (l : List ℕ). AllReadable come.end.flat.setting l) come.same (subst (λ (s : Setting). AllReadable s addrs) setting come.readable) in
       let report : IsReport come.end.flat run.words.items (report_of come.end.flat words) status = record { readable = readable; text = ap (report_of come.end.flat) same; status = is } in
       (made.0, come.end.flat, made.1, (report_of come.end.flat words, report, refl))
 
-  pub shown_words : (words : List ℕ) → words ≡ addrs → AllReadable (setting_of m) words
-  shown_words words as_given = rw (as_given ∙ come.same) come.readable
-
+  -- it was put, or a beginning of it
   module _ (words : List ℕ) (as_given : words ≡ addrs) (a b : Option (List ℕ)) (fa fb : ℕ) where
-    pub given : (status : ℕ) → IsShown g m words a b fa fb status → IsReported status × IsGiven run file a b fa fb status
-    given status shown = let at = shown.1 come.end.flat come.end.belongs in
-        (shown.0, (list, steps, report_of come.end.flat words, reported words status as_given at.0, at.1))
-
-    pub half_given : (fault : Fault) → IsHalfShown g m words a b fa fb fault → IsFault run file a b fa fb fault
-    half_given fault half =
+    pub concluded : (answer : Result ℕ Fault) → MatchResult answer (IsConcluded g m words a b fa fb) (IsHalfConcluded g m words a b fa fb)
+        → MatchResult answer (λ status. IsReported status × IsGiven run file a b fa fb status) (IsFault run file a b fa fb)
+    concluded (Ok status) whole = let at = whole.1 come.end.flat come.end.belongs in
+        (whole.0, (list, steps, report_of come.end.flat words, reported words status as_given at.0, at.1))
+    concluded (Err fault) half =
         let at = half.1 come.end.flat come.end.belongs in
         let put : IsFault run file a b fa fb Unwritten = (list, steps, report_of come.end.flat words, at.0, reported words at.0 as_given at.1, at.2) in
         subst (λ (e : Fault). IsFault run file a b fa fb e) (sym half.0) put
 
-    module _ (path : List ℕ) (h k : Option (List ℕ)) (fh fk : ℕ) (kept : TookAll h k fh fk list) where
-      pub given_kept : (status : ℕ) → IsShown g m words a b fa fb status → IsReported status × IsGivenKept run file path h k fh fk a b fa fb status
-      given_kept status shown = let at = shown.1 come.end.flat come.end.belongs in
-          (shown.0, (list, steps, report_of come.end.flat words, reported words status as_given at.0, kept, at.1))
-
-      pub half_given_kept : (fault : Fault) → IsHalfShown g m words a b fa fb fault → IsKeptFault run file path h k fh fk a b fa fb fault
-      half_given_kept fault half =
-          let at = half.1 come.end.flat come.end.belongs in
-          let put : IsKeptFault run file path h k fh fk a b fa fb Unwritten = (list, steps, report_of come.end.flat words, at.0, reported words at.0 as_given at.1, kept, at.2) in
-          subst (λ (e : Fault). IsKeptFault run file path h k fh fk a b fa fb e) (sym half.0) put
-
   -- the history was not put whole
-  pub half_kept : (told : List Choice) → told ≡ come.end.kept.choices → (path : List ℕ) (h k a : Option (List ℕ)) (fh fk fa : ℕ) (fault : Fault) → IsHalfKept (text_of told) path h k fh fk fault
-      → IsKeptFault run file path h k fh fk a a fa fa fault
-  half_kept told same path h k a fh fk fa NotText half = absurd half
-  half_kept told same path h k a fh fk fa (Refused text) half = absurd half
-  half_kept told same path h k a fh fk fa (Value text) half = absurd half
-  half_kept told same path h k a fh fk fa TwoViews half = absurd half
-  half_kept told same path h k a fh fk fa LongPicture half = absurd half
-  half_kept told same path h k a fh fk fa ThreadsAlone half = absurd half
-  half_kept told same path h k a fh fk fa (Unread at) half = absurd half
-  half_kept told same path h k a fh fk fa NotSource half = absurd half
-  half_kept told same path h k a fh fk fa (Source refused) half = absurd half
-  half_kept told same path h k a fh fk fa (Load why) half = absurd half
-  half_kept told same path h k a fh fk fa (Boot why) half = absurd half
-  half_kept told same path h k a fh fk fa (Word text) half = absurd half
-  half_kept told same path h k a fh fk fa NotSchedule half = absurd half
-  half_kept told same path h k a fh fk fa (Schedule number) half = absurd half
-  half_kept told same path h k a fh fk fa Unwritten half = absurd half
-  half_kept told same path h k a fh fk fa (Unmade at) half =
-      (half.0, (list, steps, (made.0, come.end.flat, made.1), subst (λ (cs : List Choice). TookPart h k fh fk (text_of cs)) same half.1), untouched a fa)
-  half_kept told same path h k a fh fk fa NoMemory half = absurd half
+  half_kept : (told : List Choice) → told ≡ come.end.kept.choices → (path : List ℕ) (h k a b : Option (List ℕ)) (fh fk fa fb : ℕ) (fault : Fault) → IsHalfKept (text_of told) path h k fh fk fault
+      → IsUntouched a b fa fb → IsKeptFault run file path h k fh fk a b fa fb fault
+  half_kept told same path h k a b fh fk fa fb NotText half none = absurd half
+  half_kept told same path h k a b fh fk fa fb (Refused text) half none = absurd half
+  half_kept told same path h k a b fh fk fa fb (Value text) half none = absurd half
+  half_kept told same path h k a b fh fk fa fb TwoViews half none = absurd half
+  half_kept told same path h k a b fh fk fa fb LongPicture half none = absurd half
+  half_kept told same path h k a b fh fk fa fb ThreadsAlone half none = absurd half
+  half_kept told same path h k a b fh fk fa fb (Unread at) half none = absurd half
+  half_kept told same path h k a b fh fk fa fb NotSource half none = absurd half
+  half_kept told same path h k a b fh fk fa fb (Source refused) half none = absurd half
+  half_kept told same path h k a b fh fk fa fb (Load why) half none = absurd half
+  half_kept told same path h k a b fh fk fa fb (Boot why) half none = absurd half
+  half_kept told same path h k a b fh fk fa fb (Word text) half none = absurd half
+  half_kept told same path h k a b fh fk fa fb NotSchedule half none = absurd half
+  half_kept told same path h k a b fh fk fa fb (Schedule number) half none = absurd half
+  half_kept told same path h k a b fh fk fa fb Unwritten half none = absurd half
+  half_kept told same path h k a b fh fk fa fb (Unmade at) half none =
+      (half.0, (list, steps, (made.0, come.end.flat, made.1), subst (λ (cs : List Choice). TookPart h k fh fk (text_of cs)) same half.1), none)
+  half_kept told same path h k a b fh fk fa fb NoMemory half none = absurd half
 
-  pub whole_kept : (told : List Choice) → told ≡ come.end.kept.choices → (h k : Option (List ℕ)) (fh fk : ℕ) → TookAll h k fh fk (text_of told) → TookAll h k fh fk list
-  whole_kept told same h k fh fk took = subst (λ (cs : List Choice). TookAll h k fh fk (text_of cs)) same took
+  -- the history was put, and the report, or a beginning of one of them
+  pub concluded_kept : (told : List Choice) → told ≡ come.end.kept.choices → (words : List ℕ) → words ≡ addrs → (path : List ℕ) (h k a b : Option (List ℕ)) (fh fk fa fb : ℕ) (answer : Result ℕ Fault)
+      → MatchResult answer (λ status. TookAll h k fh fk (text_of told) × IsConcluded g m words a b fa fb status) (IsHalfPut g m words (text_of told) path h k fh fk a b fa fb)
+      → MatchResult answer (λ status. IsReported status × IsGivenKept run file path h k fh fk a b fa fb status) (IsKeptFault run file path h k fh fk a b fa fb)
+  concluded_kept told same words as_given path h k a b fh fk fa fb (Ok status) (took, whole) =
+      let at = whole.1 come.end.flat come.end.belongs in
+      let kept : TookAll h k fh fk list = subst (λ (cs : List Choice). TookAll h k fh fk (text_of cs)) same took in
+      (whole.0, (list, steps, report_of come.end.flat words, reported words status as_given at.0, kept, at.1))
+  concluded_kept told same words as_given path h k a b fh fk fa fb (Err fault) why = elim why [
+    | inl half ↦ half_kept told same path h k a b fh fk fa fb fault half.0 half.1
+    | inr half ↦ let at = half.1.1 come.end.flat come.end.belongs in
+        let kept : TookAll h k fh fk list = subst (λ (cs : List Choice). TookAll h k fh fk (text_of cs)) same half.0 in
+        let put : IsKeptFault run file path h k fh fk a b fa fb Unwritten = (list, steps, report_of come.end.flat words, at.0, reported words at.0 as_given at.1, kept, at.2) in
+        subst (λ (e : Fault). IsKeptFault run file path h k fh fk a b fa fb e) (sym half.1.0) put
+  ]
 
 -- ---- the run that was not made
 
@@ -309,20 +309,30 @@ module _ (run : Run) (file : List ℕ) where
       unready_kept (Unmade at) is = absurd is
       unready_kept NoMemory is = (untouched h fh, untouched a fa)
 
--- ---- what a sink took
+-- the harts came to no end
+module _ (run : Run) (file : List ℕ) (a : Option (List ℕ)) (fa : ℕ) where
+  pub stopped : (s : Stop) → (s ≡ stop.Refused NoMemory) ⊎ (s ≡ stop.Exchanged) → IsStop run file a a fa fa s
+  stopped s why = elim why [
+    | inl memory ↦ subst (λ (t : Stop). IsStop run file a a fa fa t) (sym memory) (untouched a fa)
+    | inr exchanged ↦ subst (λ (t : Stop). IsStop run file a a fa fa t) (sym exchanged) (untouched a fa)
+  ]
 
-all_of : (a b : Option (List ℕ)) (fa fb : ℕ) (text : List ℕ) → Puts a b fa fb text (Ok tt) → TookAll a b fa fb text
-all_of a b fa fb text puts = record { whole = puts.whole; clean = puts.clean }
+  module _ (path : List ℕ) (h : Option (List ℕ)) (fh : ℕ) where
+    pub stopped_kept : (s : Stop) → (s ≡ stop.Refused NoMemory) ⊎ (s ≡ stop.Exchanged) → IsKeptStop run file path h h fh fh a a fa fa s
+    stopped_kept s why = elim why [
+      | inl memory ↦ subst (λ (t : Stop). IsKeptStop run file path h h fh fh a a fa fa t) (sym memory) (untouched h fh, untouched a fa)
+      | inr exchanged ↦ subst (λ (t : Stop). IsKeptStop run file path h h fh fh a a fa fa t) (sym exchanged) (untouched h fh, untouched a fa)
+    ]
 
-part_of : (a b : Option (List ℕ)) (fa fb : ℕ) (text : List ℕ) (e : SinkFault) → Puts a b fa fb text (Err e) → TookPart a b fa fb text
-part_of a b fa fb text e puts = record { part = puts.part; fault = puts.fault }
+-- what is concluded behind this
+pub behind : (kept : Type 0) (whole : ℕ → Type 0) (half lost : Fault → Type 0) (answer : Result ℕ Fault) → kept → MatchResult answer whole half → MatchResult answer (λ status. kept × whole status) (λ fault. lost fault ⊎ (kept × half fault))
+behind kept whole half lost (Ok status) took put = (took, put)
+behind kept whole half lost (Err fault) took put = inr (took, put)
 
--- a text was put, and then written out
-written : (a b c : Option (List ℕ)) (fa fb fc : ℕ) (text : List ℕ) (r : Result Unit SinkFault) → Puts a b fa fb text (Ok tt) → Puts b c fb fc [] r → Puts a c fa fc text r
-written a b c fa fb fc text r put out = puts-same (append-nil text) (puts-both put out)
-
-pub written_out : (a b c : Option (List ℕ)) (fa fb fc : ℕ) (text : List ℕ) → Puts a b fa fb text (Ok tt) → Puts b c fb fc [] (Ok tt) → TookAll a c fa fc text
-written_out a b c fa fb fc text put out = all_of a c fa fc text (written a b c fa fb fc text (Ok tt) put out)
-
-pub not_written_out : (a b c : Option (List ℕ)) (fa fb fc : ℕ) (text : List ℕ) (e : SinkFault) → Puts a b fa fb text (Ok tt) → Puts b c fb fc [] (Err e) → TookPart a c fa fc text
-not_written_out a b c fa fb fc text e put out = part_of a c fa fc text e (written a b c fa fb fc text (Err e) put out)
+-- an answer as that of a run in threads
+pub as_stop : (is : ℕ → Type 0) (why : Stop → Type 0) (answer : Result ℕ Fault) (given : Result ℕ Stop) → MatchResult given (λ status. answer ≡ Ok status) (λ s. IsErrAnd answer (λ fault. s ≡ stop.Refused fault))
+    → MatchResult answer is (λ fault. why (stop.Refused fault)) → MatchResult given is why
+as_stop is why (Ok a) (Ok b) same holds = let e : a ≡ b = cc in subst is e holds
+as_stop is why (Ok a) (Err s) same holds = absurd same
+as_stop is why (Err e) (Ok b) same holds = absurd (cc)
+as_stop is why (Err e) (Err s) same holds = subst why (sym same) holds

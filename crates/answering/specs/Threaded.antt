@@ -1,21 +1,20 @@
 -- A run whose harts are in threads: what the sinks took.
-use Rattle.std.specs.Prelude.{ℕ, ◌≡◌, List, [], Option, Some, None}
+use Rattle.std.specs.Prelude.{ℕ, ◌≡◌, ◌⊎◌, List, [], Option, Some, None}
 use Rattle.loader.specs.Programs.{Program}
 use Rattle.flat.specs.Boots.{boot_fault}
 use Rattle.flat.specs.State.{Flat}
 use Rattle.command_line.specs.declared.request.Run.{Run}
 use Rattle.command_line.specs.declared.request.Word.{Word as Asked}
 use Rattle.protocol.specs.Caches.{Geometry}
-use Rattle.isolation.specs.Belongs.{Belongs}
-use Rattle.machine.specs.States.{State, shown}
+use Rattle.machine.specs.States.{State}
 use Rattle.board.specs.Boards.{first_flat}
 use Rattle.watch.specs.Moments.{Moment}
+use Rattle.simulate.specs.Conclusions.{IsHalfConcluded}
 use Rattle.simulate.specs.Orders.{geometry_of}
 use Rattle.simulate.specs.Refusals.{IsRunFault}
-use Rattle.simulate.specs.Reports.{AllReadable, report_of}
+use Rattle.simulate.specs.Reports.{AllReadable}
 use Rattle.simulate.specs.Runs.{addresses, ComesBy, IsReportOf}
 use Rattle.simulate.specs.Sinks.{TookAll, TookPart, IsPut, IsUntouched}
-use Rattle.simulate.specs.Statuses.{IsReported, IsStatusOf}
 use Rattle.simulate.specs.Unreadable.{IsFirstUnreadable}
 use Rattle.simulate.specs.declared.fault.Fault.{Fault}
 use Rattle.simulate.specs.declared.fault.Fault.TheVariants.{Boot, Word, Unwritten, Unmade, NoMemory}
@@ -47,19 +46,16 @@ IsUnready run p (Word text) = (k : ℕ) × (w : Asked) × (boot_fault p.segments
 IsUnready run p NoMemory = Unit {0}
 IsUnready run p other = ⊥
 
--- the report on a machine was put, or a beginning of it
-abbrev pub IsShown : Geometry → State → List ℕ → Option (List ℕ) → Option (List ℕ) → ℕ → ℕ → ℕ → Type 0
-IsShown g m words before after failed_before failed_after status = IsReported status
-    × ((f : Flat) → Belongs g f (shown g.sets m) → IsStatusOf f status × TookAll before after failed_before failed_after (report_of f words))
-
-abbrev pub IsHalfShown : Geometry → State → List ℕ → Option (List ℕ) → Option (List ℕ) → ℕ → ℕ → Fault → Type 0
-IsHalfShown g m words before after failed_before failed_after fault = (fault ≡ Unwritten)
-    × ((f : Flat) → Belongs g f (shown g.sets m) → (status : ℕ) × IsStatusOf f status × TookPart before after failed_before failed_after (report_of f words))
-
 -- the history was not put whole, or not written out: the fault names its path
 abbrev pub IsHalfKept : List ℕ → List ℕ → Option (List ℕ) → Option (List ℕ) → ℕ → ℕ → Fault → Type 0
 IsHalfKept text path before after failed_before failed_after (Unmade at) = (at.now ≡ path) × TookPart before after failed_before failed_after text
 IsHalfKept text path before after failed_before failed_after other = ⊥
+
+-- so it was, and nothing was put of the report on a machine; or a put of that failed, behind the whole history
+abbrev pub IsHalfPut : Geometry → State → List ℕ → List ℕ → List ℕ → Option (List ℕ) → Option (List ℕ) → ℕ → ℕ → Option (List ℕ) → Option (List ℕ) → ℕ → ℕ → Fault → Type 0
+IsHalfPut g m words text path kept_before kept_after unkept_before unkept_after before after failed_before failed_after fault =
+    (IsHalfKept text path kept_before kept_after unkept_before unkept_after fault × IsUntouched before after failed_before failed_after)
+    ⊎ (TookAll kept_before kept_after unkept_before unkept_after text × IsHalfConcluded g m words before after failed_before failed_after fault)
 
 -- What is given
 

@@ -4,7 +4,7 @@ use console::LineInput;
 use machine::Progress;
 use simulate::Fault;
 use simulate::debugging::play;
-use simulate::perform::perform;
+use simulate::perform::{Outcome, perform};
 use simulate::showing::{Form, show_apart, trace_before};
 use std::fs;
 use std::io::{BufWriter, ErrorKind, Write};
@@ -96,9 +96,23 @@ fn carry_out<'a, R: Files + AllocGlobal, P: Progress, W: Write + Drop, E: Sink>(
 ) -> Result<u8, Fault<'a>> {
     let bytes = read(rt, order.path())?;
     let list = read_if_any(rt, order.schedule())?;
+    let outcome = perform_into(rt, order, &bytes, &list, progress, out, error)?;
+    write_image(rt, order, &outcome)
+}
+
+/// Has an order performed, and its answer written out.
+fn perform_into<'a, R: AllocGlobal, P: Progress, W: Write + Drop, E: Sink>(
+    rt: &R,
+    order: &Order<'a>,
+    bytes: &[u8],
+    list: &[u8],
+    progress: &mut P,
+    out: W,
+    error: &mut E,
+) -> Result<Outcome, Fault<'a>> {
     let writer = buffered(rt, out)?;
     let mut out = Counted { writer, failed: 0 };
-    let outcome = perform(rt.alloc(), order, &bytes, &list, progress, &mut out, error);
+    let outcome = perform(rt.alloc(), order, bytes, list, progress, &mut out, error);
     let Counted {
         mut writer,
         failed: _,
@@ -107,6 +121,15 @@ fn carry_out<'a, R: Files + AllocGlobal, P: Progress, W: Write + Drop, E: Sink>(
     if outcome.is_report() && writer.flush().is_err() {
         return Err(Fault::Unwritten);
     }
+    Ok(outcome)
+}
+
+/// Writes the file that an order asks for, and answers the status.
+fn write_image<'a, R: Files + AllocGlobal>(
+    rt: &R,
+    order: &Order<'a>,
+    outcome: &Outcome,
+) -> Result<u8, Fault<'a>> {
     if let (Order::Asm { target, .. }, Some(image)) = (order, &outcome.image) {
         write(rt, target, image)?;
     }

@@ -52,12 +52,33 @@ pub(crate) fn run_hub<
     ensures { MatchResult result (λ end. IsEnd (geometry SETS WAYS) program.now harts size (J.tells end.journal) end.machine)
         (λ stop. (stop ≡ Refused NoMemory) ⊎ (stop ≡ Exchanged)) }
 {
-    let desk = match Box::new(alloc, hub) {
-        Ok(hub) => Mutex::new(hub),
-        Err(error) => return Err(AllocError::from(error).into()),
-    };
+    let desk = locked(alloc, hub)?;
     serve::<Box<Hub<'p, SETS, WAYS, J>>, Whole, R>(rt, &desk, harts as usize, &Whole, turns)?;
     let end = Box::into_inner(desk.into_inner()).finish();
+    if_of(end, program, harts, size)
+}
+
+/// A hub, apart from its lock. It fails only if memory runs out.
+fn locked<'p, const SETS: usize, const WAYS: usize, J: Journal + Send>(
+    alloc: Global,
+    hub: Hub<'p, SETS, WAYS, J>,
+) -> Result<Mutex<Box<Hub<'p, SETS, WAYS, J>>>, AllocError> {
+    match Box::new(alloc, hub) {
+        Ok(hub) => Ok(Mutex::new(hub)),
+        Err(error) => Err(error.into()),
+    }
+}
+
+/// What a hub was, if it was one of this program, number of harts and size.
+fn if_of<'p, 'a, const SETS: usize, const WAYS: usize, J: Journal>(
+    end: Ended<'p, SETS, WAYS, J>,
+    program: &Program,
+    harts: u32,
+    size: u32,
+) -> Result<Ended<'p, SETS, WAYS, J>, Stop<'a>>
+    requires { IsEnd (geometry SETS WAYS) end.program.now end.harts end.size (J.tells end.journal) end.machine }
+    ensures { MatchResult result (λ end. IsEnd (geometry SETS WAYS) program.now harts size (J.tells end.journal) end.machine) (λ stop. stop ≡ Exchanged) }
+{
     if end.harts == harts && end.size == size && end.program.same(program) {
         Ok(end)
     } else {

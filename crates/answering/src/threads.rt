@@ -1,34 +1,37 @@
 //! A run whose harts are in threads of the host: all but reading and writing files.
-ghost use Rattle.std.specs.Prelude.{◌≡◌, ◌<◌, ◌*◌, ◌^◌, [], IfOk, MatchResult};
+ghost use Rattle.std.specs.Prelude.{◌≡◌, ◌<◌, ◌*◌, ◌^◌, ℕ, List, [], IfOk, IsErrAnd, MatchResult};
 ghost use Rattle.table.specs.Slots.{AreWordsOf};
 ghost use Rattle.machine.specs.States.{geometry, setting_of};
 ghost use Rattle.history.specs.Lines.{text_of};
+ghost use Rattle.texts.specs.Puts.{Puts};
+ghost use Rattle.simulate.specs.Conclusions.{IsConcluded, IsHalfConcluded};
 ghost use Rattle.simulate.specs.Orders.{geometry_of};
 ghost use Rattle.simulate.specs.Reports.{AllReadable};
 ghost use Rattle.simulate.specs.Sinks.{TookAll, IsUntouched};
+ghost use Rattle.simulate.specs.Sources.{IsProgramIn, IsProgramFault};
 ghost use Rattle.simulate.specs.Statuses.{IsReported};
-ghost use Rattle.answering.specs.Threaded.{IsReady, IsUnready, IsShown, IsHalfShown, IsHalfKept};
+ghost use Rattle.answering.specs.Threaded.{IsReady, IsUnready, IsHalfKept, IsHalfPut};
 ghost use Rattle.answering.specs.Threaded.{IsGiven, IsStop, IsTold, IsGivenKept, IsKeptStop, IsToldKept};
+ghost use Rattle.answering.specs.declared.stop.Stop.TheVariants.{Refused};
 
 use crate::serving::run_hub;
 use crate::stop::Stop;
 use board::Code;
 use command_line::{Cache, Run};
 use history::{History, Journal, Unkept, put_history, written_choices_are_read};
-use hub::Hub;
+use hub::{Ended, Hub};
 use loader::Program;
 use machine::Machine;
 use simulate::Fault;
 use simulate::readable::readable;
-use simulate::report::report;
+use simulate::report::conclude;
 use simulate::showing::Page;
 use simulate::source::program_in;
-use simulate::status::status;
 use std::alloc::{AllocError, Global};
 use std::sync::Wait;
 use std::thread::Threads;
 use table::DecodedText;
-use words::{Addr, Sink};
+use words::{Addr, Sink, SinkFault};
 
 /// Runs each hart of the program in a file in a thread of its own, given the bytes of the file, and puts the report into `out`, or what the user is
 /// told into `error`. It answers the status that the program ends with.
@@ -93,21 +96,31 @@ fn threaded_on<'a, const SETS: usize, const WAYS: usize, R: Threads + Wait + Syn
         (λ status. IsReported status × IsGiven run.now file.now (O.taken out.old) (O.taken out.new) (O.failed out.old) (O.failed out.new) status)
         (IsStop run.now file.now (O.taken out.old) (O.taken out.new) (O.failed out.old) (O.failed out.new)) }
 {
-    let program = program_in(alloc, run.file, file)?;
-    let words = words_of(alloc, &program)?;
-    let code = Code::decoded(&program, &words);
+    let decoded = decode(alloc, run, file)?;
+    threaded_by::<SETS, WAYS, R, O>(rt, alloc, run, decoded.code(), out)
+}
+
+/// The same of a program, decoded.
+fn threaded_by<'a, const SETS: usize, const WAYS: usize, R: Threads + Wait + Sync, O: Sink>(
+    rt: &R,
+    alloc: Global,
+    run: &Run<'a>,
+    code: Code<'_>,
+    out: &mut O,
+) -> Result<u8, Stop<'a>>
+    requires sets { 0 < SETS }
+    requires ways { 0 < WAYS }
+    requires lines { SETS * WAYS < 2 ^ 32 }
+    requires cache { geometry_of run.now.cache ≡ geometry SETS WAYS }
+    ensures { (file : List ℕ) → IsProgramIn run.now.file.now file code.entry.program.now → MatchResult result
+        (λ status. IsReported status × IsGiven run.now file (O.taken out.old) (O.taken out.new) (O.failed out.old) (O.failed out.new) status)
+        (IsStop run.now file (O.taken out.old) (O.taken out.new) (O.failed out.old) (O.failed out.new)) }
+{
     let Ready { hub, addrs } = make_ready::<SETS, WAYS, Unkept>(alloc, run, code, Unkept)?;
-    let end = run_hub::<SETS, WAYS, Unkept, R>(
-        rt,
-        alloc,
-        hub,
-        &program,
-        run.harts,
-        run.memory,
-        u64::from(run.steps),
-    )?;
+    let turns = u64::from(run.steps);
+    let end = run_hub(rt, alloc, hub, code.program, run.harts, run.memory, turns)?;
     written_choices_are_read();
-    Ok(show(&end.machine, &addrs, out)?)
+    or_stop(conclude(&end.machine, &addrs, out))
 }
 
 /// The same as [`run_threaded`], and puts the history of the run into `history`, which stands for the file at a path: a schedule that makes this run.
@@ -179,27 +192,88 @@ fn kept_on<'a, const SETS: usize, const WAYS: usize, R: Threads + Wait + Sync, T
         (IsKeptStop run.now file.now path.now (T.taken history.old) (T.taken history.new) (T.failed history.old) (T.failed history.new)
         (O.taken out.old) (O.taken out.new) (O.failed out.old) (O.failed out.new)) }
 {
-    let program = program_in(alloc, run.file, file)?;
-    let words = words_of(alloc, &program)?;
-    let code = Code::decoded(&program, &words);
-    let Ready { hub, addrs } = make_ready::<SETS, WAYS, History>(
-        alloc,
-        run,
-        code,
-        History::new(alloc),
-    )?;
-    let end = run_hub::<SETS, WAYS, History, R>(
-        rt,
-        alloc,
-        hub,
-        &program,
-        run.harts,
-        run.memory,
-        u64::from(run.steps),
-    )?;
+    let decoded = decode(alloc, run, file)?;
+    kept_by::<SETS, WAYS, R, T, O>(rt, alloc, run, path, decoded.code(), history, out)
+}
+
+/// The same of a program, decoded.
+fn kept_by<'a, const SETS: usize, const WAYS: usize, R: Threads + Wait + Sync, T: Page, O: Sink>(
+    rt: &R,
+    alloc: Global,
+    run: &Run<'a>,
+    path: &'a str,
+    code: Code<'_>,
+    history: &mut T,
+    out: &mut O,
+) -> Result<u8, Stop<'a>>
+    requires sets { 0 < SETS }
+    requires ways { 0 < WAYS }
+    requires lines { SETS * WAYS < 2 ^ 32 }
+    requires cache { geometry_of run.now.cache ≡ geometry SETS WAYS }
+    ensures { (file : List ℕ) → IsProgramIn run.now.file.now file code.entry.program.now → MatchResult result
+        (λ status. IsReported status × IsGivenKept run.now file path.now (T.taken history.old) (T.taken history.new) (T.failed history.old) (T.failed history.new)
+        (O.taken out.old) (O.taken out.new) (O.failed out.old) (O.failed out.new) status)
+        (IsKeptStop run.now file path.now (T.taken history.old) (T.taken history.new) (T.failed history.old) (T.failed history.new)
+        (O.taken out.old) (O.taken out.new) (O.failed out.old) (O.failed out.new)) }
+{
+    let journal = History::new(alloc);
+    let Ready { hub, addrs } = make_ready::<SETS, WAYS, History>(alloc, run, code, journal)?;
+    let turns = u64::from(run.steps);
+    let end = run_hub(rt, alloc, hub, code.program, run.harts, run.memory, turns)?;
     written_choices_are_read();
+    or_stop(keep_and_conclude(&end, &addrs, path, history, out))
+}
+
+/// The same answer, as that of a run in threads.
+fn or_stop<'a>(answer: Result<u8, Fault<'a>>) -> Result<u8, Stop<'a>>
+    ensures { MatchResult result (λ status. answer.entry ≡ Ok status) (λ stop. IsErrAnd answer.entry (λ fault. stop ≡ Refused fault)) }
+{
+    Ok(answer?)
+}
+
+/// Puts the history of a run, and has it written out, and then puts the report. It answers the status.
+fn keep_and_conclude<'a, const SETS: usize, const WAYS: usize, T: Page, O: Sink>(
+    end: &Ended<'_, SETS, WAYS, History>,
+    addrs: &[Addr],
+    path: &'a str,
+    history: &mut T,
+    out: &mut O,
+) -> Result<u8, Fault<'a>>
+    requires { AllReadable (setting_of end.now.machine) addrs.now }
+    ensures { MatchResult result
+        (λ status. TookAll (T.taken history.old) (T.taken history.new) (T.failed history.old) (T.failed history.new) (text_of end.now.journal.choices)
+        × IsConcluded (geometry SETS WAYS) end.now.machine addrs.now (O.taken out.old) (O.taken out.new) (O.failed out.old) (O.failed out.new) status)
+        (IsHalfPut (geometry SETS WAYS) end.now.machine addrs.now (text_of end.now.journal.choices) path.now (T.taken history.old) (T.taken history.new) (T.failed history.old) (T.failed history.new)
+        (O.taken out.old) (O.taken out.new) (O.failed out.old) (O.failed out.new)) }
+{
     keep(&end.journal, path, history)?;
-    Ok(show(&end.machine, &addrs, out)?)
+    conclude(&end.machine, addrs, out)
+}
+
+/// A program and its words, decoded.
+#[derive(Drop)]
+struct Decoded {
+    program: Program,
+    words: DecodedText,
+    ghost same: { AreWordsOf program.segments words.base words.slots.items },
+}
+
+impl Decoded {
+    /// What harts are lent with.
+    fn code(&self) -> Code<'_>
+        ensures { result.program.now ≡ self.now.program }
+    {
+        Code::decoded(&self.program, &self.words)
+    }
+}
+
+/// The program in a file, decoded.
+fn decode<'a>(alloc: Global, run: &Run<'a>, file: &'a [u8]) -> Result<Decoded, Fault<'a>>
+    ensures { MatchResult result (λ decoded. IsProgramIn run.now.file.now file.now decoded.program) (IsProgramFault run.now.file.now file.now) }
+{
+    let program = program_in(alloc, run.file, file)?;
+    let words = DecodedText::new(alloc, program.segments(), program.entry())?;
+    Ok(Decoded { program, words })
 }
 
 /// A hub before the first turn, and the addresses of the words to show.
@@ -207,13 +281,6 @@ fn kept_on<'a, const SETS: usize, const WAYS: usize, R: Threads + Wait + Sync, T
 struct Ready<'p, const SETS: usize, const WAYS: usize, J: Journal> {
     hub: Hub<'p, SETS, WAYS, J>,
     addrs: Vec<Addr>,
-}
-
-/// The words of a program, decoded. It fails only if memory runs out.
-fn words_of(alloc: Global, program: &Program) -> Result<DecodedText, AllocError>
-    ensures { IfOk result (λ words. AreWordsOf program.now.segments words.base words.slots.items) }
-{
-    DecodedText::new(alloc, program.segments(), program.entry())
 }
 
 /// Boots a program, and finds the words to show.
@@ -240,27 +307,16 @@ fn keep<'a, T: Page>(history: &History, path: &'a str, page: &mut T) -> Result<(
         (λ _. TookAll (T.taken page.old) (T.taken page.new) (T.failed page.old) (T.failed page.new) (text_of history.now.choices))
         (IsHalfKept (text_of history.now.choices) path.now (T.taken page.old) (T.taken page.new) (T.failed page.old) (T.failed page.new)) }
 {
-    match put_history(page, history) {
-        Ok(()) => match page.flush() {
-            Ok(()) => Ok(()),
-            Err(_) => Err(Fault::Unmade(path)),
-        },
+    match put_whole(history, page) {
+        Ok(()) => Ok(()),
         Err(_) => Err(Fault::Unmade(path)),
     }
 }
 
-/// Puts the report on a machine, and answers the status.
-fn show<'a, const SETS: usize, const WAYS: usize, O: Sink>(
-    machine: &Machine<SETS, WAYS>,
-    addrs: &[Addr],
-    out: &mut O,
-) -> Result<u8, Fault<'a>>
-    requires { AllReadable (setting_of machine.now) addrs.now }
-    ensures { MatchResult result
-        (IsShown (geometry SETS WAYS) machine.now addrs.now (O.taken out.old) (O.taken out.new) (O.failed out.old) (O.failed out.new))
-        (IsHalfShown (geometry SETS WAYS) machine.now addrs.now (O.taken out.old) (O.taken out.new) (O.failed out.old) (O.failed out.new)) }
+/// Puts a history, and has it written out.
+fn put_whole<T: Page>(history: &History, page: &mut T) -> Result<(), SinkFault>
+    ensures { Puts (T.taken page.old) (T.taken page.new) (T.failed page.old) (T.failed page.new) (text_of history.now.choices) result }
 {
-    let status = status(machine);
-    report(machine, addrs, out)?;
-    Ok(status)
+    put_history(page, history)?;
+    page.flush()
 }
