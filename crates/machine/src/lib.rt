@@ -6,6 +6,7 @@ mod flights;
 mod info;
 mod kept;
 mod lent;
+mod listener;
 mod loaded;
 mod machine;
 mod mail;
@@ -22,6 +23,7 @@ mod values;
 mod watch;
 
 pub use info::TxInfo;
+pub use listener::{Listener, Nobody};
 pub use machine::Machine;
 pub use play::{PlainTurns, Turned, hart_after};
 pub use progress::{PACE, Progress, Silent};
