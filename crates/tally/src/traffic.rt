@@ -64,11 +64,13 @@ impl Traffic {
     {
         let flying = machine.in_flight();
         let keys = machine.keys();
-        let mut met = 0;
+        let mut left = flying;
         let mut key = 0;
-        while met < flying && key < keys {
+        while left > 0 {
+            // One that was not met yet lies under a higher key.
+            prove!(key < keys);
             if let Some(flight) = machine.peek_flight(key) {
-                met += 1;
+                left -= 1;
                 if flight.number >= sent {
                     self.add(Sum::of_message(&flight.message), 1);
                 }
