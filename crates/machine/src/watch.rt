@@ -4,6 +4,7 @@ ghost use Rattle.std.specs.Option.{option_map};
 ghost use Rattle.words.specs.declared.entry.Step.{Step as StepValue};
 ghost use Rattle.words.specs.declared.entry.Step.TheVariants.{Core, Evict};
 ghost use Rattle.flat.specs.State.{Flat};
+ghost use Rattle.network.specs.Flights.{AreNumbered};
 ghost use Rattle.isolation.specs.Belongs.{Belongs};
 ghost use Rattle.machine.specs.Turns.{IsNextTurn, TakesTurn, hart_after};
 ghost use Rattle.machine.specs.Watch.{IsOver, IsEnabled};
@@ -49,6 +50,13 @@ impl<const SETS: usize, const WAYS: usize> Machine<SETS, WAYS> {
         ensures { result ≡ self.now.sent }
     {
         self.net.sent()
+    }
+
+    /// Each message in flight has a number below that of the next.
+    pub fn are_numbered(&self)
+        ensures { AreNumbered self.now.flights self.now.sent }
+    {
+        self.net.are_numbered();
     }
 
     /// The message in flight under a key, with its number.

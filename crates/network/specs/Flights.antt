@@ -1,5 +1,5 @@
 -- The messages in flight, as a map from keys.
-use Rattle.std.specs.Prelude.{ℕ, ◌≡◌, ◌<◌, ◌≤◌, ◌⊎◌, Bool, true, false, ◌||◌, ◌&&◌, ◌==◌, List, Option, Some, None, cond, nat_le, nat_lt}
+use Rattle.std.specs.Prelude.{ℕ, ◌≡◌, ◌<◌, ◌≤◌, ◌+◌, ◌⊎◌, min, Bool, true, false, ◌||◌, ◌&&◌, ◌==◌, List, Option, Some, None, cond, nat_le, nat_lt}
 use Rattle.std.specs.Option.{option_map}
 use Rattle.std.specs.List.{slice_index_or}
 use Rattle.words.specs.declared.message.Message.{Message}
@@ -17,6 +17,10 @@ flight_at net key = slice_index_or net.slots key None
 
 abbrev pub message_at : Flights → ℕ → Option Message
 message_at net key = option_map (λ f. f.message) (slice_index_or net.slots key None)
+
+-- each message in flight has a number below the next, which ends at the greatest u64
+abbrev pub AreNumbered : List (Option Flight) → ℕ → Type 0
+AreNumbered slots next = (key : ℕ) (f : Flight) → slice_index_or slots key None ≡ Some f → min (f.number + 1) 18446744073709551615 ≤ next
 
 -- no message in flight passes a test
 abbrev pub NonePasses : (Message → Bool → Type 0) → Flights → Type 0

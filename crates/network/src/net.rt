@@ -1,7 +1,7 @@
 ghost use Rattle.std.specs.Prelude.{◌≡◌, ◌≢◌, ◌+◌, ◌<◌, ◌≤◌, ◌↔◌, ℕ, Some, None, min, IsTrue, OnOk, OnErr, IsSome, IfSome, IfNone, is_some, count_by};
 ghost use Rattle.std.specs.Fn.{FnReturnsAt};
 ghost use Rattle.std.specs.Option.{option_map};
-ghost use Rattle.network.specs.Flights.{message_at, flight_at, IsOldest, NonePasses, IsNext, NoneAfter, position_of, is_after, is_earlier, first_of};
+ghost use Rattle.network.specs.Flights.{message_at, flight_at, AreNumbered, IsOldest, NonePasses, IsNext, NoneAfter, position_of, is_after, is_earlier, first_of};
 ghost use Rattle.slab.specs.Slab.{HasRoomFor, Updates, get, slab_len};
 
 use slab::Slab;
@@ -26,13 +26,13 @@ pub struct Net {
 impl Model for Net {
     ghost use Rattle.std.specs.Prelude.{◌-◌, ◌≤◌};
     ghost use Rattle.slab.specs.Slab.{slab_len};
-    ghost use Rattle.network.specs.Flights.{Flights};
+    ghost use Rattle.network.specs.Flights.{Flights, AreNumbered};
 
     ghost Value = { Flights };
 
     ghost view = { λ n. record { slots = n.slab.slots; next = n.next; room = n.slab.capacity - slab_len n.slab } };
 
-    ghost invariant = { λ n. slab_len n.slab ≤ n.slab.capacity };
+    ghost invariant = { λ n. (slab_len n.slab ≤ n.slab.capacity) × AreNumbered n.slab.slots n.next };
 }
 
 impl Net {
@@ -52,6 +52,13 @@ impl Net {
         ensures { result ≡ self.now.next }
     {
         self.next
+    }
+
+    /// Each message in flight has a number below the next.
+    pub fn are_numbered(&self)
+        ensures { AreNumbered self.now.slots self.now.next }
+    {
+        let _next = &self.next;
     }
 
     /// How many messages can be sent with no further memory.
