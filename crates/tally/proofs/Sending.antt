@@ -113,6 +113,19 @@ module _ (sent : ℕ) (s : Sum) (flights : List (Option Flight)) (key : ℕ) whe
       let more : counted (key + 1) ≡ counted key + 0 = here None is in
       none_more old mid (omega (arith, more)) before
 
+-- one with a number below was not sent then, so that where all numbers are below none was
+early : (sent : ℕ) (s : Sum) (x : Option Flight) → ((f : Flight) → x ≡ Some f → f.number < sent) → was_sent sent s x ≡ false
+early sent s None below = refl
+early sent s (Some f) below = ap (λ (b : Bool). b && is_same s (sum_of_message (shown f.message))) (lt-leb sent f.number (below f refl))
+
+pub none_sent : (sent : ℕ) (s : Sum) (flights : List (Option Flight)) → ((key : ℕ) (f : Flight) → slice_index_or flights key None ≡ Some f → f.number < sent) → count_by (was_sent sent s) flights ≡ 0
+none_sent sent s [] below = refl
+none_sent sent s (x ∷ xs) below =
+    let first : count_by (was_sent sent s) (x ∷ xs) ≡ cond (was_sent sent s x) 1 0 + count_by (was_sent sent s) xs = sum_by-cons (λ o. cond (was_sent sent s o) 1 0) x xs in
+    let here : cond (was_sent sent s x) 1 0 ≡ 0 = ap (λ (b : Bool). cond {A = ℕ} b 1 0) (early sent s x (below 0)) in
+    let rest : count_by (was_sent sent s) xs ≡ 0 = none_sent sent s xs (λ key f at. below (suc key) f at) in
+    omega (arith, first, here, rest)
+
 -- how many are in flight
 pub flies : (flights : List (Option Flight)) (key : ℕ) (f : Flight) → slice_index_or flights key None ≡ Some f → count_by is_some (take (key + 1) flights) ≡ count_by is_some (take key flights) + 1
 flies flights key f is = counted_more is_some refl flights key ∙ ap (λ (o : Option Flight). count_by is_some (take key flights) + cond (is_some o) 1 0) is

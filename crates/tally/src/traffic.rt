@@ -63,6 +63,11 @@ impl Traffic {
         ensures flying { result ≡ count_by is_some machine.now.flights }
     {
         let flying = machine.in_flight();
+        // Where nothing was sent, each has a lower number.
+        machine.are_numbered();
+        if machine.sent() == sent && sent < u64::MAX {
+            return flying;
+        }
         let keys = machine.keys();
         let mut left = flying;
         let mut key = 0;

@@ -4,9 +4,17 @@ use Rattle.std.specs.Option.{option_map}
 use Rattle.tally.specs.Kinds.{one_if}
 use Rattle.tally.specs.Traffic.{capped, is_same, sum_at, was_sent}
 use Rattle.tally.proofs.Capping.{capped_low}
-use Rattle.tally.proofs.Sending.{counted_all, none_beyond, flies, flies_not, no_one, nothing_in, one_sent, one_unsent, rest_of}
+use Rattle.tally.proofs.Sending.{counted_all, none_beyond, flies, flies_not, no_one, none_sent, nothing_in, one_sent, one_unsent, rest_of}
 use Rattle.tally.proofs.traffic.Traffic.add_sent.Goals.{in-Some+then-flight-sent, in-Some+else-flight-sent, in_default}
 use Rattle.tally.proofs.traffic.Traffic.add_sent.Goals as goal
+
+-- nothing was sent
+pub returns-then-sent-lt18446744073709551615-clause-added : goal.returns-then-sent-lt18446744073709551615-clause-added
+returns-then-sent-lt18446744073709551615-clause-added g c s low =
+    let flights = c.args.machine.now.flights in
+    let none : count_by (was_sent c.args.sent s) flights ≡ 0 = none_sent c.args.sent s flights (λ key f at. let below = c.are_numbered.ensures key f at in omega (arith, below)) in
+    let same : sum_at c.args.self.now s ≡ sum_at c.args.self.now s + count_by (was_sent c.args.sent s) flights = omega (arith, none) in
+    sym (capped_low (sum_at c.args.self.now s) low) ∙ ap capped same
 
 pub loop-left-init : goal.loop-left-init
 loop-left-init g c = (
