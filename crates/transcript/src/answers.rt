@@ -10,7 +10,7 @@ use std::{fs, io, str};
 use words::{Counted, Sink, Taken};
 
 /// Where what a command tells on standard error is shown.
-#[derive(Clone, Copy, Debug, PartialEq, Eq)]
+#[derive(Clone, Copy)]
 pub enum Telling {
     /// Where it comes, as on a terminal.
     AtOnce,
