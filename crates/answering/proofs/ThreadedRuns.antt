@@ -9,7 +9,6 @@ use Rattle.schedule.specs.Lines.{lines_of, AreSpelledBy}
 use Rattle.command_line.specs.declared.request.Word.{Word as Asked}
 use Rattle.simulate.specs.Unreadable.{IsFirstUnreadable, IsUnreadable}
 use Rattle.flat.specs.Boots.{boot_fault, is_size, is_count, fits_below}
-use Rattle.flat.specs.declared.boot_fault.BootFault.{BootFault}
 use Rattle.flat.specs.declared.boot_fault.BootFault.TheVariants as boot
 use Rattle.flat.specs.State.{Setting}
 use Rattle.flat.proofs.Runs.{run_setting}
@@ -25,7 +24,6 @@ use Rattle.hub.specs.Hubs.{IsEnd}
 use Rattle.watch.specs.Moments.{Moment}
 use Rattle.watch.proofs.Moments.{steps_by}
 use Rattle.simulate.specs.Conclusions.{IsConcluded, IsHalfConcluded}
-use Rattle.simulate.specs.Faults.{of_boot}
 use Rattle.simulate.specs.Orders.{geometry_of}
 use Rattle.simulate.specs.Reports.{AllReadable, report_of}
 use Rattle.simulate.specs.Runs.{addresses, ComesBy, IsReport}
@@ -51,18 +49,8 @@ readable_at_end g p n size tells m words e all =
     let same : (first_flat p n size).setting ≡ setting_of m = sym (run_setting (first_flat p n size) e.flat e.kept.entries e.runs) ∙ same_setting g e.flat m e.belongs in
     subst (λ (s : Setting). AllReadable s words) same all
 
-pub unready_boot : (run : Run) (p : Program) (b : BootFault) → (b ≡ boot.NoMemory) ⊎ (boot_fault p.segments run.harts run.memory ≡ Some b) → IsUnready run p (of_boot b)
-unready_boot run p boot.BadSize h = elim h [ inl e ↦ absurd (cc) | inr e ↦ e ]
-unready_boot run p boot.BadHarts h = elim h [ inl e ↦ absurd (cc) | inr e ↦ e ]
-unready_boot run p boot.DoesNotFit h = elim h [ inl e ↦ absurd (cc) | inr e ↦ e ]
-unready_boot run p boot.NoMemory h = tt
-
 first_setting : (g : Geometry) (p : Program) (n size : ℕ) (m : State) → shown g.sets m ≡ start (first_flat p n size).setting p.entry → setting_of m ≡ (first_flat p n size).setting
 first_setting g p n size m is = ap (λ (w : Machine). w.setting) is
-
--- what is ready of a program is so of the same
-pub ready_of : (run : Run) (p q : Program) (addrs : List ℕ) → q ≡ p → IsReady run q addrs → IsReady run p addrs
-ready_of run p q addrs same ready = subst (λ (r : Program). IsReady run r addrs) same ready
 
 -- the words that were looked for before the first turn
 module _ (run : Run) (p : Program) (g : Geometry) (v m : State) (boots : boot_fault p.segments run.harts run.memory ≡ None) (starts : shown g.sets v ≡ start (first_flat p run.harts run.memory).setting p.entry) (same : m ≡ v)

@@ -74,34 +74,16 @@ fn try_threaded<'a, R: Threads + Wait + Sync, O: Sink>(
         (λ status. IsReported status × IsGiven run.now file.now (O.taken out.old) (O.taken out.new) (O.failed out.old) (O.failed out.new) status)
         (IsStop run.now file.now (O.taken out.old) (O.taken out.new) (O.failed out.old) (O.failed out.new)) }
 {
+    let decoded = decode(alloc, run, file)?;
+    let code = decoded.code();
     match run.cache {
-        Cache::Small => threaded_on::<2, 1, R, O>(rt, alloc, run, file, out),
-        Cache::Normal => threaded_on::<16, 4, R, O>(rt, alloc, run, file, out),
+        Cache::Small => threaded_on::<2, 1, R, O>(rt, alloc, run, code, out),
+        Cache::Normal => threaded_on::<16, 4, R, O>(rt, alloc, run, code, out),
     }
 }
 
-/// The same on a machine with caches of SETS sets of WAYS ways, which the run asks for.
+/// The same of a program, decoded, on a machine with caches of SETS sets of WAYS ways, which the run asks for.
 fn threaded_on<'a, const SETS: usize, const WAYS: usize, R: Threads + Wait + Sync, O: Sink>(
-    rt: &R,
-    alloc: Global,
-    run: &Run<'a>,
-    file: &'a [u8],
-    out: &mut O,
-) -> Result<u8, Stop<'a>>
-    requires sets { 0 < SETS }
-    requires ways { 0 < WAYS }
-    requires lines { SETS * WAYS < 2 ^ 32 }
-    requires cache { geometry_of run.now.cache ≡ geometry SETS WAYS }
-    ensures { MatchResult result
-        (λ status. IsReported status × IsGiven run.now file.now (O.taken out.old) (O.taken out.new) (O.failed out.old) (O.failed out.new) status)
-        (IsStop run.now file.now (O.taken out.old) (O.taken out.new) (O.failed out.old) (O.failed out.new)) }
-{
-    let decoded = decode(alloc, run, file)?;
-    threaded_by::<SETS, WAYS, R, O>(rt, alloc, run, decoded.code(), out)
-}
-
-/// The same of a program, decoded.
-fn threaded_by<'a, const SETS: usize, const WAYS: usize, R: Threads + Wait + Sync, O: Sink>(
     rt: &R,
     alloc: Global,
     run: &Run<'a>,
@@ -166,38 +148,16 @@ fn try_kept<'a, R: Threads + Wait + Sync, T: Page, O: Sink>(
         (IsKeptStop run.now file.now path.now (T.taken history.old) (T.taken history.new) (T.failed history.old) (T.failed history.new)
         (O.taken out.old) (O.taken out.new) (O.failed out.old) (O.failed out.new)) }
 {
+    let decoded = decode(alloc, run, file)?;
+    let code = decoded.code();
     match run.cache {
-        Cache::Small => kept_on::<2, 1, R, T, O>(rt, alloc, run, path, file, history, out),
-        Cache::Normal => kept_on::<16, 4, R, T, O>(rt, alloc, run, path, file, history, out),
+        Cache::Small => kept_on::<2, 1, R, T, O>(rt, alloc, run, path, code, history, out),
+        Cache::Normal => kept_on::<16, 4, R, T, O>(rt, alloc, run, path, code, history, out),
     }
 }
 
-/// The same on a machine with caches of SETS sets of WAYS ways, which the run asks for.
+/// The same of a program, decoded, on a machine with caches of SETS sets of WAYS ways, which the run asks for.
 fn kept_on<'a, const SETS: usize, const WAYS: usize, R: Threads + Wait + Sync, T: Page, O: Sink>(
-    rt: &R,
-    alloc: Global,
-    run: &Run<'a>,
-    path: &'a str,
-    file: &'a [u8],
-    history: &mut T,
-    out: &mut O,
-) -> Result<u8, Stop<'a>>
-    requires sets { 0 < SETS }
-    requires ways { 0 < WAYS }
-    requires lines { SETS * WAYS < 2 ^ 32 }
-    requires cache { geometry_of run.now.cache ≡ geometry SETS WAYS }
-    ensures { MatchResult result
-        (λ status. IsReported status × IsGivenKept run.now file.now path.now (T.taken history.old) (T.taken history.new) (T.failed history.old) (T.failed history.new)
-        (O.taken out.old) (O.taken out.new) (O.failed out.old) (O.failed out.new) status)
-        (IsKeptStop run.now file.now path.now (T.taken history.old) (T.taken history.new) (T.failed history.old) (T.failed history.new)
-        (O.taken out.old) (O.taken out.new) (O.failed out.old) (O.failed out.new)) }
-{
-    let decoded = decode(alloc, run, file)?;
-    kept_by::<SETS, WAYS, R, T, O>(rt, alloc, run, path, decoded.code(), history, out)
-}
-
-/// The same of a program, decoded.
-fn kept_by<'a, const SETS: usize, const WAYS: usize, R: Threads + Wait + Sync, T: Page, O: Sink>(
     rt: &R,
     alloc: Global,
     run: &Run<'a>,
