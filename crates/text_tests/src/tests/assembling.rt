@@ -13,9 +13,10 @@ fn is_text(segment: &Segment) -> bool {
     segment.exec && segment.addr == 0x1000
 }
 
-/// Whether a program has text and these bytes of data.
+/// Whether a program has text, and these bytes of data or no data.
 fn has_parts(program: &Program, data: &[u8]) -> bool {
     match program.segments() {
+        [text] => is_text(text) && data.is_empty(),
         [text, other] => is_text(text) && !other.exec && other.bytes.as_slice() == data,
         _ => false,
     }
@@ -64,6 +65,22 @@ const EXIT_FILE: [u8; 96] = [
 fn the_exit_program_is_its_file(rt: HostRuntime) -> Result<(), Fail> {
     let program = assemble(rt.alloc(), EXIT).ok().ok_or("a program")?;
     assert_eq!(rt; write_elf(rt.alloc(), &program)?[..], EXIT_FILE[..]);
+    Ok(())
+}
+
+/// Sources of the same program, which has no data.
+static EXITS: [&str; 4] = [
+    EXIT,
+    "li a7,93\r\n\tli\ta0 ,\t0\r\n\r\n  ecall  # calls\r\n",
+    "\n# exits\n_start:li a7, 0x5D\nx: li a0,-0\n\ty:ecall",
+    ".globl _start\n.text\n_start: # here\nli a7, 93\nli a0, 0\nlast: ecall\r",
+];
+
+#[test]
+fn a_program_without_data_is_text_alone(rt: HostRuntime) -> Result<(), Fail> {
+    for source in EXITS {
+        check(&rt, source, "05d00893 00000513 00000073", b"")?;
+    }
     Ok(())
 }
 
