@@ -3,7 +3,8 @@ use elf_samples::program;
 use history::{History, Unkept, put_history};
 use hub::{Ended, Hub};
 use machine::{Machine, Silent};
-use schedule::{follow, read};
+use schedule::{Choice, follow, read};
+use std::alloc::{AllocError, Global};
 use std::process::Abort;
 use std::str;
 use std::sync::Mutex;
@@ -62,33 +63,49 @@ impl<'p, const SETS: usize, const WAYS: usize> Gate<Loan<'p, SETS, WAYS>> for Wh
     fn settled(&self, _hart: HartId, _turn: u64) {}
 }
 
+/// The choices that the lines of what was noted spell.
+fn choices_of(rt: &(impl Abort + AllocGlobal), history: &History) -> Result<Vec<Choice>, Fail> {
+    let mut sink = Taken {
+        bytes: Vec::new(rt.alloc()),
+        failed: 0,
+    };
+    assert!(rt; put_history(&mut sink, history).is_ok());
+    Ok(read(rt.alloc(), str::from_utf8(&sink.bytes)?)?)
+}
+
+/// A machine that the program of a hub begins in, as the hub did.
+fn begun_again(alloc: Global, end: &Ended<'_, 2, 1, History>) -> Result<Machine<2, 1>, Fail> {
+    let program = end.program.copy(alloc)?;
+    Ok(Machine::boot(alloc, program, end.harts, end.size)?)
+}
+
+/// Makes the steps that are chosen.
+fn play(machine: &mut Machine<2, 1>, choices: &[Choice]) -> Result<(), AllocError> {
+    let steps = choices.len().min(STEPS) as u32;
+    follow(machine, choices, steps, &mut Silent)
+}
+
+/// That two machines have the same registers and memory.
+fn check_same(rt: &impl Abort, machine: &Machine<2, 1>, other: &Machine<2, 1>) {
+    for number in 0..8 {
+        let hart = HartId::new(number);
+        assert_eq!(rt; machine.regs(hart), other.regs(hart));
+    }
+    for word in 0..2048u32 {
+        let addr = Addr::new(0x1000 + 4 * word);
+        assert_eq!(rt; machine.peek(addr), other.peek(addr));
+    }
+}
+
 /// That the lines of what was noted, played from the start, lead to the same registers and memory.
 fn check_again(
     rt: &(impl Abort + AllocGlobal),
     end: &Ended<'_, 2, 1, History>,
 ) -> Result<(), Fail> {
-    let mut sink = Taken {
-        bytes: Vec::new(rt.alloc()),
-        failed: 0,
-    };
-    assert!(rt; put_history(&mut sink, &end.journal).is_ok());
-    let choices = read(rt.alloc(), str::from_utf8(&sink.bytes)?)?;
-    let mut machine: Machine<2, 1> = Machine::boot(
-        rt.alloc(),
-        end.program.copy(rt.alloc())?,
-        end.harts,
-        end.size,
-    )?;
-    let steps = choices.len().min(STEPS) as u32;
-    follow(&mut machine, &choices, steps, &mut Silent)?;
-    for number in 0..8 {
-        let hart = HartId::new(number);
-        assert_eq!(rt; machine.regs(hart), end.machine.regs(hart));
-    }
-    for word in 0..2048u32 {
-        let addr = Addr::new(0x1000 + 4 * word);
-        assert_eq!(rt; machine.peek(addr), end.machine.peek(addr));
-    }
+    let choices = choices_of(rt, &end.journal)?;
+    let mut machine = begun_again(rt.alloc(), end)?;
+    play(&mut machine, &choices)?;
+    check_same(rt, &machine, &end.machine);
     Ok(())
 }
 
@@ -99,7 +116,9 @@ fn history_of_threads_plays_again(rt: HostRuntime) -> Result<(), Fail> {
     let code = Code::decoded(&program, &words);
     let hub: Kept = Hub::boot(rt.alloc(), code, 4, SIZE, History::new(rt.alloc()))?;
     let desk = Mutex::new(hub);
-    let ends = serve::<Kept, Whole, HostRuntime>(&rt, &desk, 4, &Whole, TURNS)?;
+    let ends = serve::<Kept, Whole, HostRuntime>(&rt, &desk, 4, &Whole, TURNS).expect(
+        &rt, "memory",
+    );
     assert_eq!(rt; ends.as_slice(), [End::Stopped; 4].as_slice());
     let end = desk.into_inner().finish();
     assert_eq!(rt; end.machine.peek(Addr::new(0x2000)), Some(4));
@@ -111,7 +130,9 @@ fn threads_run_where_nothing_is_kept(rt: HostRuntime) -> Result<(), Fail> {
     let program = program(rt.alloc(), &WAITS)?;
     let hub: Plain = Hub::boot(rt.alloc(), Code::new(&program), 2, SIZE, Unkept)?;
     let desk = Mutex::new(hub);
-    let ends = serve::<Plain, Whole, HostRuntime>(&rt, &desk, 2, &Whole, TURNS)?;
+    let ends = serve::<Plain, Whole, HostRuntime>(&rt, &desk, 2, &Whole, TURNS).expect(
+        &rt, "memory",
+    );
     assert_eq!(rt; ends.as_slice(), [End::Stopped; 2].as_slice());
     assert_eq!(rt;
         desk.into_inner().machine().peek(Addr::new(0x2000)),
@@ -120,25 +141,42 @@ fn threads_run_where_nothing_is_kept(rt: HostRuntime) -> Result<(), Fail> {
     Ok(())
 }
 
+/// That the loan which comes back first is settled, and then the late one is stale.
+fn check_settled<'p>(
+    rt: &impl Abort,
+    hub: &mut Kept<'p>,
+    first: &mut Loan<'p, 2, 1>,
+    late: &Loan<'p, 2, 1>,
+) {
+    assert_eq!(rt; first.run(3), 3);
+    assert!(rt; hub.settle(first).is_ok());
+    assert_eq!(rt; hub.settle(late), Err(Refusal::Stale));
+}
+
+/// That a loan is lent again where its hart runs, and stays as it is where there is none.
+fn check_lent_again<'p>(rt: &impl Abort, hub: &Kept<'p>, loan: &mut Loan<'p, 2, 1>) {
+    assert!(rt; !hub.lend_again(HartId::new(1), loan));
+    assert_eq!(rt; loan.len(), 3);
+    assert!(rt; hub.lend_again(HartId::new(0), loan));
+    assert!(rt; loan.is_empty());
+}
+
+/// Lends hart 0 twice, and settles both loans.
+fn check_loans<'p>(rt: &impl Abort, hub: &mut Kept<'p>) {
+    let zero = HartId::new(0);
+    let late = hub.lend(zero).expect(rt, "hart 0 runs");
+    let mut first = hub.lend(zero).expect(rt, "hart 0 runs");
+    check_settled(rt, hub, &mut first, &late);
+    check_lent_again(rt, hub, &mut first);
+}
+
 #[test]
 fn stale_loan_is_refused(rt: HostRuntime) -> Result<(), Fail> {
     let program = program(rt.alloc(), &WAITS)?;
     let code = Code::new(&program);
     let mut hub: Kept = Hub::boot(rt.alloc(), code, 1, SIZE, History::new(rt.alloc()))?;
-    let zero = HartId::new(0);
-    let lent = hub.lend(zero);
-    let ran = hub.lend(zero);
-    assert!(rt; lent.is_some());
     assert!(rt; hub.lend(HartId::new(1)).is_none());
-    if let (Some(late), Some(mut first)) = (lent, ran) {
-        assert_eq!(rt; first.run(3), 3);
-        assert!(rt; hub.settle(&first).is_ok());
-        assert_eq!(rt; hub.settle(&late), Err(Refusal::Stale));
-        assert!(rt; !hub.lend_again(HartId::new(1), &mut first));
-        assert_eq!(rt; first.len(), 3);
-        assert!(rt; hub.lend_again(zero, &mut first));
-        assert!(rt; first.is_empty());
-    }
-    assert!(rt; hub.visit(zero)?);
+    check_loans(&rt, &mut hub);
+    assert_eq!(rt; hub.visit(HartId::new(0)), Ok(true));
     check_again(&rt, &hub.finish())
 }
