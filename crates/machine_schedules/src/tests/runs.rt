@@ -35,32 +35,63 @@ fn take_turns(
     Ok(())
 }
 
-/// The entries of a run that is cut after so many steps, and goes on from there.
-fn entries_of(
+/// A run that is cut after so many steps, and goes on from there.
+fn run_in_two(
+    rt: &impl Abort,
+    machine: &mut Machine<16, 4>,
+    steps: &[Step],
+    cut: usize,
+    entries: &mut Vec<Entry>,
+) {
+    let (before, after) = steps.split_at(cut.min(steps.len()));
+    assert!(rt; machine.run(before, entries).is_ok());
+    assert!(rt; machine.run(after, entries).is_ok());
+}
+
+/// That the plain machine takes the entries, and then shows what the machine does.
+fn check_entries(
+    rt: &(impl Abort + AllocGlobal),
+    machine: &Machine<16, 4>,
+    entries: &[Entry],
+) -> Result<(), Fail> {
+    let checker = checked(rt.alloc(), &COUNTS, 2, SIZE, entries)?;
+    check_alike(rt, machine, &checker);
+    Ok(())
+}
+
+/// That a run which is cut after so many steps gives these entries.
+fn check_cut(
     rt: &(impl Abort + AllocGlobal),
     steps: &[Step],
     cut: usize,
-) -> Result<Vec<Entry>, Fail> {
+    whole: &[Entry],
+) -> Result<(), Fail> {
     let mut machine = booted::<16, 4>(rt.alloc(), &COUNTS, 2, SIZE)?;
     let mut entries = Vec::new(rt.alloc());
-    let (before, after) = steps.split_at(cut.min(steps.len()));
-    assert!(rt; machine.run(before, &mut entries).is_ok());
-    assert!(rt; machine.run(after, &mut entries).is_ok());
-    let checker = checked(rt.alloc(), &COUNTS, 2, SIZE, &entries)?;
-    check_alike(rt, &machine, &checker);
-    Ok(entries)
+    run_in_two(rt, &mut machine, steps, cut, &mut entries);
+    assert!(rt; entries.as_slice() == whole, "{cut}");
+    check_entries(rt, &machine, &entries)
+}
+
+/// The turns of two harts that count, and their entries.
+fn turns_of_two(
+    rt: &(impl Abort + AllocGlobal),
+    steps: &mut Vec<Step>,
+    entries: &mut Vec<Entry>,
+) -> Result<(), Fail> {
+    let mut machine = booted::<16, 4>(rt.alloc(), &COUNTS, 2, SIZE)?;
+    take_turns(&mut machine, 20_000, steps, entries)?;
+    Ok(())
 }
 
 #[test]
 fn a_run_that_is_cut_goes_on(rt: HostRuntime) -> Result<(), Fail> {
-    let mut machine = booted::<16, 4>(rt.alloc(), &COUNTS, 2, SIZE)?;
     let mut steps = Vec::new(rt.alloc());
     let mut whole = Vec::new(rt.alloc());
-    take_turns(&mut machine, 20_000, &mut steps, &mut whole)?;
+    turns_of_two(&rt, &mut steps, &mut whole)?;
     assert!(rt; whole.len() >= 1400);
     for cut in [0, 1, 2, 3, 10, 1000, 2999, 20_000] {
-        let entries = entries_of(&rt, &steps, cut)?;
-        assert!(rt; entries.as_slice() == whole.as_slice(), "{cut}");
+        check_cut(&rt, &steps, cut, &whole)?;
     }
     Ok(())
 }
@@ -124,20 +155,33 @@ fn check_end(rt: &impl Abort, machine: &Machine<2, 1>) {
     assert_eq!(rt; peek(machine, place()), Some(7));
 }
 
-// For `rt try --test --fail-alloc N`: memory that runs out once changes nothing, whichever allocation is refused.
-#[test]
-fn runs_or_wants_memory(rt: HostRuntime) -> Result<(), Fail> {
-    let Some(mut machine) = booted_or_none(&rt) else {
-        return Ok(());
+/// The twelve turns of the program, each tried again if memory ran out. `None` where there was none to begin with.
+fn turns_or_none(rt: &(impl Abort + AllocGlobal)) -> Result<Option<[Step; 12]>, Fail> {
+    let Some(mut machine) = booted_or_none(rt) else {
+        return Ok(None);
     };
     let steps = twelve_turns(&mut machine)?;
-    check_end(&rt, &machine);
-    let Some(mut other) = booted_or_none(&rt) else {
+    check_end(rt, &machine);
+    Ok(Some(steps))
+}
+
+/// That these steps in one run lead to the same end, if there is memory to begin with.
+fn check_run(rt: &(impl Abort + AllocGlobal), steps: &[Step]) -> Result<(), Fail> {
+    let Some(mut machine) = booted_or_none(rt) else {
         return Ok(());
     };
     let mut entries = Vec::new(rt.alloc());
-    run_or_go_on(&mut other, &steps, &mut entries)?;
-    check_end(&rt, &other);
+    run_or_go_on(&mut machine, steps, &mut entries)?;
+    check_end(rt, &machine);
     assert_eq!(rt; entries.len(), 8);
     Ok(())
+}
+
+// For `rt try --test --fail-alloc N`: memory that runs out once changes nothing, whichever allocation is refused.
+#[test]
+fn runs_or_wants_memory(rt: HostRuntime) -> Result<(), Fail> {
+    match turns_or_none(&rt)? {
+        Some(steps) => check_run(&rt, &steps),
+        None => Ok(()),
+    }
 }
