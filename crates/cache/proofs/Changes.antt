@@ -1,15 +1,17 @@
 -- Filling, replacing and removing a block's line.
-use Rattle.std.proofs.Common.{◌≡◌, ◌≢◌, ℕ, ◌<◌, ◌%◌, Bool, false, IsTrue, Option, Some, None, List, [], length, get_or, set, refl, sym, ◌∙◌, ap, arith, position, get_or-set_same, length-set, subst}
+use Rattle.std.proofs.Common.{◌≡◌, ◌≢◌, ℕ, ◌<◌, ◌%◌, Bool, true, false, is_some, map, IsTrue, Option, Some, None, List, [], length, get_or, set, refl, sym, ◌∙◌, ap, arith, position, get_or-set_same, length-set, subst}
 use Rattle.std.proofs.lemmas.Bool.Decides.{nat_tests}
 use Rattle.std.proofs.lemmas.Option.{same_Some}
 use Rattle.std.specs.Option.{option_map}
 use Rattle.cache.specs.declared.line.Line.{Line}
 use Rattle.words.specs.declared.message.LineState.TheVariants.{Modified}
-use Rattle.cache.specs.Ways.{holds, is_free}
+use Rattle.cache.specs.Ways.{holds, is_free, has_line}
 use Rattle.cache.specs.Sets.{Sets, at, line_at, with_way, CanStand, IsSound, HasRoom, with_first, SetsLine, ChangesLine}
 use Rattle.cache.proofs.Found.{IsFirst, is_first, some-position, held, holds-other, free_is_none, none-holds}
 use Rattle.cache.proofs.OneWay.{line_at-with_way, line_at-with_way_none, line_at-with_way_other}
 use Rattle.cache.proofs.Sound.{alone-holds, IsSound-with_way}
+use Rattle.cache.proofs.Occupied.{put_in, occupied-replaced}
+use lib.Seq.{map-set}
 
 -- what a write of the way that was found gives
 pub record Changed (test : Option Line → Bool) (count size : ℕ) (sets : Sets) (b w : ℕ) (x : Option Line) : Type 0 where
@@ -46,6 +48,13 @@ fill-changes count size sets w l sound len absent found clean =
       };
     }
 
+-- its set has a line then
+pub fill-occupied : (count : ℕ) (sets : Sets) (w b : ℕ) (l : Line) → position is_free (get_or sets (b % count) []) ≡ Some w → map has_line (with_way sets (b % count) w (Some l)) ≡ set (map has_line sets) (b % count) true
+fill-occupied count sets w b l found =
+    let ways : List (Option Line) = get_or sets (b % count) [] in
+    let first : IsFirst is_free ways w = is_first is_free ways w found in
+    map-set has_line sets (b % count) (set ways w (Some l)) ∙ ap (λ (o : Bool). set (map has_line sets) (b % count) o) (put_in ways w l first.inside)
+
 -- the line that stands in the way that holds a block
 pub record Stands (count : ℕ) (sets : Sets) (b w : ℕ) : Type 0 where
   pub line : Line
@@ -74,6 +83,12 @@ stands count size sets b w sound len found =
 stands-other : (count : ℕ) (sets : Sets) (b w a : ℕ) → Stands count sets b w → a ≢ b → holds a (at sets (b % count) w) ≡ false
 stands-other count sets b w a here ne =
     holds-other a (at sets (b % count) w) (λ m is same. ne (sym same ∙ ap (λ (n : Line). n.block) (same_Some m here.line (sym is ∙ here.here)) ∙ here.of_block))
+
+-- a line in the way that holds a block leaves which sets have a line
+pub kept-occupied : (count size : ℕ) (sets : Sets) (w b : ℕ) (x : Option Line) → IsSound count size sets → length sets ≡ count → position (holds b) (get_or sets (b % count) []) ≡ Some w → is_some x ≡ true → map has_line (with_way sets (b % count) w x) ≡ map has_line sets
+kept-occupied count size sets w b x sound len found some =
+    let old : Stands count sets b w = stands count size sets b w sound len found in
+    occupied-replaced sets (b % count) w old.line x old.inside old.here some
 
 -- a line comes into the way of its block's line
 pub replace-changes : (count size : ℕ) (sets : Sets) (w : ℕ) (l : Line) → IsSound count size sets → length sets ≡ count → position (holds l.block) (get_or sets (l.block % count) []) ≡ Some w → (IsTrue l.marks.written → l.state ≡ Modified) → Changed (holds l.block) count size sets l.block w (Some l)
@@ -130,6 +145,7 @@ changes-line count old new b f l m is of_block e h =
 pub record ChangedThere (count size : ℕ) (sets : Sets) (b w : ℕ) (f : Line → Line) : Type 0 where
   pub sound : IsSound count size (with_way sets (b % count) w (option_map f (at sets (b % count) w)))
   pub line : ChangesLine count sets (with_way sets (b % count) w (option_map f (at sets (b % count) w))) b f
+  pub occupied : map has_line (with_way sets (b % count) w (option_map f (at sets (b % count) w))) ≡ map has_line sets
 
 pub changes-there : (count size : ℕ) (sets : Sets) (w b : ℕ) (f : Line → Line) → IsSound count size sets → length sets ≡ count → position (holds b) (get_or sets (b % count) []) ≡ Some w → ((l : Line) → (f l).block ≡ l.block)
     → ((l : Line) → line_at count sets b ≡ Some l → IsTrue (f l).marks.written → (f l).state ≡ Modified) → ChangedThere count size sets b w f
@@ -147,4 +163,5 @@ changes-there count size sets w b f sound len found same owned =
       sound = subst (λ o. IsSound count size (with_way sets (b % count) w o)) (sym now) there.sound;
       line = subst (λ o. SetsLine (holds b) count sets (with_way sets (b % count) w o) b (option_map f (line_at count sets b))) (sym now)
           (subst (λ o. SetsLine (holds b) count sets (with_way sets (b % count) w (Some (f l))) b o) (sym (ap (option_map f) looked)) there.line);
+      occupied = kept-occupied count size sets w b (option_map f (at sets (b % count) w)) sound len found (rw old.here refl);
     }

@@ -1,5 +1,5 @@
 -- `==` of two caches decides that they are one value.
-use Rattle.std.proofs.Common.{rules, ◌≡◌, Bool, Option, Some, None, refl, sym, ap, Decides}
+use Rattle.std.proofs.Common.{rules, ◌≡◌, Bool, List, Option, Some, None, refl, sym, ap, Decides}
 use Rattle.std.specs.Option.{option_eq}
 use Rattle.std.specs.Cmp.{booleans_Decides}
 use Rattle.std.specs.Cmp.Lexicographic.{pointwise, pointwise_decides}
@@ -7,7 +7,6 @@ use Rattle.std.proofs.lemmas.Option.{same_Some, none-some}
 use Rattle.std.proofs.lemmas.Bool.{false≢true}
 use Rattle.std.proofs.lemmas.Bool.Decides.{Decides-eqb, Decides-and, Decides-like}
 use Rattle.cache.specs.declared.line.Line.{Line}
-use Rattle.cache.specs.Sets.{Sets}
 use Rattle.words.specs.declared.message.LineState.{LineState}
 use Rattle.words.specs.declared.marks.Marks.{Marks}
 use Rattle.words.specs.contracts.message.LineStatePartialEq.TheImpl as state
@@ -49,5 +48,5 @@ option-decides each None (Some b) = (λ e. absurd (false≢true e), λ e. absurd
 option-decides each (Some a) None = (λ e. absurd (false≢true e), λ e. absurd (none-some a (sym e)))
 option-decides each (Some a) (Some b) = (λ e. ap Some ((each a b).0 e), λ e. (each a b).1 (same_Some a b e))
 
-pub sets-decides : (a b : Sets) → Decides (pointwise (pointwise (option_eq line_eq)) a b) (a ≡ b)
-sets-decides = pointwise_decides (pointwise_decides (option-decides line-decides))
+pub ways-decides : (a b : List (Option Line)) → Decides (pointwise (option_eq line_eq) a b) (a ≡ b)
+ways-decides = pointwise_decides (option-decides line-decides)

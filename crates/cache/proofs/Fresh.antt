@@ -31,7 +31,7 @@ made_fresh count size sets len each =
     each s d within ∙ sym (ways-fresh count size s d within))
 
 -- no way has a line
-get_or-free_ways : (size w : ℕ) → get_or (free_ways size) w None ≡ None
+pub get_or-free_ways : (size w : ℕ) → get_or (free_ways size) w None ≡ None
 get_or-free_ways size w =
     elim (cases_lt w size) [
       | inl h ↦ get_or-replicate size w None None h

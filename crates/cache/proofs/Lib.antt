@@ -8,3 +8,4 @@ pub mod Fresh
 pub mod Cleared
 pub mod Equal
 pub mod StoredBytes
+pub mod Occupied

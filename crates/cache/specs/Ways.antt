@@ -21,6 +21,10 @@ abbrev pub is_unmarked : Option Line → Bool
 is_unmarked None = false
 is_unmarked (Some l) = not (is_marked l.marks)
 
+-- whether one of the ways has a line
+abbrev pub has_line : List (Option Line) → Bool
+has_line ways = is_some (position is_some ways)
+
 -- the line of the block, if one of the ways holds it
 abbrev pub line_in : ℕ → List (Option Line) → Option Line
 line_in b ways = option_and_then (λ way. get_or ways way None) (position (holds b) ways)

@@ -11,29 +11,37 @@ ghost use Rattle.cache.specs.Sets.{line_at, HasRoom, GoesFor, victim_at, SetsLin
 
 use crate::bytes::with_bytes;
 use crate::line::Line;
-use crate::ways::{Victim, clear_sets, free_way, line_of, mark, put_word, victim_of, way_of};
+use crate::sets::{assign_sets, clear_sets, same_sets};
+use crate::ways::{Victim, free_way, has_line, line_of, mark, put_word, victim_of, way_of};
 use std::array;
 use std::marker::Model;
 use words::{Addr, BLOCK_WORDS, Block, BlockNo, LineState, Marks, Width};
 
-/// A cache of SETS sets of WAYS ways each. The set of a block is its number modulo SETS.
+/// A cache of SETS sets of WAYS ways each. The set of a block is its number modulo SETS. It keeps which sets have a line at all, so that
+/// what goes over all lines passes over the other sets.
 #[derive(Clone, Copy, Debug, PartialEq, Eq)]
 pub struct Cache<const SETS: usize, const WAYS: usize> {
     sets: [[Option<Line>; WAYS]; SETS],
+    occupied: [bool; SETS],
 }
 
 impl<const SETS: usize, const WAYS: usize> Model for Cache<SETS, WAYS> {
     ghost use Rattle.std.specs.Prelude.{List, Option};
     ghost use Rattle.cache.specs.declared.line.Line.{Line};
+    ghost use Rattle.std.specs.Prelude.{◌≡◌, map};
+    ghost use Rattle.std.proofs.Common.{sym};
+    ghost use Rattle.cache.specs.Ways.{has_line};
     ghost use Rattle.cache.specs.Sets.{IsSound};
 
     ghost Value = { List (List (Option Line)) };
 
     ghost view = { λ c. c.sets };
 
-    ghost invariant = { λ c. IsSound SETS WAYS c.sets };
+    ghost invariant = { λ c. IsSound SETS WAYS c.sets × (c.occupied ≡ map has_line c.sets) };
 
-    ghost inverse = { λ v. record { sets = v } };
+    ghost inverse = { λ v. record { sets = v; occupied = map has_line v } };
+
+    ghost inverse_ok = { λ c h. λ i. record { sets = c.sets; occupied = sym h.1 i } };
 }
 
 impl<const SETS: usize, const WAYS: usize> Cache<SETS, WAYS> {
@@ -52,6 +60,7 @@ impl<const SETS: usize, const WAYS: usize> Cache<SETS, WAYS> {
                     ensures { result ≡ replicate WAYS None }
                 { [None; WAYS] },
             ),
+            occupied: [false; SETS],
         }
     }
 
@@ -202,9 +211,12 @@ impl<const SETS: usize, const WAYS: usize> Cache<SETS, WAYS> {
         ensures { FillsLine SETS self.old self.new block (filled block content state overflowed) }
     {
         let sets = &mut self.sets[..];
-        let ways = &mut sets[block.index() % SETS];
+        let set = block.index() % SETS;
+        let ways = &mut sets[set];
         if let Some(way) = free_way(ways) {
             ways[way] = Some(Line::filled(block, content, state, overflowed));
+            let occupied = &mut self.occupied[..];
+            occupied[set] = true;
         }
     }
 
@@ -216,9 +228,13 @@ impl<const SETS: usize, const WAYS: usize> Cache<SETS, WAYS> {
         ensures rooms { (b : ℕ) → HasRoom SETS self.old b → HasRoom SETS self.new b }
     {
         let sets = &mut self.sets[..];
-        let ways = &mut sets[block.index() % SETS];
+        let set = block.index() % SETS;
+        let ways = &mut sets[set];
         if let Some(way) = way_of(ways, block) {
             ways[way] = None;
+            let occupied = &mut self.occupied[..];
+            let sets = &self.sets[..];
+            occupied[set] = has_line(&sets[set]);
         }
     }
 
@@ -253,13 +269,27 @@ impl<const SETS: usize, const WAYS: usize> Cache<SETS, WAYS> {
         ensures ways { self.new ≡ map (map (option_map without_marks)) self.old }
         ensures lines { (b : ℕ) → line_at SETS self.new b ≡ option_map without_marks (line_at SETS self.old b) }
     {
-        clear_sets(&mut self.sets[..]);
+        clear_sets(&mut self.sets[..], &self.occupied[..]);
     }
 
-    /// Whether two caches have the same lines in the same ways.
+    /// Whether two caches have the same lines in the same ways. Reads only sets that have a line.
     pub fn same(&self, other: &Self) -> bool
         ensures { IsTrue result ↔ (self.now ≡ other.now) }
     {
-        *self == *other
+        self.occupied == other.occupied
+            && same_sets(&self.sets[..], &other.sets[..], &self.occupied[..])
+    }
+
+    /// Becomes a copy of another cache. Copies only sets in which either has a line.
+    pub fn assign(&mut self, other: &Self)
+        ensures { self.new ≡ other.now }
+    {
+        assign_sets(
+            &mut self.sets[..],
+            &self.occupied[..],
+            &other.sets[..],
+            &other.occupied[..],
+        );
+        self.occupied = other.occupied;
     }
 }

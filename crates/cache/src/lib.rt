@@ -5,6 +5,7 @@
 mod bytes;
 mod cache;
 mod line;
+mod sets;
 mod ways;
 
 pub use bytes::with_bytes;

@@ -2,7 +2,7 @@ ghost use Rattle.std.specs.Prelude.{◌≡◌, ◌<◌, position, length, is_som
 ghost use Rattle.std.specs.Option.{option_map};
 ghost use Rattle.words.specs.Limits.{block_words};
 ghost use Rattle.cache.specs.Line.{without_marks, with_marks, put_into, put_out_by};
-ghost use Rattle.cache.specs.Ways.{holds, is_free, is_unmarked, line_in, victim_in};
+ghost use Rattle.cache.specs.Ways.{holds, is_free, is_unmarked, has_line, line_in, victim_in};
 
 use crate::line::Line;
 use words::{BlockNo, LineState, Marks};
@@ -41,6 +41,20 @@ pub fn free_way(ways: &[Option<Line>]) -> Option<usize>
     ensures { result ≡ position is_free ways.now }
 {
     ways.iter().position(|way| way.is_none())
+}
+
+/// The lowest way with a line.
+fn used_way(ways: &[Option<Line>]) -> Option<usize>
+    ensures { result ≡ position is_some ways.now }
+{
+    ways.iter().position(|way| way.is_some())
+}
+
+/// Whether one of the ways has a line.
+pub fn has_line(ways: &[Option<Line>]) -> bool
+    ensures { result ≡ has_line ways.now }
+{
+    used_way(ways).is_some()
 }
 
 /// The lowest way that holds a line without marks.
@@ -120,16 +134,8 @@ pub fn put_word(ways: &mut [Option<Line>], way: usize, word: usize, value: u32, 
     }
 }
 
-/// Takes the marks of every line in these sets away.
-pub fn clear_sets<const WAYS: usize>(sets: &mut [[Option<Line>; WAYS]])
-    ensures { sets.new ≡ map (map (option_map without_marks)) sets.old }
-{
-    for ways in sets.iter_mut() {
-        clear_ways(ways);
-    }
-}
-
-fn clear_ways(ways: &mut [Option<Line>])
+/// Takes the marks of every line in these ways away.
+pub fn clear_ways(ways: &mut [Option<Line>])
     ensures { ways.new ≡ map (option_map without_marks) ways.old }
 {
     for way in ways.iter_mut() {

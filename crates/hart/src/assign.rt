@@ -4,7 +4,8 @@ use crate::hart::Hart;
 
 /// How a hart becomes a copy of another.
 impl<const SETS: usize, const WAYS: usize> Hart<SETS, WAYS> {
-    /// Becomes a copy of another hart, and copies only what the undo log of either was ever written.
+    /// Becomes a copy of another hart. Of the undo log it copies only what either was ever written, and of the cache only sets in which
+    /// either has a line.
     pub fn assign(&mut self, other: &Self)
         ensures { self.new ≡ other.now }
     {
@@ -18,6 +19,6 @@ impl<const SETS: usize, const WAYS: usize> Hart<SETS, WAYS> {
         self.put = other.put;
         self.regs = other.regs;
         self.tx.assign(&other.tx);
-        self.cache = other.cache;
+        self.cache.assign(&other.cache);
     }
 }
