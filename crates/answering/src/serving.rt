@@ -1,4 +1,4 @@
-ghost use Rattle.std.specs.Prelude.{◌≡◌, ◌≤◌, ◌<◌, ◌*◌, ◌^◌, ◌⊎◌, MatchResult};
+ghost use Rattle.std.specs.Prelude.{◌≡◌, ◌≤◌, ◌<◌, ◌*◌, ◌^◌, ◌⊎◌, MatchResult, OnErr};
 ghost use Rattle.words.specs.Limits.{most_harts};
 ghost use Rattle.machine.specs.States.{geometry};
 ghost use Rattle.hub.specs.Hubs.{IsEnd};
@@ -77,7 +77,9 @@ fn if_of<'p, 'a, const SETS: usize, const WAYS: usize, J: Journal>(
     size: u32,
 ) -> Result<Ended<'p, SETS, WAYS, J>, Stop<'a>>
     requires { IsEnd (geometry SETS WAYS) end.program.now end.harts end.size (J.tells end.journal) end.machine }
-    ensures { MatchResult result (λ end. IsEnd (geometry SETS WAYS) program.now harts size (J.tells end.journal) end.machine) (λ stop. stop ≡ Exchanged) }
+    ensures end { MatchResult result (λ end. IsEnd (geometry SETS WAYS) program.now harts size (J.tells end.journal) end.machine) (λ stop. stop ≡ Exchanged) }
+    // It is answered unless it was another's.
+    ensures exchanged { OnErr result ((end.entry.program.now ≡ program.now) × (end.entry.harts ≡ harts) × (end.entry.size ≡ size) → ⊥) }
 {
     if end.harts == harts && end.size == size && end.program.same(program) {
         Ok(end)

@@ -2,7 +2,7 @@ use Rattle.machine.specs.States.{geometry}
 use Rattle.answering.proofs.ThreadedRuns.{end_same}
 use Rattle.answering.proofs.serving.if_of.Goals as goal
 
-pub returns-then-same : goal.returns-then-same
-returns-then-same g c =
+pub returns-then-same-clause-end : goal.returns-then-same-clause-end
+returns-then-same-clause-end g c =
     end_same (geometry g.row.SETS g.row.WAYS) c.args.program.now c.args.end.program.now c.args.harts c.args.end.harts c.args.size c.args.end.size
     (g.J.Journal.tells c.args.end.journal) c.args.end.machine (c.same.ensures.0 c.if-same.true) c.if-end-harts.true c.if-end-size.true c.requires
