@@ -7,9 +7,9 @@ ghost use Rattle.answering.specs.declared.stop.Stop.TheVariants.{Refused, Exchan
 
 use crate::stop::Stop;
 use board::{Loan, STEPS};
-use history::Journal;
 use hub::{Ended, Hub};
 use loader::Program;
+use schedule::Journal;
 use std::alloc::{AllocError, Global};
 use std::sync::{Mutex, Wait};
 use std::thread::Threads;

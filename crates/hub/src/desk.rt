@@ -6,7 +6,7 @@ ghost use Rattle.hub.specs.Visits.{IsVisit, BeginsVisit};
 
 use crate::hub::Hub;
 use board::{Loan, Refusal};
-use history::Journal;
+use schedule::Journal;
 use std::alloc::AllocError;
 use words::HartId;
 use workers::Desk;

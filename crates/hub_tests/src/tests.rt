@@ -1,9 +1,8 @@
 use board::{Code, Loan, Refusal};
 use elf_samples::program;
-use history::{History, Unkept, put_history};
 use hub::{Ended, Hub};
 use machine::{Machine, Silent};
-use schedule::{Choice, follow, read};
+use schedule::{Choice, History, Unkept, follow, put_history, read};
 use std::alloc::{AllocError, Global};
 use std::process::Abort;
 use std::str;
