@@ -2,18 +2,20 @@ ghost use Rattle.std.specs.Prelude.{◌≡◌, MatchResult, Ok, Err};
 ghost use Rattle.words.specs.declared.sink.SinkFault.{SinkFault};
 ghost use Rattle.texts.specs.Puts.{Puts};
 ghost use Rattle.machine.specs.States.{geometry};
-ghost use Rattle.recorder.specs.Traces.{line_if, IsTraced, IsCut};
+ghost use Rattle.watch.specs.Traces.{line_if, IsTraced, IsCut};
 
+use crate::following::follow_watched;
+use crate::halt::Halt;
+use crate::watcher::{WatchFault, Watcher};
 use lines::put_entry;
 use machine::{Machine, Progress};
 use network::Flight;
 use schedule::Choice;
-use watch::{Halt, WatchFault, Watcher, follow_watched};
 use words::{Entry, Sink, Step};
 
 /// Notes the entries of steps in a sink, as lines.
 #[derive(Clone, Copy, Debug)]
-pub struct Recorder;
+struct Recorder;
 
 impl<M, S: Sink> Watcher<M, S> for Recorder {
     ghost notes = { λ _ before _ _ _ entry _ after. Puts (S.taken before) (S.taken after) (S.failed before) (S.failed after) (line_if entry) (Ok tt) };

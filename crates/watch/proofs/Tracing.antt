@@ -13,7 +13,7 @@ use Rattle.watch.specs.Moments.{Moment}
 use Rattle.watch.specs.declared.halt.Halt.{Halt}
 use Rattle.watch.specs.declared.halt.Halt.TheVariants.{NoMemory, Untold}
 use Rattle.watch.specs.Watched.{IsWatched, IsHalted}
-use Rattle.recorder.specs.Traces.{line_of, trace_of, IsTraced, IsCut}
+use Rattle.watch.specs.Traces.{line_of, trace_of, IsTraced, IsCut}
 
 -- the lines of some moments, and of one more
 trace_more : (ms : List Moment) (m : Moment) → trace_of ms ++ line_of m ≡ trace_of (ms ++ m ∷ [])

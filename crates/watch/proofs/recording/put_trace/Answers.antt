@@ -1,6 +1,6 @@
 use Rattle.machine.specs.States.{geometry}
-use Rattle.recorder.proofs.Tracing.{told}
-use Rattle.recorder.proofs.recording.put_trace.Goals as goal
+use Rattle.watch.proofs.Tracing.{told}
+use Rattle.watch.proofs.recording.put_trace.Goals as goal
 
 pub returns : goal.returns
 returns g c =
