@@ -11,7 +11,7 @@ use Rattle.watch.specs.declared.halt.Halt.{Halt}
 use Rattle.watch.specs.declared.halt.Halt.TheVariants as halt
 use Rattle.watch.specs.Traces.{trace_of}
 use Rattle.timeline.specs.Timelines.{begun_timeline, timeline_of}
-use Rattle.picture.specs.Pictures.{picture_of}
+use Rattle.timeline.specs.Pictures.{picture_of}
 use Rattle.simulate.specs.Faults.{fault_status, fault_text}
 use Rattle.simulate.specs.Orders.{geometry_of}
 use Rattle.simulate.specs.Refusals.{IsRunFault}

@@ -14,11 +14,10 @@ use crate::perform::{Begun, begin};
 use crate::report::conclude;
 use command_line::{Cache, Run};
 use machine::{Machine, Progress, Silent};
-use picture::put_picture;
 use schedule::Choice;
 use std::alloc::Global;
 use std::io::Write;
-use timeline::{Chart, put_timeline};
+use timeline::{Chart, put_picture, put_timeline};
 use watch::{Halt, put_trace};
 use words::{Counted, Sink, SinkFault};
 
