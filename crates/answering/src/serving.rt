@@ -6,7 +6,7 @@ ghost use Rattle.simulate.specs.declared.fault.Fault.TheVariants.{NoMemory};
 ghost use Rattle.answering.specs.declared.stop.Stop.TheVariants.{Refused, Exchanged};
 
 use crate::stop::Stop;
-use board::{Loan, STEPS};
+use board::{Gate, Loan, STEPS, serve};
 use hub::{Ended, Hub};
 use loader::Program;
 use schedule::Journal;
@@ -14,7 +14,6 @@ use std::alloc::{AllocError, Global};
 use std::sync::{Mutex, Wait};
 use std::thread::Threads;
 use words::HartId;
-use workers::{Gate, serve};
 
 /// Runs each loan as far as it goes.
 #[derive(Drop)]

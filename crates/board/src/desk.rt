@@ -3,7 +3,9 @@ ghost use Rattle.machine.specs.States.{geometry};
 ghost use Rattle.board.specs.Boards.{IsRunning, IsLent, Fits, settled, IsRefusedFor};
 ghost use Rattle.board.specs.Visits.{IsVisit, BeginsVisit};
 
-use board::{Board, Lease, Refusal};
+use crate::board::Board;
+use crate::lease::Lease;
+use crate::refusal::Refusal;
 use std::alloc::{AllocError, Allocator};
 use words::HartId;
 

@@ -4,8 +4,8 @@ ghost use Rattle.words.specs.Limits.{most_harts};
 
 use crate::desk::{Desk, Gate};
 use crate::end::End;
+use crate::refusal::Refusal;
 use arrayvec::ArrayVec;
-use board::Refusal;
 use std::alloc::AllocError;
 use std::sync::{Mutex, MutexGuard, Wait};
 use std::thread::Threads;
