@@ -2,7 +2,7 @@
 #![tactic(auto)]
 
 use answering::answer;
-use console::{LineInput, Typed};
+use debugger::{LineInput, Typed};
 use machine::Progress;
 use meter::Meter;
 use simulate::Fault;
