@@ -1,6 +1,6 @@
 use Rattle.std.proofs.Common.{◌∙◌, ◌+◌, ap, inr, min, sym}
 use Rattle.std.specs.Duration.{as_nanos, max_nanos}
-use Rattle.meter.proofs.meter.MeterProgress.tell.Goals as goal
+use Rattle.answering.proofs.meter.MeterProgress.tell.Goals as goal
 
 -- a line was due, and is put
 pub returns-clause-shown : goal.returns-clause-shown

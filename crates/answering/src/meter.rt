@@ -2,7 +2,7 @@ ghost use Rattle.std.specs.Prelude.{◌≡◌, ◌+◌, ◌≤◌, ◌⊎◌, �
 ghost use Rattle.std.specs.Duration.{as_nanos, max_nanos};
 ghost use Rattle.texts.specs.Puts.{Puts};
 ghost use Rattle.words.specs.declared.sink.SinkFault.{SinkFault as Fault};
-ghost use Rattle.meter.specs.Lines.{clear, a_second, progress_line};
+ghost use Rattle.answering.specs.ProgressLines.{clear, a_second, progress_line};
 
 use itoa::Buffer;
 use machine::{PACE, Progress};

@@ -1,4 +1,4 @@
-use Rattle.meter.proofs.meter.MeterProgress.end.Goals as goal
+use Rattle.answering.proofs.meter.MeterProgress.end.Goals as goal
 
 -- a line that stands is cleared
 pub returns-then-self-clause-clears : goal.returns-then-self-clause-clears
