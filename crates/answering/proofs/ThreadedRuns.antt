@@ -19,7 +19,7 @@ use Rattle.protocol.specs.Start.{start}
 use Rattle.machine.specs.States.{State, setting_of, shown}
 use Rattle.board.specs.Boards.{first_flat}
 use Rattle.schedule.specs.declared.choices.Choice.{Choice}
-use Rattle.history.specs.Lines.{text_of, IsWritable}
+use Rattle.schedule.specs.Written.{text_of, IsWritable}
 use Rattle.hub.specs.Hubs.{IsEnd}
 use Rattle.watch.specs.Moments.{Moment}
 use Rattle.watch.proofs.Moments.{steps_by}

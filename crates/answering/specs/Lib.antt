@@ -1,2 +1,3 @@
 pub mod Stops
 pub mod Threaded
+pub mod ProgressLines

@@ -1,6 +1,6 @@
 use crate::threads::{run_kept, run_threaded};
 use command_line::{Debug, Order, Request, Run, Shown, Target, Threaded, View, parse};
-use console::LineInput;
+use debugger::LineInput;
 use machine::Progress;
 use simulate::Fault;
 use simulate::debugging::play;

@@ -6,15 +6,14 @@ ghost use Rattle.simulate.specs.declared.fault.Fault.TheVariants.{NoMemory};
 ghost use Rattle.answering.specs.declared.stop.Stop.TheVariants.{Refused, Exchanged};
 
 use crate::stop::Stop;
-use board::{Loan, STEPS};
-use history::Journal;
+use board::{Gate, Loan, STEPS, serve};
 use hub::{Ended, Hub};
 use loader::Program;
+use schedule::Journal;
 use std::alloc::{AllocError, Global};
 use std::sync::{Mutex, Wait};
 use std::thread::Threads;
 use words::HartId;
-use workers::{Gate, serve};
 
 /// Runs each loan as far as it goes.
 #[derive(Drop)]

@@ -1,1 +1,5 @@
 mod Words
+mod Lists
+mod Reading
+mod Sent
+mod Showing

@@ -1,3 +1,6 @@
 mod Going
 mod Made
 mod Looked
+mod Keeping
+mod Ending
+mod Exchanging

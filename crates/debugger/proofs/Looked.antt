@@ -9,7 +9,7 @@ use Rattle.commands.specs.declared.command.Command.TheVariants.{Step, Run, Break
 use Rattle.commands.specs.declared.command.Look.{Look}
 use Rattle.commands.specs.declared.fault.DebugFault.{DebugFault}
 use Rattle.commands.specs.declared.fault.DebugFault.TheVariants.{Device}
-use Rattle.looks.specs.Looks.{Shows, refusal, told}
+use Rattle.commands.specs.Looks.{Shows, refusal, told}
 use Rattle.debugger.specs.declared.session.Flow.{Flow}
 use Rattle.debugger.specs.Sessions.{Session, IsDeedRefused}
 use Rattle.debugger.specs.Answers.{Carries, Answers, IsRefused}

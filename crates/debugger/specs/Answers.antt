@@ -11,7 +11,7 @@ use Rattle.commands.specs.declared.fault.DebugFault.TheVariants.{Device}
 use Rattle.debugger.specs.declared.report.Report.{Report}
 use Rattle.debugger.specs.declared.session.Flow.{Flow}
 use Rattle.debugger.specs.declared.session.Flow.TheVariants as flow
-use Rattle.looks.specs.Looks.{Shows, refusal}
+use Rattle.commands.specs.Looks.{Shows, refusal}
 use Rattle.machine.specs.States.{State}
 use Rattle.debugger.specs.Sessions.{Session, Does, Fails, IsDeedRefused}
 use Rattle.debugger.specs.Texts.{IsTextOf}

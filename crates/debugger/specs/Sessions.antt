@@ -22,7 +22,7 @@ use Rattle.commands.specs.declared.command.Command.{Command}
 use Rattle.commands.specs.declared.command.Command.TheVariants.{Step, Run, Break, Core, Evict, Deliver, Look, Comment, Quit}
 use Rattle.commands.specs.declared.fault.DebugFault.{DebugFault}
 use Rattle.commands.specs.declared.fault.DebugFault.TheVariants.{Stopped, Limit, NoMemory}
-use Rattle.looks.specs.Refusals.{hart_fault, word_fault, text_fault}
+use Rattle.commands.specs.Refusals.{hart_fault, word_fault, text_fault}
 use Rattle.debugger.specs.declared.report.Report.{Report}
 use Rattle.debugger.specs.declared.report.Report.TheVariants as told
 

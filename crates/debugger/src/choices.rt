@@ -10,8 +10,7 @@ ghost use Rattle.debugger.specs.Sessions.{Chooses, LacksRoom, Does, Fails, IsDee
 use crate::report::Report;
 use crate::session::Session;
 use crate::turns::place_of;
-use commands::DebugFault;
-use looks::{hart_of, text_at, word_at};
+use commands::{DebugFault, hart_of, text_at, word_at};
 use machine::hart_after;
 use schedule::{Choice, Name, Sort};
 

@@ -1,12 +1,11 @@
 ghost use Rattle.std.specs.Prelude.{◌≡◌, Some, Err};
 ghost use Rattle.machine.specs.States.{geometry};
 ghost use Rattle.commands.specs.declared.fault.DebugFault.{DebugFault as Fault};
-ghost use Rattle.looks.specs.Looks.{refusal};
+ghost use Rattle.commands.specs.Looks.{refusal};
 ghost use Rattle.debugger.specs.Answers.{Answers, ShowsLook, IsRefused};
 
 use crate::session::{Flow, Session};
-use commands::{Command, DebugFault, Look};
-use looks::look;
+use commands::{Command, DebugFault, Look, look};
 use machine::Machine;
 use words::Sink;
 

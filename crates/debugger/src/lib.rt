@@ -1,15 +1,27 @@
 //! A debugging session: a machine, the breakpoints that were set, and what each command does and tells.
 //!
 //! A session goes on by turns, as [`machine::Machine::next_turn`] names them, or by steps that are chosen by hand.
+//!
+//! It answers lines that are asked for and read from an input, as standard input, one after the other, until no more are wanted or there is none.
 #![tactic(auto)]
 
 mod answer;
 mod choices;
 mod command;
+mod debugging;
+mod fault;
+mod input;
+mod line_answers;
+mod playing;
 mod report;
 mod session;
 mod tell;
 mod turns;
 
+pub use debugging::debug;
+pub use fault::ConsoleFault;
+pub use input::{KEPT, LineInput, Reading, Typed};
+pub use line_answers::Debugged;
+pub use playing::play;
 pub use report::Report;
 pub use session::{Flow, Session};

@@ -1,6 +1,8 @@
 use elf_samples::Breaking;
-use history::{History, Journal, Unkept, put_history, written_choices_are_read};
-use schedule::{Choice, Name, ScheduleFault, Sort, read};
+use schedule::{
+    Choice, History, Journal, Name, ScheduleFault, Sort, Unkept, put_history, read,
+    written_choices_are_read,
+};
 use std::alloc::{AllocError, Global};
 use std::test::Fail;
 use words::{BlockNo, HartId, Taken};

@@ -17,7 +17,7 @@ use Rattle.board.proofs.Replays.{Begins, run_settings, replay_segments, replay_f
 use Rattle.schedule.specs.declared.choices.Choice.{Choice}
 use Rattle.schedule.specs.declared.choices.Choice.TheVariants.{Core, Evict, Deliver, Turn}
 use Rattle.schedule.specs.Follows.{Makes, Follows, last_after}
-use Rattle.history.specs.Lines.{IsWritable}
+use Rattle.schedule.specs.Written.{IsWritable}
 use Rattle.hub.specs.Hubs.{IsChoiceOf, IsWithin, Leads, IsCourse, IsKept, IsEnd}
 
 -- choices behind others

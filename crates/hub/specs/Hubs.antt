@@ -22,7 +22,7 @@ use Rattle.schedule.specs.declared.choices.Choice.{Choice}
 use Rattle.schedule.specs.declared.choices.Choice.TheVariants.{Core, Evict, Deliver, Turn}
 use Rattle.schedule.specs.Steps.{IsStepOf}
 use Rattle.schedule.specs.Follows.{Follows}
-use Rattle.history.specs.Lines.{IsWritable}
+use Rattle.schedule.specs.Written.{IsWritable}
 
 -- a program with a number of harts and of bytes of memory, the machine, and the journal
 pub record Held (J : Type 0) : Type 0 where

@@ -7,9 +7,8 @@ ghost use Rattle.schedule.specs.Follows.{Makes};
 ghost use Rattle.board.specs.Visits.{Owes};
 ghost use Rattle.hub.specs.Hubs.{IsChoiceOf, IsNamedIn, IsWithin, TellsMore, TellsStill};
 
-use history::Journal;
 use machine::Machine;
-use schedule::{Choice, Name, name_of};
+use schedule::{Choice, Journal, Name, name_of};
 use std::alloc::AllocError;
 use words::{HartId, Step};
 

@@ -5,11 +5,10 @@ ghost use Rattle.hub.specs.Hubs.{IsLent, Fits, IsRefusedFor, IsSettled, IsAsBefo
 ghost use Rattle.hub.specs.Visits.{IsVisit, BeginsVisit};
 
 use crate::hub::Hub;
-use board::{Loan, Refusal};
-use history::Journal;
+use board::{Desk, Loan, Refusal};
+use schedule::Journal;
 use std::alloc::AllocError;
 use words::HartId;
-use workers::Desk;
 
 impl<'p, const SETS: usize, const WAYS: usize, J: Journal> Desk for Hub<'p, SETS, WAYS, J> {
     type Lease = Loan<'p, SETS, WAYS>;

@@ -8,9 +8,9 @@ ghost use Rattle.hub.specs.Hubs.{IsFirst, IsLent, Fits, IsRefusedFor, IsSettled,
 use crate::lending::take_over;
 use board::{Code, Loan, Refusal, running};
 use flat::BootFault;
-use history::Journal;
 use loader::Program;
 use machine::Machine;
+use schedule::Journal;
 use std::alloc::{AllocError, Global};
 use std::marker::Model;
 use words::HartId;

@@ -7,9 +7,8 @@ ghost use Rattle.machine.specs.Lent.{hart_if, with_hart};
 ghost use Rattle.hub.specs.Hubs.{Leads, TellsMore, TellsStill};
 
 use board::Loan;
-use history::Journal;
 use machine::Machine;
-use schedule::Choice;
+use schedule::{Choice, Journal};
 use std::alloc::AllocError;
 
 /// Puts the hart of a loan back in its place. What it is now it has become by itself, and its steps are choices of its core.

@@ -7,8 +7,7 @@ ghost use Rattle.hub.specs.Visits.{IsTurn, PaysOne, IsVisit, BeginsVisit};
 use crate::choosing::{Chosen, make, owed};
 use crate::hub::Hub;
 use board::is_running;
-use history::Journal;
-use schedule::Choice;
+use schedule::{Choice, Journal};
 use std::alloc::AllocError;
 use words::{HartId, Step};
 

@@ -1,9 +1,8 @@
-use board::{Code, Loan, Refusal};
+use board::{Code, End, Gate, Loan, Refusal, serve};
 use elf_samples::program;
-use history::{History, Unkept, put_history};
 use hub::{Ended, Hub};
 use machine::{Machine, Silent};
-use schedule::{Choice, follow, read};
+use schedule::{Choice, History, Unkept, follow, put_history, read};
 use std::alloc::{AllocError, Global};
 use std::process::Abort;
 use std::str;
@@ -11,7 +10,6 @@ use std::sync::Mutex;
 use std::test::Fail;
 use table::DecodedText;
 use words::{Addr, HartId, Taken};
-use workers::{End, Gate, serve};
 
 /// Adds 1 to the word at 0x2000 in a transaction, and exits with 0. After each abort a hart waits before it tries again, longer than the time
 /// before, and each for a time of its own.

@@ -1,10 +1,9 @@
 //! The program `logtm`: it answers its command line.
 #![tactic(auto)]
 
-use answering::answer;
-use console::{LineInput, Typed};
+use answering::{Meter, answer};
+use debugger::{LineInput, Typed};
 use machine::Progress;
-use meter::Meter;
 use simulate::Fault;
 use std::env;
 use std::io::{ErrorKind, IsTerminal, Lock, Read, Write};

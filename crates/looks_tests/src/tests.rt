@@ -1,6 +1,5 @@
-use commands::{DebugFault, Look, help};
+use commands::{DebugFault, Look, help, look};
 use elf_samples::{Breaking, COMMITS};
-use looks::look;
 use machine::Machine;
 use machine_play::{LARGE, STORES_ONCE, booted, make, next_message, next_turn, one, zero};
 use std::alloc::{AllocError, Global};

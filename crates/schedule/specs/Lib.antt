@@ -2,3 +2,5 @@ pub mod Spelling
 pub mod Lines
 pub mod Steps
 pub mod Follows
+pub mod Written
+pub mod Histories

@@ -18,7 +18,7 @@ use Rattle.tally.specs.declared.counting.Tally.{Tally}
 use Rattle.tally.specs.Kinds.{count_at, number_of}
 use Rattle.tally.specs.Traffic.{figure_at, figure_of}
 use Rattle.tally.specs.Runs.{IsTally}
-use Rattle.count_texts.proofs.Same.{same_table, same_csv, same_machine_table, same_machine_lines}
+use Rattle.tally.proofs.SameTexts.{same_table, same_csv, same_machine_table, same_machine_lines}
 use Rattle.texts.specs.Puts.{Puts}
 use Rattle.texts.proofs.Putting.{puts-both, puts-cut}
 use Rattle.simulate.specs.Answers.{IsGiven}

@@ -11,9 +11,9 @@ use Rattle.watch.specs.Moments.{Moment}
 use Rattle.watch.specs.Watched.{PlaysWith}
 use Rattle.watch.specs.declared.halt.Halt.{Halt}
 use Rattle.watch.specs.declared.halt.Halt.TheVariants as halt
-use Rattle.recorder.specs.Traces.{trace_of, Took, IsTraced, IsCut}
+use Rattle.watch.specs.Traces.{trace_of, Took, IsTraced, IsCut}
 use Rattle.timeline.specs.Timelines as timeline
-use Rattle.picture.specs.Pictures.{IsPictured, IsNotPictured}
+use Rattle.timeline.specs.Pictures.{IsPictured, IsNotPictured}
 use Rattle.texts.specs.Puts.{Puts}
 use Rattle.texts.proofs.Putting.{puts-both, puts-same}
 use Rattle.simulate.specs.Begins.{IsBegunBy}

@@ -13,8 +13,8 @@ use Rattle.tally.specs.declared.kinds.Kind.{Kind}
 use Rattle.tally.specs.Kinds.{count_at, number_of}
 use Rattle.tally.specs.Traffic.{figure_at, figure_of}
 use Rattle.tally.specs.Runs.{IsTally}
-use Rattle.count_texts.specs.Tables.{table, csv}
-use Rattle.count_texts.specs.Machines.{machine_table, machine_lines}
+use Rattle.tally.specs.CountTexts.{table, csv}
+use Rattle.tally.specs.MachineTexts.{machine_table, machine_lines}
 
 -- the counts of so many harts, and what is told of the machine, in a form
 abbrev pub counts_text : Stats → (ℕ → Kind → ℕ) → ℕ → (Figure → ℕ) → List ℕ

@@ -3,10 +3,10 @@ use Rattle.std.specs.Prelude.{ℕ, ◌≡◌, ◌⊎◌, List, [], Option, Resul
 use Rattle.protocol.specs.Caches.{Geometry}
 use Rattle.machine.specs.States.{State}
 use Rattle.command_line.specs.declared.request.Debug.{Debug}
-use Rattle.console.specs.declared.fault.ConsoleFault.{ConsoleFault}
-use Rattle.console.specs.declared.fault.ConsoleFault.TheVariants.{Unreadable, Unwritten}
-use Rattle.console.specs.Plays.{Giving}
-use Rattle.console.specs.Debugging.{IsDebugged}
+use Rattle.debugger.specs.declared.fault.ConsoleFault.{ConsoleFault}
+use Rattle.debugger.specs.declared.fault.ConsoleFault.TheVariants.{Unreadable, Unwritten}
+use Rattle.debugger.specs.Plays.{Giving}
+use Rattle.debugger.specs.Debugging.{IsDebugged}
 use Rattle.simulate.specs.Faults.{fault_status, fault_text, line}
 use Rattle.simulate.specs.Sinks.{IsPut, IsUntouched}
 use Rattle.simulate.specs.Starts.{IsStartOf, IsStartFault}

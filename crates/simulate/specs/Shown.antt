@@ -9,9 +9,9 @@ use Rattle.watch.specs.Moments.{Moment}
 use Rattle.watch.specs.Watched.{PlaysWith}
 use Rattle.watch.specs.declared.halt.Halt.{Halt}
 use Rattle.watch.specs.declared.halt.Halt.TheVariants as halt
-use Rattle.recorder.specs.Traces.{trace_of}
+use Rattle.watch.specs.Traces.{trace_of}
 use Rattle.timeline.specs.Timelines.{begun_timeline, timeline_of}
-use Rattle.picture.specs.Pictures.{picture_of}
+use Rattle.timeline.specs.Pictures.{picture_of}
 use Rattle.simulate.specs.Faults.{fault_status, fault_text}
 use Rattle.simulate.specs.Orders.{geometry_of}
 use Rattle.simulate.specs.Refusals.{IsRunFault}

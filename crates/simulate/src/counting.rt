@@ -9,11 +9,10 @@ ghost use Rattle.command_line.specs.declared.request.Stats.TheVariants.{Table, C
 ghost use Rattle.simulate.specs.Counted.{counts_part, counts_text, IsCountedIn};
 
 use command_line::Stats;
-use count_texts::{put_csv, put_machine_csv, put_machine_table, put_table};
 use machine::{Machine, Progress};
 use schedule::{Choice, follow};
 use std::alloc::AllocError;
-use tally::{Tally, tally_run};
+use tally::{Tally, put_csv, put_machine_csv, put_machine_table, put_table, tally_run};
 use words::{Sink, SinkFault};
 
 /// Makes the steps of a run, and counts what they do if a form is asked for. Progress is told on the way, and ends with them. It fails only if

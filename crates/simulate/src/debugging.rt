@@ -7,7 +7,7 @@ ghost use Rattle.simulate.specs.Debugging.{IsPlayedByHand, TellsEnd};
 use crate::fault::{Fault, put_line};
 use crate::perform::boot;
 use command_line::{Cache, Debug};
-use console::{ConsoleFault, LineInput};
+use debugger::{ConsoleFault, LineInput};
 use std::alloc::Global;
 use words::Sink;
 
@@ -55,7 +55,7 @@ fn play_on<const SETS: usize, const WAYS: usize, I: LineInput, O: Sink, E: Sink>
 {
     match boot::<SETS, WAYS>(alloc, debug.file, file, debug.harts, debug.memory) {
         Ok(machine) => {
-            let end = console::debug(machine, input, prompt, error, out);
+            let end = debugger::debug(machine, input, prompt, error, out);
             tell_end(&end, error)
         }
         Err(fault) => fault.tell(error),

@@ -14,13 +14,11 @@ use crate::perform::{Begun, begin};
 use crate::report::conclude;
 use command_line::{Cache, Run};
 use machine::{Machine, Progress, Silent};
-use picture::put_picture;
-use recorder::put_trace;
 use schedule::Choice;
 use std::alloc::Global;
 use std::io::Write;
-use timeline::{Chart, put_timeline};
-use watch::Halt;
+use timeline::{Chart, put_picture, put_timeline};
+use watch::{Halt, put_trace};
 use words::{Counted, Sink, SinkFault};
 
 /// What is shown of a run.

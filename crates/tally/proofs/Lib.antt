@@ -5,3 +5,4 @@ mod Running
 mod Sending
 mod Tallying
 mod Zeros
+pub mod SameTexts

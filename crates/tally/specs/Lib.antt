@@ -1,3 +1,5 @@
 pub mod Kinds
 pub mod Traffic
 pub mod Runs
+pub mod CountTexts
+pub mod MachineTexts

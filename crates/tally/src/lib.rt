@@ -1,15 +1,22 @@
 //! The numbers of a run: how often each hart retired, aborted, refused and spilled; its steps by kind, its messages by sort, and how much was in
-//! flight and in use.
+//! flight and in use. As text they are a table for people, or lines for scripts.
 #![tactic(auto)]
 
 mod cells;
 mod counting;
+mod csv_text;
 mod figures;
 mod kinds;
+mod machine_text;
+mod names;
+mod table_text;
 mod traffic;
 
 pub use cells::Counts;
 pub use counting::{Tally, tally_run};
+pub use csv_text::put_csv;
 pub use figures::{Figure, Sum};
 pub use kinds::Kind;
+pub use machine_text::{put_machine_csv, put_machine_table};
+pub use table_text::put_table;
 pub use traffic::Traffic;

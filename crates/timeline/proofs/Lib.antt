@@ -1,3 +1,5 @@
 mod Drawing
 mod Sending
 mod Showing
+mod Finding
+mod Noting

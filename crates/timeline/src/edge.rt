@@ -9,7 +9,7 @@ use words::{Entry, HartId};
 
 /// What becomes of a hart's transaction, the outermost one.
 #[derive(Clone, Copy, Debug, PartialEq, Eq)]
-pub enum Edge {
+pub(crate) enum Edge {
     /// It stays as it is: one runs, or none.
     Neither,
     Begun,
@@ -39,7 +39,7 @@ fn edge_of_word(word: u32, depth: u8) -> Edge
 }
 
 /// What an entry did to the transaction of its hart, on the machine behind it.
-pub fn edge_at<const SETS: usize, const WAYS: usize>(
+pub(crate) fn edge_at<const SETS: usize, const WAYS: usize>(
     entry: &Option<Entry>,
     machine: &Machine<SETS, WAYS>,
 ) -> Edge

@@ -30,7 +30,7 @@ fn receiving_lane(message: &Message) -> usize
 }
 
 /// The lane in which a step is shown.
-pub fn lane(step: &Step, arrival: &Option<Flight>) -> usize
+pub(crate) fn lane(step: &Step, arrival: &Option<Flight>) -> usize
     ensures { result ≡ spec.lane_of step.now arrival.now }
 {
     match (step, arrival) {
@@ -41,7 +41,7 @@ pub fn lane(step: &Step, arrival: &Option<Flight>) -> usize
 }
 
 /// Puts what a step is called.
-pub fn put_label<S: Sink>(
+pub(crate) fn put_label<S: Sink>(
     sink: &mut S,
     step: &Step,
     arrival: &Option<Flight>,

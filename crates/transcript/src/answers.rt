@@ -1,6 +1,6 @@
 use crate::echo::Echoed;
 use answering::answer;
-use console::{LineInput, Typed};
+use debugger::{LineInput, Typed};
 use machine::Silent;
 use std::io::Read;
 use std::rt::Files;

@@ -1,4 +1,4 @@
-use console::{LineInput, Reading};
+use debugger::{LineInput, Reading};
 use texts::put_all;
 use words::Sink;
 

@@ -1,3 +1,4 @@
 pub mod Moments
 pub mod Watching
 pub mod Lengths
+mod Tracing

@@ -1,7 +1,7 @@
 //! The calls that workers make of a board and of their gate, in order.
 
 use super::play::TEN;
-use board::{Board, Lease, Refusal};
+use board::{Board, Desk, End, Gate, Lease, Refusal, serve, work};
 use elf_samples::program;
 use loader::Program;
 use machine_play::{SIZE, one, zero};
@@ -11,7 +11,6 @@ use std::process::Abort;
 use std::sync::{Mutex, Wait};
 use std::test::Fail;
 use words::HartId;
-use workers::{Desk, End, Gate, serve, work};
 
 type Loan<'p> = Lease<'p, 2, 1>;
 

@@ -4,7 +4,7 @@ ghost use Rattle.std.specs.Prelude.{◌≤◌, ◌<◌, ◌*◌, ◌^◌};
 
 use super::gates::Runs;
 use super::play::{WAITS, check_again};
-use board::{Board, Finished};
+use board::{Board, End, Finished, serve};
 use elf_samples::{COUNTS, program};
 use loader::Program;
 use machine_play::{SIZE, peek, place};
@@ -13,7 +13,6 @@ use std::process::Abort;
 use std::sync::{Mutex, Wait};
 use std::test::Fail;
 use std::thread::Threads;
-use workers::{End, serve};
 
 /// The board of a program that so many harts have run in threads, so many turns each, and whether all of them have ended.
 fn served<'p, const SETS: usize, const WAYS: usize, R: Threads + Wait + AllocGlobal + Sync>(

@@ -1,9 +1,8 @@
 //! What workers do with their leases.
 
-use board::Lease;
+use board::{Gate, Lease};
 use std::sync::atomic::{AtomicU64, Ordering};
 use words::HartId;
-use workers::Gate;
 
 /// Runs each lease by so many steps at most.
 #[derive(Drop)]

@@ -4,7 +4,7 @@ ghost use Rattle.std.specs.Prelude.{◌≤◌, ◌<◌};
 
 use super::gates::Runs;
 use super::play::{check_again, made};
-use board::{Board, Finished, Refusal};
+use board::{Board, End, Finished, Refusal, work};
 use elf_samples::{COMMITS, program};
 use linked_list_allocator::LocalHeap;
 use loader::Program;
@@ -14,7 +14,6 @@ use std::process::Abort;
 use std::sync::{Mutex, Wait};
 use std::test::Fail;
 use words::Step;
-use workers::{End, work};
 
 type Small<'p, 'h> = Board<'p, 2, 1, &'h LocalHeap>;
 

@@ -2,14 +2,13 @@
 
 use super::gates::{Meeting, Runs};
 use super::play::TEN;
-use board::Board;
+use board::{Board, End, serve};
 use elf_samples::program;
 use machine_play::{SIZE, one, zero};
 use std::process::Abort;
 use std::sync::Mutex;
 use std::test::Fail;
 use words::{Entry, HartId};
-use workers::{End, serve};
 
 type Small<'p> = Board<'p, 2, 1>;
 

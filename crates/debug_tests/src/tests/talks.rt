@@ -1,6 +1,6 @@
 //! Lines that are typed, with what the user is told and how often they are asked for.
 use commands::{Command, DebugFault};
-use console::{ConsoleFault, Debugged, Typed, play};
+use debugger::{ConsoleFault, Debugged, Typed, play};
 use std::alloc::Global;
 use std::io;
 use std::io::{ErrorKind, Read};

@@ -2,10 +2,10 @@
 use super::booted::booted;
 use super::refusing::Refusing;
 use elf_samples::{ABORTS, COMMITS};
-use picture::put_picture;
 use std::alloc::Global;
 use std::str;
 use std::test::Fail;
+use timeline::put_picture;
 use watch::Halt;
 use words::{Sink, Taken};
 

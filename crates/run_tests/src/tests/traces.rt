@@ -3,11 +3,10 @@ use super::booted::booted;
 use super::refusing::Refusing;
 use elf_samples::COMMITS;
 use machine::Silent;
-use recorder::put_trace;
 use schedule::Choice;
 use std::alloc::Global;
 use std::test::Fail;
-use watch::Halt;
+use watch::{Halt, put_trace};
 use words::{HartId, Sink, Taken};
 
 const TRACE: &str = "0 0x00001000 00000a0b tbegin 20\n\

@@ -1,7 +1,7 @@
 //! What command lines ask for, and the calls that carry it out. These say nothing of what they answer, so that no test's proof has to carry it.
 use super::paper::Paper;
 use command_line::{Debug, Order, Request, Run, parse};
-use console::Typed;
+use debugger::Typed;
 use elf_samples::elf_file;
 use machine::Silent;
 use simulate::debugging::play;

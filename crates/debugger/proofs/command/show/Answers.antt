@@ -1,5 +1,5 @@
 use Rattle.std.proofs.Common.{refl}
-use Rattle.looks.specs.Looks.{refusal}
+use Rattle.commands.specs.Looks.{refusal}
 use Rattle.debugger.proofs.Looked.{look_whole, look_cut, nothing_put}
 use Rattle.debugger.proofs.command.show.Goals as goal
 

@@ -1,3 +1,0 @@
-mod Keeping
-mod Ending
-mod Exchanging

@@ -1,4 +1,0 @@
-pub mod Lines
-pub mod Answers
-pub mod Plays
-pub mod Debugging

@@ -1,0 +1,58 @@
+-- How a line is answered.
+use Rattle.std.specs.Prelude.{ℕ, ◌≡◌, ◌≤◌, Bool, true, List, [], ◌∷◌, Option, Some, None, Result, Ok, Err, IsUtf8, length, codes}
+use Rattle.std.specs.List.{concat}
+use Rattle.words.specs.declared.sink.SinkFault.{SinkFault}
+use Rattle.texts.specs.Puts.{Puts}
+use Rattle.commands.specs.declared.command.Command.{Command}
+use Rattle.commands.specs.declared.fault.DebugFault.{DebugFault}
+use Rattle.commands.specs.declared.fault.DebugFault.TheVariants.{Unknown, Device}
+use Rattle.commands.specs.Faults.{fault_text}
+use Rattle.commands.specs.Spelling.{command_of}
+use Rattle.debugger.specs.declared.fault.ConsoleFault.{ConsoleFault}
+use Rattle.debugger.specs.declared.fault.ConsoleFault.TheVariants.{Unwritten}
+use Rattle.debugger.specs.Lines.{without_return}
+
+-- a text of at most 255 bytes
+abbrev pub IsShortText : List ℕ → Type 0
+IsShortText line = (length line ≤ 255) × IsUtf8 line
+
+-- a line asks for the command that it spells, the carriage return at its end passed over; a long one, and one that is no text, asks for none
+pub record Asks (line : List ℕ) (asked : Option Command) : Type 0 where
+  pub spelled : IsShortText (without_return line) → asked ≡ command_of (without_return line)
+  pub passed : (IsShortText (without_return line) → ⊥) → asked ≡ None
+
+-- the number and the name of a fault that is told. A put that failed is not
+abbrev pub told_name : DebugFault → Option (List ℕ)
+told_name Device = None
+told_name fault = Some (fault_text fault)
+
+-- what is told of a fault
+abbrev pub refused : List ℕ → List ℕ
+refused name = concat (codes "refused " ∷ name ∷ codes "\n" ∷ [])
+
+-- a fault is told, and more is wanted; or the put failed, now or before, and that is the end
+abbrev pub Refuses : Option (List ℕ) → Option (List ℕ) → Option (List ℕ) → ℕ → ℕ → Result Bool ConsoleFault → Type 0
+Refuses None before after failed_before failed_after r = (after ≡ before) × (failed_after ≡ failed_before) × (r ≡ Err Unwritten)
+Refuses (Some name) before after failed_before failed_after (Ok more) = Puts before after failed_before failed_after (refused name) (Ok tt) × (more ≡ true)
+Refuses (Some name) before after failed_before failed_after (Err fault) = (f : SinkFault) × Puts before after failed_before failed_after (refused name) (Err f) × (fault ≡ Unwritten)
+
+-- what comes of a session's answer: more is wanted, or not, as it says; or its fault is told
+abbrev pub Closes : Result Bool DebugFault → Option (List ℕ) → Option (List ℕ) → ℕ → ℕ → Result Bool ConsoleFault → Type 0
+Closes (Ok more) before after failed_before failed_after r = (after ≡ before) × (failed_after ≡ failed_before) × (r ≡ Ok more)
+Closes (Err fault) before after failed_before failed_after r = Refuses (told_name fault) before after failed_before failed_after r
+
+-- what a session may answer to a command
+abbrev pub Answering : Type 0 → Type 1
+Answering D = D → Command → D → Option (List ℕ) → Option (List ℕ) → ℕ → ℕ → Result Bool DebugFault → Type 0
+
+-- a command is carried out by the session; where there is none, that is told, and the session stays as it is
+abbrev pub IsCarriedOut : {D : Type 0} → Answering D → Option Command → D → D → Option (List ℕ) → Option (List ℕ) → ℕ → ℕ → Result Bool ConsoleFault → Type 0
+IsCarriedOut answers None s t before after failed_before failed_after r = (t ≡ s) × Refuses (told_name Unknown) before after failed_before failed_after r
+IsCarriedOut answers (Some command) s t before after failed_before failed_after r =
+    (answer : Result Bool DebugFault) × (between : Option (List ℕ)) × (failed_between : ℕ) × answers s command t before between failed_before failed_between answer
+    × Closes answer between after failed_between failed_after r
+
+-- a line is answered: what it asks for is carried out
+abbrev pub IsAnswered : {D : Type 0} → Answering D → List ℕ → D → D → Option (List ℕ) → Option (List ℕ) → ℕ → ℕ → Result Bool ConsoleFault → Type 0
+IsAnswered answers line s t before after failed_before failed_after r =
+    (asked : Option Command) × Asks line asked × IsCarriedOut answers asked s t before after failed_before failed_after r

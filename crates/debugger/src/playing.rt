@@ -1,0 +1,85 @@
+ghost use Rattle.std.specs.Prelude.{◌≡◌};
+ghost use Rattle.debugger.specs.Plays.{EndsWith, Exchanges, Replies, IsPlayed};
+
+use crate::fault::ConsoleFault;
+use crate::input::{LineInput, Reading};
+use crate::line_answers::{Debugged, answer_line, put_text};
+use words::Sink;
+
+/// Answers what was read, and says whether more is wanted.
+fn reply<D: Debugged, S: Sink>(
+    session: &mut D,
+    reading: &Reading,
+    out: &mut S,
+) -> Result<bool, ConsoleFault>
+    ensures { Replies D.answers reading.now session.old session.new (S.taken out.old) (S.taken out.new) (S.failed out.old) (S.failed out.new) result }
+{
+    match reading {
+        Reading::Line(line) => answer_line(session, line, out),
+        Reading::Last(line) => answer_last(session, line, out),
+        Reading::Failed => Err(ConsoleFault::Unreadable),
+    }
+}
+
+/// Answers what stands behind the last line feed, if there is anything. No more is wanted.
+fn answer_last<D: Debugged, S: Sink>(
+    session: &mut D,
+    line: &[u8],
+    out: &mut S,
+) -> Result<bool, ConsoleFault>
+    ensures { EndsWith D.answers line.now session.old session.new (S.taken out.old) (S.taken out.new) (S.failed out.old) (S.failed out.new) result }
+{
+    if line.is_empty() {
+        return Ok(false);
+    }
+    match answer_line(session, line, out) {
+        Ok(_) => Ok(false),
+        Err(fault) => Err(fault),
+    }
+}
+
+/// Asks for a line, reads it and answers it. It says whether more are wanted.
+fn exchange<D: Debugged, I: LineInput, P: Sink, S: Sink>(
+    session: &mut D,
+    input: &mut I,
+    prompt: &str,
+    prompts: &mut P,
+    out: &mut S,
+) -> Result<bool, ConsoleFault>
+    ensures { Exchanges D.answers I.gives prompt.now
+        (record { session = session.old; input = input.old; told = S.taken out.old; untold = S.failed out.old; asked = P.taken prompts.old; unasked = P.failed prompts.old })
+        (record { session = session.new; input = input.new; told = S.taken out.new; untold = S.failed out.new; asked = P.taken prompts.new; unasked = P.failed prompts.new })
+        result }
+{
+    match put_text(prompts, prompt) {
+        Ok(()) => {
+            let reading = input.read_line();
+            reply(session, &reading, out)
+        }
+        Err(_) => Err(ConsoleFault::Unwritten),
+    }
+}
+
+/// Asks for lines, by a prompt, reads them and has them answered, until no more are wanted or the input has no more. Where a session refuses a command, that is told, and it goes on.
+/// It fails where a text can't be put or a line can't be read; and after 2^64 - 1 lines, as if they could not.
+pub fn play<D: Debugged, I: LineInput, P: Sink, S: Sink>(
+    session: &mut D,
+    input: &mut I,
+    prompt: &str,
+    prompts: &mut P,
+    out: &mut S,
+) -> Result<(), ConsoleFault>
+    ensures { IsPlayed D.answers I.gives prompt.now
+        (record { session = session.old; input = input.old; told = S.taken out.old; untold = S.failed out.old; asked = P.taken prompts.old; unasked = P.failed prompts.old })
+        (record { session = session.new; input = input.new; told = S.taken out.new; untold = S.failed out.new; asked = P.taken prompts.new; unasked = P.failed prompts.new })
+        result }
+{
+    for _count in 0..u64::MAX {
+        match exchange(session, input, prompt, prompts, out) {
+            Ok(true) => {}
+            Ok(false) => return Ok(()),
+            Err(fault) => return Err(fault),
+        }
+    }
+    Err(ConsoleFault::Unreadable)
+}

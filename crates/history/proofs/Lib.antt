@@ -1,5 +1,0 @@
-mod Batches
-mod Words
-mod Spelled
-mod Texts
-mod Repeats

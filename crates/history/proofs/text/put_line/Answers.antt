@@ -1,5 +1,0 @@
-use Rattle.texts.proofs.Putting.{puts-both}
-use Rattle.history.proofs.text.put_line.Goals as goal
-
-pub returns : goal.returns
-returns g c = puts-both c.in_ok-put_choice.ensures c.put_all.ensures

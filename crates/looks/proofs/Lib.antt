@@ -1,4 +1,0 @@
-mod Lists
-mod Reading
-mod Sent
-mod Showing

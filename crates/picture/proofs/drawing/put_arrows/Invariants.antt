@@ -1,9 +1,0 @@
-use Rattle.std.proofs.Common.{take, Ok}
-use Rattle.std.specs.List.{flat_map}
-use Rattle.texts.specs.Puts.{Puts}
-use Rattle.picture.specs.Drawings.{arrow_of}
-use Rattle.picture.proofs.drawing.put_arrows.Given as goal
-
-abbrev pub invariant-loop-row : goal.invariant-loop-row
-invariant-loop-row g l =
-    Puts (g.S.Sink.taken l.initial.sink) (g.S.Sink.taken l.sink) (g.S.Sink.failed l.initial.sink) (g.S.Sink.failed l.sink) (flat_map (arrow_of l.harts l.rows) (take l.row-index l.rows)) (Ok tt)

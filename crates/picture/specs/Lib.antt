@@ -1,4 +1,0 @@
-pub mod Rows
-pub mod Shapes
-pub mod Drawings
-pub mod Pictures

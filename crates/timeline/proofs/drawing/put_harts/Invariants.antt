@@ -1,0 +1,9 @@
+use Rattle.std.proofs.Common.{Ok}
+use Rattle.std.specs.List.{flat_map, range_with_len}
+use Rattle.texts.specs.Puts.{Puts}
+use Rattle.timeline.specs.Drawings.{hart_lane}
+use Rattle.timeline.proofs.drawing.put_harts.Given as goal
+
+abbrev pub invariant-loop-hart : goal.invariant-loop-hart
+invariant-loop-hart g l =
+    Puts (g.S.Sink.taken l.initial.sink) (g.S.Sink.taken l.sink) (g.S.Sink.failed l.initial.sink) (g.S.Sink.failed l.sink) (flat_map (hart_lane l.rows) (range_with_len 0 l.hart)) (Ok tt)

@@ -1,0 +1,9 @@
+use Rattle.std.proofs.Common.{codes}
+use Rattle.texts.proofs.Putting.{puts-both, puts-cut}
+use Rattle.timeline.proofs.drawing.put_last.Goals as goal
+
+pub returns-in_err-put_lifeline : goal.returns-in_err-put_lifeline
+returns-in_err-put_lifeline g c = puts-cut (codes "directory</text></g>\n") c.in_err-put_lifeline.was c.put_lifeline.ensures c.from_residual.ensures.0
+
+pub returns : goal.returns
+returns g c = puts-both c.in_ok-put_lifeline.ensures c.put_all.ensures

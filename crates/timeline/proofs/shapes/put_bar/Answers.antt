@@ -1,0 +1,14 @@
+use Rattle.std.proofs.Common.{sym}
+use Rattle.timeline.proofs.shapes.put_bar.Goals as goal
+
+pub returns : goal.returns
+returns g c =
+    rw (
+      sym c.as_bytes.ensures.value,
+      sym c.format.ensures.text,
+      sym c.as_bytes-2.ensures.value,
+      sym c.format-2.ensures.text,
+      sym c.as_bytes-3.ensures.value,
+      sym c.format-3.ensures.text,
+      sym c.as_bytes-4.ensures.value,
+    ) c.put_all.ensures

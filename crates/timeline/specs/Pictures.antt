@@ -1,0 +1,36 @@
+-- The picture of a run.
+use Rattle.std.specs.Prelude.{ℕ, ◌≡◌, ◌<◌, List, Option}
+use Rattle.protocol.specs.Caches.{Geometry}
+use Rattle.machine.specs.States.{State, setting_of}
+use Rattle.schedule.specs.declared.choices.Choice.{Choice}
+use Rattle.watch.specs.Moments.{Moment}
+use Rattle.watch.specs.Watched.{PlaysWith}
+use Rattle.watch.specs.declared.halt.Halt.{Halt}
+use Rattle.watch.specs.declared.halt.Halt.TheVariants.{NoMemory, Untold}
+use Rattle.timeline.specs.Timelines.{Took, TookPart}
+use Rattle.timeline.specs.declared.row.Row.{Row}
+use Rattle.timeline.specs.Rows.{rows_from}
+use Rattle.timeline.specs.Drawings.{drawn}
+
+-- the picture of moments, where the caches have so many sets and there are so many harts
+abbrev pub picture_of : ℕ → ℕ → List Moment → List ℕ
+picture_of sets harts ms = drawn harts (rows_from sets 0 ms)
+
+-- n steps by a schedule were made, and these are their rows
+abbrev pub IsNoted : Geometry → List Choice → ℕ → State → State → List Row → Type 0
+IsNoted g choices n v w rows = (ms : List Moment) × PlaysWith g choices n v ms w × (rows ≡ rows_from g.sets 0 ms)
+
+-- fewer than n steps were made
+abbrev pub IsCut : Geometry → List Choice → ℕ → State → State → Type 0
+IsCut g choices n v w = (m : ℕ) × (m < n) × (ms : List Moment) × PlaysWith g choices m v ms w
+
+-- n steps by a schedule were made, and the sink took their picture
+abbrev pub IsPictured : Geometry → List Choice → ℕ → State → State → Option (List ℕ) → Option (List ℕ) → ℕ → ℕ → Type 0
+IsPictured g choices n v w before after failed_before failed_after =
+    (ms : List Moment) × PlaysWith g choices n v ms w × Took before after failed_before failed_after (picture_of g.sets (setting_of v).count ms)
+
+-- memory ran out: fewer steps were made, and nothing was drawn. A put failed: all were made, and the sink took a beginning of their picture
+abbrev pub IsNotPictured : Geometry → List Choice → ℕ → State → State → Option (List ℕ) → Option (List ℕ) → ℕ → ℕ → Halt → Type 0
+IsNotPictured g choices n v w before after failed_before failed_after NoMemory = IsCut g choices n v w × (after ≡ before) × (failed_after ≡ failed_before)
+IsNotPictured g choices n v w before after failed_before failed_after Untold =
+    (ms : List Moment) × PlaysWith g choices n v ms w × TookPart before after failed_before failed_after (picture_of g.sets (setting_of v).count ms)
