@@ -1,3 +1,4 @@
+//! Looks at programs on the coherent machine, with each put refused in turn.
 use commands::{DebugFault, Look, help};
 use elf_samples::{Breaking, COMMITS};
 use looks::look;

@@ -1,3 +1,4 @@
+//! Histories of a few choices, as text, and read again.
 use elf_samples::Breaking;
 use history::{History, Journal, Unkept, put_history, written_choices_are_read};
 use schedule::{Choice, Name, ScheduleFault, Sort, read};
