@@ -1,4 +1,4 @@
-//! Harts in threads over one board, and what becomes of leases that come back.
+//! Harts in threads over one board or one hub, what becomes of leases and loans that come back, and histories as text.
 #![tactic(auto)]
 
 #[cfg(test)]

@@ -1,6 +1,8 @@
 mod calls;
 mod counters;
 mod gates;
+mod histories;
+mod hubs;
 mod lending;
 mod memory;
 mod play;

@@ -1,4 +1,4 @@
-//! The debugger's commands: how they are spelled, what they do where a put fails or memory runs out, and what a console makes of lines.
+//! The debugger's commands and looks: how they are spelled, what they do where a put fails or memory runs out, and what a console makes of lines.
 #![tactic(auto)]
 
 #[cfg(test)]

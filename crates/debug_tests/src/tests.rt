@@ -1,3 +1,4 @@
 mod cut;
+mod cut_looks;
 mod spelled;
 mod talks;

@@ -1,4 +1,4 @@
-//! Assembled programs as segments and as a file, sources as large as they may be, and listings that cannot be put.
+//! Assembled programs as segments and as a file, sources as large as they may be, listings that cannot be put, and memory that runs out.
 #![tactic(auto)]
 
 #[cfg(test)]

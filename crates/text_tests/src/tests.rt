@@ -1,3 +1,4 @@
 mod assembling;
 mod large;
 mod listings;
+mod memory;

@@ -8,8 +8,9 @@ use command_line::{Request, Run, parse};
 use paper::{Paper, sheet};
 use std::alloc::Global;
 use std::process::Abort;
-use std::test::Fail;
-use words::Taken;
+use std::sync::Wait;
+use std::thread::Threads;
+use words::{Sink, Taken};
 
 /// Each hart adds 1 to the word at 0x2000 twenty times, each time in a transaction. After an abort it waits, longer than the time before, and
 /// each hart for a time of its own.
@@ -53,48 +54,73 @@ fn taken(alloc: Global) -> Taken {
     }
 }
 
+/// The status of a run in threads.
+fn ended(
+    rt: &(impl AllocGlobal + Threads + Wait + Sync),
+    run: &Run<'_>,
+    file: &str,
+    out: &mut Taken,
+    error: &mut Taken,
+) -> u8 {
+    run_threaded(rt, rt.alloc(), run, file.as_bytes(), out, error)
+}
+
+/// The same of one whose history goes to a sheet.
+fn ended_kept<O: Sink>(
+    rt: &(impl AllocGlobal + Threads + Wait + Sync),
+    run: &Run<'_>,
+    file: &str,
+    history: &mut Paper,
+    out: &mut O,
+    error: &mut Taken,
+) -> u8 {
+    run_kept(
+        rt,
+        rt.alloc(),
+        run,
+        "h",
+        file.as_bytes(),
+        history,
+        out,
+        error,
+    )
+}
+
+/// That two sinks have taken these texts.
+fn check_texts(rt: &impl Abort, given: &Taken, told: &Taken, out: &str, error: &str) {
+    assert_eq!(rt; given.bytes.as_slice(), out.as_bytes());
+    assert_eq!(rt; told.bytes.as_slice(), error.as_bytes());
+}
+
 /// That a run in threads gives this status and these texts.
 fn check(
-    rt: &(impl Abort + AllocGlobal + std::thread::Threads + std::sync::Wait + Sync),
+    rt: &(impl Abort + AllocGlobal + Threads + Wait + Sync),
     words: &[&str],
     file: &str,
     status: u8,
     out: &str,
     error: &str,
-) -> Result<(), Fail> {
-    let run = run_of(rt.alloc(), words).ok_or("a run")?;
+) {
+    let run = run_of(rt.alloc(), words).expect(rt, "a run");
     let (mut given, mut told) = (taken(rt.alloc()), taken(rt.alloc()));
-    let ended = run_threaded(rt, rt.alloc(), &run, file.as_bytes(), &mut given, &mut told);
-    assert_eq!(rt; ended, status, "{out}{error}");
-    assert_eq!(rt; given.bytes.as_slice(), out.as_bytes());
-    assert_eq!(rt; told.bytes.as_slice(), error.as_bytes());
-    Ok(())
+    let status_given = ended(rt, &run, file, &mut given, &mut told);
+    assert_eq!(rt; status_given, status, "{out}{error}");
+    check_texts(rt, &given, &told, out, error);
 }
 
 /// The same of a run whose history goes to a sheet.
 fn check_kept(
-    rt: &(impl Abort + AllocGlobal + std::thread::Threads + std::sync::Wait + Sync),
+    rt: &(impl Abort + AllocGlobal + Threads + Wait + Sync),
     words: &[&str],
     file: &str,
     history: &mut Paper,
     status: u8,
     out: &str,
     error: &str,
-) -> Result<(), Fail> {
-    let run = run_of(rt.alloc(), words).ok_or("a run")?;
+) {
+    let run = run_of(rt.alloc(), words).expect(rt, "a run");
     let (mut given, mut told) = (taken(rt.alloc()), taken(rt.alloc()));
-    let ended = run_kept(
-        rt,
-        rt.alloc(),
-        &run,
-        "h",
-        file.as_bytes(),
-        history,
-        &mut given,
-        &mut told,
-    );
-    assert_eq!(rt; ended, status, "{out}{error}");
-    assert_eq!(rt; given.bytes.as_slice(), out.as_bytes());
-    assert_eq!(rt; told.bytes.as_slice(), error.as_bytes());
-    Ok(())
+    let status_given = ended_kept(rt, &run, file, history, &mut given, &mut told);
+    assert_eq!(rt; status_given, status, "{out}{error}");
+    check_texts(rt, &given, &told, out, error);
 }

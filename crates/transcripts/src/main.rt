@@ -1,5 +1,5 @@
 //! Plays the lists of commands that test `logtm`, and shows each command with all that it prints, what it is told on standard error and its status: the
-//! gate compares that with what is expected.
+//! gate compares that with what is expected. The last list runs the examples, as the docs do, and is shown as on a terminal.
 #![tactic(auto)]
 
 use std::io;
@@ -26,5 +26,6 @@ fn main(rt: HostRuntime) -> io::Result<()> {
         println!(rt; "== {list}")?;
         play(&rt, list, Telling::Apart)?;
     }
-    Ok(())
+    println!(rt; "== examples")?;
+    play(&rt, "examples/commands", Telling::AtOnce)
 }

@@ -1,11 +1,11 @@
 //! The calls that workers make of a board and of their gate, in order.
 
-use super::play::TEN;
+use super::play::{TEN, booted};
 use board::{Board, Desk, End, Gate, Lease, Refusal, serve, work};
 use elf_samples::program;
 use loader::Program;
-use machine_play::{SIZE, one, zero};
-use std::alloc::{AllocError, Global};
+use machine_play::zero;
+use std::alloc::AllocError;
 use std::cell::RefCell;
 use std::process::Abort;
 use std::sync::{Mutex, Wait};
@@ -63,12 +63,11 @@ impl<'p> Desk for Noted<'p> {
     }
 }
 
-fn desk<'p>(alloc: Global, program: &'p Program, harts: u32) -> Result<Mutex<Noted<'p>>, Fail> {
-    let board: Board<'p, 2, 1> = Board::boot(alloc, program, harts, SIZE)?;
-    Ok(Mutex::new(Noted {
-        board,
-        calls: RefCell::new(Vec::new(alloc)),
-    }))
+fn desk<'p>(rt: &(impl Abort + AllocGlobal), program: &'p Program) -> Mutex<Noted<'p>> {
+    Mutex::new(Noted {
+        board: booted(rt, program, 1),
+        calls: RefCell::new(Vec::new(rt.alloc())),
+    })
 }
 
 /// Notes its own calls at the board, for which it has to find the lock free.
@@ -110,13 +109,12 @@ fn check_calls(
     (most, turns): (usize, u64),
     ends: End,
     calls: &[Call],
-) -> Result<(), Fail> {
-    let desk = desk(rt.alloc(), program, 1)?;
-    let end = work(rt, &desk, zero(), &Free { desk: &desk, most }, turns)?;
-    assert_eq!(rt; end, ends);
+) {
+    let desk = desk(rt, program);
+    let end = work(rt, &desk, zero(), &Free { desk: &desk, most }, turns);
+    assert_eq!(rt; end, Ok(ends));
     let noted = desk.into_inner().calls.into_inner();
     assert_eq!(rt; noted.as_slice(), calls);
-    Ok(())
 }
 
 #[test]
@@ -142,7 +140,8 @@ fn the_lock_is_free_while_the_gate_is_called(rt: HostRuntime) -> Result<(), Fail
         Call::Visit(h),
         Call::Settled(h),
     ];
-    check_calls(&rt, &program, (64, 9), End::Stopped, &whole)?;
-    check_calls(&rt, &program, (0, 2), End::Limit, &none)?;
-    check_calls(&rt, &program, (64, 0), End::Limit, &[])
+    check_calls(&rt, &program, (64, 9), End::Stopped, &whole);
+    check_calls(&rt, &program, (0, 2), End::Limit, &none);
+    check_calls(&rt, &program, (64, 0), End::Limit, &[]);
+    Ok(())
 }

@@ -8,30 +8,37 @@ use board::{Board, End, Finished, serve};
 use elf_samples::{COUNTS, program};
 use loader::Program;
 use machine_play::{SIZE, peek, place};
-use std::alloc::Global;
 use std::process::Abort;
 use std::sync::{Mutex, Wait};
 use std::test::Fail;
 use std::thread::Threads;
 
 /// The board of a program that so many harts have run in threads, so many turns each, and whether all of them have ended.
-fn served<'p, const SETS: usize, const WAYS: usize, R: Threads + Wait + AllocGlobal + Sync>(
+fn served<'p, const SETS: usize, const WAYS: usize, R: Threads + Wait + Abort + AllocGlobal + Sync>(
     rt: &R,
     program: &'p Program,
     harts: u32,
     turns: u64,
-) -> Result<(Finished<'p, SETS, WAYS>, bool), Fail>
+) -> (Finished<'p, SETS, WAYS>, bool)
     requires sets { 0 < SETS }
     requires ways { 0 < WAYS }
     requires lines { SETS * WAYS < 2 ^ 32 }
     requires harts { harts ≤ 8 }
 {
-    let board: Board<'p, SETS, WAYS> = Board::boot(rt.alloc(), program, harts, SIZE)?;
+    let board: Board<'p, SETS, WAYS> = Board::boot(rt.alloc(), program, harts, SIZE).expect(
+        rt, "memory",
+    );
     let desk = Mutex::new(board);
     let gate = Runs { most: 64 };
-    let ends = serve::<Board<'p, SETS, WAYS>, Runs, R>(rt, &desk, harts as usize, &gate, turns)?;
+    let ends = serve::<Board<'p, SETS, WAYS>, Runs, R>(
+        rt,
+        &desk,
+        harts as usize,
+        &gate,
+        turns,
+    ).expect(rt, "memory");
     let stopped = ends.iter().all(|end| *end == End::Stopped);
-    Ok((desk.into_inner().finish(), stopped))
+    (desk.into_inner().finish(), stopped)
 }
 
 /// That what so many harts did in threads is made again by its history, and that they have counted to a number if all have ended. The answer is
@@ -47,8 +54,8 @@ fn check_count<
     requires harts { harts ≤ 8 }
 {
     let program = program(rt.alloc(), text)?;
-    let (end, stopped) = served::<SETS, WAYS, R>(rt, &program, harts, turns)?;
-    check_again(rt, &end)?;
+    let (end, stopped) = served::<SETS, WAYS, R>(rt, &program, harts, turns);
+    check_again(rt, &end);
     if stopped {
         assert_eq!(rt; peek(&end.machine, place()), Some(count));
     }

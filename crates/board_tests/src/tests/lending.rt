@@ -1,20 +1,18 @@
 //! Harts that are lent again, in place of a lease that isn't needed any more.
 
-use super::play::{Small, TEN, check_again, make};
-use board::{Board, Lease};
+use super::play::{Small, TEN, booted, check_again, make};
+use board::Lease;
 use elf_samples::program;
-use machine_play::{SIZE, one, zero};
-use std::alloc::AllocError;
+use machine_play::{one, zero};
 use std::process::Abort;
 use std::test::Fail;
 use words::{HartId, Step};
 
 /// Hart 1 makes so many steps of its own.
-fn core_steps<'p>(board: &mut Small<'p>, steps: u32) -> Result<(), AllocError> {
+fn core_steps<'p>(rt: &impl Abort, board: &mut Small<'p>, steps: u32) {
     for _ in 0..steps {
-        make(board, Step::Core(one()))?;
+        make(rt, board, Step::Core(one()));
     }
-    Ok(())
 }
 
 /// Asserts that a lease of hart 0 with three steps doesn't become one of a hart that doesn't run, and settles.
@@ -35,15 +33,13 @@ fn check_lease(rt: &impl Abort, lease: &Lease<'_, 2, 1>, hart: HartId, steps: us
 #[test]
 fn a_lease_stays_where_the_hart_does_not_run(rt: HostRuntime) -> Result<(), Fail> {
     let program = program(rt.alloc(), &TEN)?;
-    let mut board: Small = Board::boot(rt.alloc(), &program, 2, SIZE)?;
-    core_steps(&mut board, 13)?;
-    let lease = board.lend(zero());
-    assert!(rt; lease.is_some());
-    if let Some(mut lease) = lease {
-        check_stays(&rt, &mut board, &mut lease);
-    }
+    let mut board = booted(&rt, &program, 2);
+    core_steps(&rt, &mut board, 13);
+    let mut lease = board.lend(zero()).expect(&rt, "hart 0 runs");
+    check_stays(&rt, &mut board, &mut lease);
     assert_eq!(rt; board.history().len(), 16);
-    check_again(&rt, &board.finish())
+    check_again(&rt, &board.finish());
+    Ok(())
 }
 
 /// Asserts that a lease of hart 0 with three steps becomes one of hart 1 with none, which runs to its end and settles.
@@ -58,12 +54,10 @@ fn check_serves_again<'p>(rt: &impl Abort, board: &mut Small<'p>, lease: &mut Le
 #[test]
 fn a_lease_serves_again(rt: HostRuntime) -> Result<(), Fail> {
     let program = program(rt.alloc(), &TEN)?;
-    let mut board: Small = Board::boot(rt.alloc(), &program, 2, SIZE)?;
-    let lease = board.lend(zero());
-    assert!(rt; lease.is_some());
-    if let Some(mut lease) = lease {
-        check_serves_again(&rt, &mut board, &mut lease);
-    }
+    let mut board = booted(&rt, &program, 2);
+    let mut lease = board.lend(zero()).expect(&rt, "hart 0 runs");
+    check_serves_again(&rt, &mut board, &mut lease);
     assert_eq!(rt; board.history().len(), 12);
-    check_again(&rt, &board.finish())
+    check_again(&rt, &board.finish());
+    Ok(())
 }

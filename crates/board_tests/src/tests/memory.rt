@@ -3,8 +3,8 @@
 ghost use Rattle.std.specs.Prelude.{◌≤◌, ◌<◌};
 
 use super::gates::Runs;
-use super::play::{check_again, made};
-use board::{Board, End, Finished, Refusal, work};
+use super::play::check_again;
+use board::{Board, End, Finished, Lease, Refusal, work};
 use elf_samples::{COMMITS, program};
 use linked_list_allocator::LocalHeap;
 use loader::Program;
@@ -34,65 +34,94 @@ struct Refused {
     visit: bool,
 }
 
+/// What is taken of a heap, until it is given back.
+type Rest<'h> = Option<Vec<u8, &'h LocalHeap>>;
+
+/// Settles a lease, and once more if memory was refused, the rest of the heap given back. The answer is whether it was refused.
+fn settle<'p, 'h>(
+    rt: &impl Abort,
+    board: &mut Small<'p, 'h>,
+    lease: &Lease<'p, 2, 1>,
+    rest: &mut Rest<'h>,
+) -> bool {
+    let was_refused = board.settle(lease) == Err(Refusal::NoMemory);
+    if was_refused {
+        *rest = None;
+        assert!(rt; board.settle(lease).is_ok());
+    }
+    was_refused
+}
+
+/// Makes a step of hart 0, in the same way.
+fn turn<'p, 'h>(rt: &impl Abort, board: &mut Small<'p, 'h>, rest: &mut Rest<'h>) -> bool {
+    let was_refused = board.turn(Step::Core(zero())).is_err();
+    if was_refused {
+        *rest = None;
+        assert!(rt; board.turn(Step::Core(zero())).is_ok());
+    }
+    was_refused
+}
+
+/// Visits hart 0, in the same way.
+fn visit<'p, 'h>(rt: &impl Abort, board: &mut Small<'p, 'h>, rest: &mut Rest<'h>) -> bool {
+    let was_refused = board.visit(zero()).is_err();
+    if was_refused {
+        *rest = None;
+        assert!(rt; board.visit(zero()).is_ok());
+    }
+    was_refused
+}
+
 /// Plays hart 0 to its end, by leases, single turns and visits. What is refused is made again, once the rest of the heap is given back.
 fn play<'p, 'h>(
+    rt: &impl Abort,
     board: &mut Small<'p, 'h>,
-    rest: Vec<u8, &'h LocalHeap>,
+    rest: &mut Rest<'h>,
     refused: &mut Refused,
-) -> Result<(), Fail> {
-    let mut rest = Some(rest);
+) {
     for _ in 0..40 {
         let Some(mut lease) = board.lend(zero()) else {
-            return Ok(());
+            return;
         };
         lease.run(2);
-        if let Err(Refusal::NoMemory) = board.settle(&lease) {
-            refused.settle = true;
-            rest = None;
-            if board.settle(&lease).is_err() {
-                return Err("a lease that was refused for memory settles".into());
-            }
-        }
-        if made(board.turn(Step::Core(zero()))).is_err() {
-            refused.turn = true;
-            rest = None;
-            made(board.turn(Step::Core(zero())))?;
-        }
-        if board.visit(zero()).is_err() {
-            refused.visit = true;
-            rest = None;
-            board.visit(zero())?;
-        }
+        refused.settle |= settle(rt, board, &lease, rest);
+        refused.turn |= turn(rt, board, rest);
+        refused.visit |= visit(rt, board, rest);
     }
-    drop(rest);
-    Ok(())
 }
 
 /// Asserts that the word is written, and that the history makes the board again.
-fn check_end(
-    rt: &(impl Abort + AllocGlobal),
-    end: &Finished<'_, 2, 1, &LocalHeap>,
-) -> Result<(), Fail> {
+fn check_end(rt: &(impl Abort + AllocGlobal), end: &Finished<'_, 2, 1, &LocalHeap>) {
     assert_eq!(rt; peek(&end.machine, place()), Some(7));
-    check_again(rt, end)
+    check_again(rt, end);
+}
+
+/// The board of a program for one hart, whose history is on a heap.
+fn booted<'p, 'h>(
+    rt: &(impl Abort + AllocGlobal),
+    program: &'p Program,
+    heap: &'h LocalHeap,
+) -> Small<'p, 'h> {
+    Board::boot_in(rt.alloc(), heap, program, 1, SIZE).expect(rt, "memory")
 }
 
 /// Plays on a heap on which so many times 32 bytes are left.
-fn play_with(
+fn play_on<'p, 'h>(
     rt: &(impl Abort + AllocGlobal),
-    program: &Program,
+    program: &'p Program,
+    heap: &'h LocalHeap,
     places: usize,
     refused: &mut Refused,
-) -> Result<(), Fail>
+)
     requires { places < 256 }
 {
-    let heap = LocalHeap::new(rt.alloc(), HEAP)?;
-    let Ok(rest) = taken(&heap, 32 * places) else {
-        return Ok(());
+    let Ok(rest) = taken(heap, 32 * places) else {
+        return;
     };
-    let mut board: Small = Board::boot_in(rt.alloc(), &heap, program, 1, SIZE)?;
-    play(&mut board, rest, refused)?;
-    check_end(rt, &board.finish())
+    let mut rest = Some(rest);
+    let mut board = booted(rt, program, heap);
+    play(rt, &mut board, &mut rest, refused);
+    check_end(rt, &board.finish());
 }
 
 #[test]
@@ -100,7 +129,8 @@ fn nothing_is_lost_where_memory_is_refused(rt: HostRuntime) -> Result<(), Fail> 
     let program = program(rt.alloc(), &COMMITS)?;
     let mut refused = Refused::default();
     for places in 0..120usize {
-        play_with(&rt, &program, places, &mut refused)?;
+        let heap = LocalHeap::new(rt.alloc(), HEAP).expect(&rt, "memory");
+        play_on(&rt, &program, &heap, places, &mut refused);
     }
     let all = Refused {
         settle: true,
@@ -116,34 +146,33 @@ fn work_twice<'h>(
     rt: &(impl Abort + Wait),
     desk: &Mutex<Small<'_, 'h>>,
     rest: Vec<u8, &'h LocalHeap>,
-) -> Result<bool, Fail> {
+) -> bool {
     let gate = Runs { most: 2 };
     let first = work(rt, desk, zero(), &gate, 40);
     drop(rest);
     if first.is_ok() {
-        return Ok(false);
+        return false;
     }
-    assert_eq!(rt; work(rt, desk, zero(), &gate, 40)?, End::Stopped);
-    Ok(true)
+    assert_eq!(rt; work(rt, desk, zero(), &gate, 40), Ok(End::Stopped));
+    true
 }
 
 /// A worker on a heap on which so many times 32 bytes are left. The answer is whether it was refused memory.
-fn work_with(
+fn work_on<'p, 'h>(
     rt: &(impl Abort + Wait + AllocGlobal),
-    program: &Program,
+    program: &'p Program,
+    heap: &'h LocalHeap,
     places: usize,
-) -> Result<bool, Fail>
+) -> bool
     requires { places < 256 }
 {
-    let heap = LocalHeap::new(rt.alloc(), HEAP)?;
-    let Ok(rest) = taken(&heap, 32 * places) else {
-        return Ok(false);
+    let Ok(rest) = taken(heap, 32 * places) else {
+        return false;
     };
-    let board: Small = Board::boot_in(rt.alloc(), &heap, program, 1, SIZE)?;
-    let desk = Mutex::new(board);
-    let was_refused = work_twice(rt, &desk, rest)?;
-    check_end(rt, &desk.into_inner().finish())?;
-    Ok(was_refused)
+    let desk = Mutex::new(booted(rt, program, heap));
+    let was_refused = work_twice(rt, &desk, rest);
+    check_end(rt, &desk.into_inner().finish());
+    was_refused
 }
 
 #[test]
@@ -151,7 +180,8 @@ fn a_worker_ends_where_memory_is_refused(rt: HostRuntime) -> Result<(), Fail> {
     let program = program(rt.alloc(), &COMMITS)?;
     let mut refused = 0u32;
     for places in 0..120usize {
-        if work_with(&rt, &program, places)? {
+        let heap = LocalHeap::new(rt.alloc(), HEAP).expect(&rt, "memory");
+        if work_on(&rt, &program, &heap, places) {
             refused = refused.saturating_add(1);
         }
     }

@@ -3,11 +3,11 @@
 ghost use Rattle.std.specs.Prelude.{◌≤◌, ◌<◌, ◌*◌, ◌^◌};
 
 use board::{Board, Finished};
+use loader::Program;
 use machine::Machine;
-use machine_play::{peek, regs};
-use std::alloc::{AllocError, Allocator, Global};
+use machine_play::{SIZE, peek, regs};
+use std::alloc::Allocator;
 use std::process::Abort;
-use std::test::Fail;
 use words::{Addr, Entry, HartId, Step};
 
 /// Adds 1 to the word at 0x2000 in a transaction, and exits with 0. After each abort a hart waits before it tries again, longer than the time
@@ -54,40 +54,47 @@ pub(crate) const TEN: [u32; 13] = [
 
 pub(crate) type Small<'p> = Board<'p, 2, 1>;
 
+/// The board that a program begins with, for so many harts.
+pub(crate) fn booted<'p>(
+    rt: &(impl Abort + AllocGlobal),
+    program: &'p Program,
+    harts: u32,
+) -> Small<'p> {
+    Board::boot(rt.alloc(), program, harts, SIZE).expect(rt, "memory")
+}
+
 /// Makes a step, whatever its entry.
-pub(crate) fn make<'p>(board: &mut Small<'p>, step: Step) -> Result<(), AllocError> {
-    match board.turn(step) {
-        Ok(_) => Ok(()),
-        Err(error) => Err(error),
-    }
+pub(crate) fn make<'p>(rt: &impl Abort, board: &mut Small<'p>, step: Step) {
+    assert!(rt; board.turn(step).is_ok());
 }
 
-/// That a step was made, whatever its entry.
-pub(crate) fn made<T: Drop>(answer: Result<T, AllocError>) -> Result<(), AllocError> {
-    let _entry = answer?;
-    Ok(())
-}
-
-/// A machine just booted, with the steps of a history made again; it answers their entries, too.
-fn again<const SETS: usize, const WAYS: usize, A: Allocator>(
-    alloc: Global,
+/// A machine that the program of a board begins in, as the board did.
+fn begun_again<const SETS: usize, const WAYS: usize, A: Allocator>(
+    rt: &(impl Abort + AllocGlobal),
     end: &Finished<'_, SETS, WAYS, A>,
-) -> Result<(Machine<SETS, WAYS>, Vec<Entry>), Fail>
+) -> Machine<SETS, WAYS>
     requires sets { 0 < SETS }
     requires ways { 0 < WAYS }
     requires lines { SETS * WAYS < 2 ^ 32 }
 {
-    let mut machine: Machine<SETS, WAYS> = Machine::boot(
-        alloc,
-        end.program.copy(alloc)?,
-        end.harts,
-        end.size,
-    )?;
-    let mut entries = Vec::new(alloc);
-    if let Err((_, fault)) = machine.run(&end.history, &mut entries) {
-        return Err(fault.into());
-    }
-    Ok((machine, entries))
+    let program = end.program.copy(rt.alloc()).expect(rt, "memory");
+    Machine::boot(rt.alloc(), program, end.harts, end.size).expect(rt, "memory")
+}
+
+/// Asserts that the steps of a history can be made again, and give these entries.
+fn check_entries<const SETS: usize, const WAYS: usize>(
+    rt: &(impl Abort + AllocGlobal),
+    machine: &mut Machine<SETS, WAYS>,
+    history: &[Step],
+    entries: &[Entry],
+)
+    requires sets { 0 < SETS }
+    requires ways { 0 < WAYS }
+    requires lines { SETS * WAYS < 2 ^ 32 }
+{
+    let mut given = Vec::new(rt.alloc());
+    assert!(rt; machine.run(history, &mut given).is_ok());
+    assert_eq!(rt; given.as_slice(), entries);
 }
 
 /// How many words from 0x1000 on are compared. No program here reaches beyond them.
@@ -117,13 +124,12 @@ fn check_same<const SETS: usize, const WAYS: usize>(
 pub(crate) fn check_again<const SETS: usize, const WAYS: usize, A: Allocator>(
     rt: &(impl Abort + AllocGlobal),
     end: &Finished<'_, SETS, WAYS, A>,
-) -> Result<(), Fail>
+)
     requires sets { 0 < SETS }
     requires ways { 0 < WAYS }
     requires lines { SETS * WAYS < 2 ^ 32 }
 {
-    let (machine, entries) = again(rt.alloc(), end)?;
-    assert_eq!(rt; entries.as_slice(), end.entries.as_slice());
+    let mut machine = begun_again(rt, end);
+    check_entries(rt, &mut machine, &end.history, &end.entries);
     check_same(rt, &machine, &end.machine);
-    Ok(())
 }

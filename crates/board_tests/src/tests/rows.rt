@@ -1,23 +1,22 @@
 //! Leases that are out at once, and leases that come back with no step.
 
 use super::gates::{Meeting, Runs};
-use super::play::TEN;
-use board::{Board, End, serve};
+use super::play::{Small, TEN, booted};
+use board::{End, serve};
 use elf_samples::program;
-use machine_play::{SIZE, one, zero};
+use machine_play::{one, zero};
 use std::process::Abort;
 use std::sync::Mutex;
 use std::test::Fail;
 use words::{Entry, HartId};
 
-type Small<'p> = Board<'p, 2, 1>;
-
 #[test]
 fn two_leases_are_out_at_once(rt: HostRuntime) -> Result<(), Fail> {
     let program = program(rt.alloc(), &TEN)?;
-    let board: Small = Board::boot(rt.alloc(), &program, 2, SIZE)?;
-    let desk = Mutex::new(board);
-    let ends = serve::<Small, Meeting, HostRuntime>(&rt, &desk, 2, &Meeting::new(), 2)?;
+    let desk = Mutex::new(booted(&rt, &program, 2));
+    let ends = serve::<Small, Meeting, HostRuntime>(&rt, &desk, 2, &Meeting::new(), 2).expect(
+        &rt, "memory",
+    );
     assert_eq!(rt; ends.as_slice(), [End::Stopped; 2].as_slice());
     Ok(())
 }
@@ -39,10 +38,9 @@ fn check_retired(rt: &impl Abort, entries: &[Entry], hart: HartId, want: usize) 
 #[test]
 fn empty_leases_leave_all_to_the_visits(rt: HostRuntime) -> Result<(), Fail> {
     let program = program(rt.alloc(), &TEN)?;
-    let board: Small = Board::boot(rt.alloc(), &program, 2, SIZE)?;
-    let desk = Mutex::new(board);
+    let desk = Mutex::new(booted(&rt, &program, 2));
     let gate = Runs { most: 0 };
-    let ends = serve::<Small, Runs, HostRuntime>(&rt, &desk, 2, &gate, 5)?;
+    let ends = serve::<Small, Runs, HostRuntime>(&rt, &desk, 2, &gate, 5).expect(&rt, "memory");
     assert_eq!(rt; ends.as_slice(), [End::Limit; 2].as_slice());
     let end = desk.into_inner().finish();
     assert_eq!(rt; end.history.len(), 10);

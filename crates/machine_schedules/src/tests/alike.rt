@@ -16,29 +16,46 @@ fn is_aborting<const SETS: usize, const WAYS: usize>(
     }
 }
 
-/// That the words at an address are one, as every hart sees them and in place. A hart that is being aborted has nothing of its own in the
-/// plain machine any more, and what it wrote is still in place: so then the word in place is compared only where no hart aborts.
+/// Whether no hart's transaction is being aborted.
+fn none_aborts<const SETS: usize, const WAYS: usize>(machine: &Machine<SETS, WAYS>) -> bool {
+    for number in 0..8 {
+        if is_aborting(machine, HartId::new(number)) {
+            return false;
+        }
+    }
+    true
+}
+
+/// That a word is one as a hart sees it. A hart that is being aborted has nothing of its own in the plain machine any more.
+fn check_view<const SETS: usize, const WAYS: usize>(
+    rt: &impl Abort,
+    machine: &Machine<SETS, WAYS>,
+    checker: &Checker,
+    hart: HartId,
+    addr: Addr,
+) {
+    if !is_aborting(machine, hart) {
+        assert_eq!(rt;
+            view(machine, hart, addr),
+            checker.view(hart, addr),
+            "{addr:?}"
+        );
+    }
+}
+
+/// That the words at an address are one, as every hart sees them and in place. What a hart wrote that is being aborted is still in place: so
+/// the word in place is compared only where no hart aborts.
 fn check_word<const SETS: usize, const WAYS: usize>(
     rt: &impl Abort,
     machine: &Machine<SETS, WAYS>,
     checker: &Checker,
     addr: Addr,
 ) {
-    let mut none_aborts = true;
     assert_eq!(rt; peek(machine, addr), checker.peek(addr), "{addr:?}");
     for number in 0..8 {
-        let hart = HartId::new(number);
-        if is_aborting(machine, hart) {
-            none_aborts = false;
-        } else {
-            assert_eq!(rt;
-                view(machine, hart, addr),
-                checker.view(hart, addr),
-                "{addr:?}"
-            );
-        }
+        check_view(rt, machine, checker, HartId::new(number), addr);
     }
-    if none_aborts {
+    if none_aborts(machine) {
         assert_eq!(rt; raw(machine, addr), checker.raw(addr), "{addr:?}");
     }
 }

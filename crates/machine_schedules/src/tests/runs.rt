@@ -4,10 +4,10 @@ use super::alike::check_alike;
 use super::play::checked;
 use elf_samples::{COMMITS, COUNTS, elf_file};
 use flat::BootFault;
-use loader::read_elf;
+use loader::{Program, read_elf};
 use machine::Machine;
 use machine_play::{SIZE, booted, make, next_turn, one, peek, place, zero};
-use std::alloc::AllocError;
+use std::alloc::{AllocError, Global};
 use std::process::Abort;
 use std::test::Fail;
 use words::{Entry, Step};
@@ -80,7 +80,7 @@ fn turns_of_two(
     entries: &mut Vec<Entry>,
 ) -> Result<(), Fail> {
     let mut machine = booted::<16, 4>(rt.alloc(), &COUNTS, 2, SIZE)?;
-    take_turns(&mut machine, 20_000, steps, entries)?;
+    take_turns(&mut machine, 20_000, steps, entries).expect(rt, "memory");
     Ok(())
 }
 
@@ -122,12 +122,17 @@ fn run_or_go_on(
     }
 }
 
-/// The machine of a program. `None` where memory ran out.
-fn booted_or_none(rt: &(impl Abort + AllocGlobal)) -> Option<Machine<2, 1>> {
-    let Ok(file) = elf_file(rt.alloc(), &COMMITS) else {
+/// A program. `None` where memory ran out.
+fn program_or_none(alloc: Global) -> Option<Program> {
+    let Ok(file) = elf_file(alloc, &COMMITS) else {
         return None;
     };
-    let Ok(program) = read_elf(rt.alloc(), &file) else {
+    read_elf(alloc, &file).ok()
+}
+
+/// The machine that it begins in. `None` where memory ran out.
+fn booted_or_none(rt: &(impl Abort + AllocGlobal)) -> Option<Machine<2, 1>> {
+    let Some(program) = program_or_none(rt.alloc()) else {
         return None;
     };
     match Machine::<2, 1>::boot(rt.alloc(), program, 1, 65_536) {
@@ -140,13 +145,13 @@ fn booted_or_none(rt: &(impl Abort + AllocGlobal)) -> Option<Machine<2, 1>> {
 }
 
 /// The machine's first twelve turns, which are made.
-fn twelve_turns(machine: &mut Machine<2, 1>) -> Result<[Step; 12], Fail> {
+fn twelve_turns(rt: &impl Abort, machine: &mut Machine<2, 1>) -> [Step; 12] {
     let mut steps = [Step::Core(zero()); 12];
     for k in 0..12 {
-        steps[k] = next_turn(machine, zero()).ok_or("a turn")?;
-        step_or_again(machine, &steps[k])?;
+        steps[k] = next_turn(machine, zero()).expect(rt, "a turn");
+        step_or_again(machine, &steps[k]).expect(rt, "memory");
     }
-    Ok(steps)
+    steps
 }
 
 /// That no turn is left, and 7 stands at 0x2000.
@@ -156,32 +161,30 @@ fn check_end(rt: &impl Abort, machine: &Machine<2, 1>) {
 }
 
 /// The twelve turns of the program, each tried again if memory ran out. `None` where there was none to begin with.
-fn turns_or_none(rt: &(impl Abort + AllocGlobal)) -> Result<Option<[Step; 12]>, Fail> {
+fn turns_or_none(rt: &(impl Abort + AllocGlobal)) -> Option<[Step; 12]> {
     let Some(mut machine) = booted_or_none(rt) else {
-        return Ok(None);
+        return None;
     };
-    let steps = twelve_turns(&mut machine)?;
+    let steps = twelve_turns(rt, &mut machine);
     check_end(rt, &machine);
-    Ok(Some(steps))
+    Some(steps)
 }
 
-/// That these steps in one run lead to the same end, if there is memory to begin with.
-fn check_run(rt: &(impl Abort + AllocGlobal), steps: &[Step]) -> Result<(), Fail> {
-    let Some(mut machine) = booted_or_none(rt) else {
-        return Ok(());
-    };
+/// That these steps in one run lead to the same end.
+fn check_run(rt: &(impl Abort + AllocGlobal), machine: &mut Machine<2, 1>, steps: &[Step]) {
     let mut entries = Vec::new(rt.alloc());
-    run_or_go_on(&mut machine, steps, &mut entries)?;
-    check_end(rt, &machine);
+    run_or_go_on(machine, steps, &mut entries).expect(rt, "memory");
+    check_end(rt, machine);
     assert_eq!(rt; entries.len(), 8);
-    Ok(())
 }
 
 // For `rt try --test --fail-alloc N`: memory that runs out once changes nothing, whichever allocation is refused.
 #[test]
-fn runs_or_wants_memory(rt: HostRuntime) -> Result<(), Fail> {
-    match turns_or_none(&rt)? {
-        Some(steps) => check_run(&rt, &steps),
-        None => Ok(()),
+fn runs_or_wants_memory(rt: HostRuntime) {
+    let Some(steps) = turns_or_none(&rt) else {
+        return;
+    };
+    if let Some(mut machine) = booted_or_none(&rt) {
+        check_run(&rt, &mut machine, &steps);
     }
 }

@@ -4,11 +4,12 @@ use super::alike::check_alike;
 use super::play::{Schedule, checked, play};
 use elf_samples::{ABORTS, ADDS, COMMITS, COUNTS};
 use flat::Engine;
+use machine::Machine;
 use machine_play::{SIZE, SPILLS, STORES_113, STORES_114, booted};
 use reference::Machine as Checker;
 use std::process::Abort;
 use std::test::Fail;
-use words::{Addr, HartId, Status};
+use words::{Addr, Entry, HartId, Status};
 
 /// Whether each hart has exited with 0.
 fn have_all_exited(checker: &Checker) -> bool {
@@ -22,8 +23,21 @@ fn have_all_exited(checker: &Checker) -> bool {
     true
 }
 
-/// Plays a program by a schedule: the plain machine accepts each entry, and shows the same then. Whether all harts have exited with 0,
-/// and what stands at 0x2000.
+/// That the plain machine accepts each entry of a program, and shows what the machine does then. Whether all harts have exited with 0, and
+/// what stands at 0x2000.
+fn checked_outcome<const SETS: usize, const WAYS: usize>(
+    rt: &(impl Abort + AllocGlobal),
+    machine: &Machine<SETS, WAYS>,
+    text: &[u32],
+    harts: u32,
+    entries: &[Entry],
+) -> Result<(bool, Option<u32>), Fail> {
+    let checker = checked(rt.alloc(), text, harts, SIZE, entries)?;
+    check_alike(rt, machine, &checker);
+    Ok((have_all_exited(&checker), checker.peek(Addr::new(0x2000))))
+}
+
+/// Plays a program by a schedule, and checks it by the plain machine. Whether all harts have exited with 0, and what stands at 0x2000.
 fn outcome<const SETS: usize, const WAYS: usize>(
     rt: &(impl Abort + AllocGlobal),
     text: &[u32],
@@ -37,10 +51,8 @@ fn outcome<const SETS: usize, const WAYS: usize>(
 {
     let mut machine = booted::<SETS, WAYS>(rt.alloc(), text, harts, SIZE)?;
     let mut entries = Vec::new(rt.alloc());
-    play(&mut machine, schedule, most, &mut entries)?;
-    let checker = checked(rt.alloc(), text, harts, SIZE, &entries)?;
-    check_alike(rt, &machine, &checker);
-    Ok((have_all_exited(&checker), checker.peek(Addr::new(0x2000))))
+    play(&mut machine, schedule, most, &mut entries).expect(rt, "memory");
+    checked_outcome(rt, &machine, text, harts, &entries)
 }
 
 /// The schedules, the second with evictions of so many blocks.

@@ -1,12 +1,9 @@
 //! Steps chosen by hand.
 
-ghost use Rattle.std.specs.Prelude.{◌≤◌, IfOk};
-
 use super::checks::counts;
 use machine::Machine;
 use machine_play::{make, message, next_message, next_turn, zero};
-use std::alloc::AllocError;
-use std::test::Fail;
+use std::process::Abort;
 use words::{Entry, HartId, Message, Step};
 
 /// What a message is.
@@ -52,23 +49,32 @@ pub(crate) fn find<const SETS: usize, const WAYS: usize>(
     None
 }
 
-/// The oldest message of this name arrives.
-pub(crate) fn deliver<const SETS: usize, const WAYS: usize>(
+/// One step, enabled or not, its entry pushed.
+pub(crate) fn make_step<const SETS: usize, const WAYS: usize>(
+    rt: &impl Abort,
     machine: &mut Machine<SETS, WAYS>,
-    name: Name,
+    step: Step,
     entries: &mut Vec<Entry>,
-) -> Result<(), Fail> {
-    let (key, _) = find(machine, name).ok_or("no such message")?;
-    make(machine, Step::Deliver(key), entries)?;
-    Ok(())
+) {
+    make(machine, step, entries).expect(rt, "memory");
 }
 
-/// The newest message of this name arrives.
-pub(crate) fn deliver_newest<const SETS: usize, const WAYS: usize>(
+/// The oldest message of this name arrives.
+pub(crate) fn deliver<const SETS: usize, const WAYS: usize>(
+    rt: &impl Abort,
     machine: &mut Machine<SETS, WAYS>,
     name: Name,
     entries: &mut Vec<Entry>,
-) -> Result<(), Fail> {
+) {
+    let (key, _) = find(machine, name).expect(rt, "such a message");
+    make_step(rt, machine, Step::Deliver(key), entries);
+}
+
+/// The key of the newest message of this name.
+fn newest<const SETS: usize, const WAYS: usize>(
+    machine: &Machine<SETS, WAYS>,
+    name: Name,
+) -> Option<usize> {
     let mut newest = None;
     let mut last = None;
     for _ in 0..count(machine) {
@@ -81,12 +87,18 @@ pub(crate) fn deliver_newest<const SETS: usize, const WAYS: usize>(
             }
         }
     }
-    make(
-        machine,
-        Step::Deliver(newest.ok_or("no such message")?),
-        entries,
-    )?;
-    Ok(())
+    newest
+}
+
+/// The newest message of this name arrives.
+pub(crate) fn deliver_newest<const SETS: usize, const WAYS: usize>(
+    rt: &impl Abort,
+    machine: &mut Machine<SETS, WAYS>,
+    name: Name,
+    entries: &mut Vec<Entry>,
+) {
+    let key = newest(machine, name).expect(rt, "such a message");
+    make_step(rt, machine, Step::Deliver(key), entries);
 }
 
 /// How many messages are in flight, a thousand at most.
@@ -104,48 +116,48 @@ pub(crate) fn count<const SETS: usize, const WAYS: usize>(machine: &Machine<SETS
 /// Goes on by the machine's turns, with this hart for each turn of a hart, until so many entries are given or no turn is left, by ten
 /// thousand steps at most: how many steps were made.
 pub(crate) fn go<const SETS: usize, const WAYS: usize>(
+    rt: &impl Abort,
     machine: &mut Machine<SETS, WAYS>,
     hart: HartId,
     wanted: usize,
     entries: &mut Vec<Entry>,
-) -> Result<usize, AllocError>
-    ensures { IfOk result (λ made. made ≤ 10000) }
-{
+) -> usize {
     let all = entries.len().saturating_add(wanted);
     for made in 0..10_000 {
         if entries.len() >= all {
-            return Ok(made);
+            return made;
         }
         let turn = match next_turn(machine, hart) {
             Some(Step::Core(_)) => Step::Core(hart),
             Some(turn) => turn,
-            None => return Ok(made),
+            None => return made,
         };
-        make(machine, turn, entries)?;
+        make_step(rt, machine, turn, entries);
     }
-    Ok(10_000)
+    10_000
 }
 
 /// All messages arrive that come to be in flight, the oldest first; no core goes on.
 pub(crate) fn settle<const SETS: usize, const WAYS: usize>(
+    rt: &impl Abort,
     machine: &mut Machine<SETS, WAYS>,
     entries: &mut Vec<Entry>,
-) -> Result<(), AllocError> {
+) {
     for _ in 0..1000 {
         match next_turn(machine, HartId::new(0)) {
-            Some(Step::Deliver(key)) => make(machine, Step::Deliver(key), entries)?,
-            _ => return Ok(()),
+            Some(Step::Deliver(key)) => make_step(rt, machine, Step::Deliver(key), entries),
+            _ => return,
         }
     }
-    Ok(())
 }
 
 /// Goes on by the machine's turns, the first after the highest hart's, so many at most.
 pub(crate) fn take_turns<const SETS: usize, const WAYS: usize>(
+    rt: &impl Abort,
     machine: &mut Machine<SETS, WAYS>,
     most: u32,
     entries: &mut Vec<Entry>,
-) -> Result<(), AllocError> {
+) {
     let mut last = machine.last_hart();
     for _ in 0..most {
         let Some(turn) = next_turn(machine, last) else {
@@ -154,33 +166,32 @@ pub(crate) fn take_turns<const SETS: usize, const WAYS: usize>(
         if let Step::Core(hart) = turn {
             last = hart;
         }
-        make(machine, turn, entries)?;
+        make_step(rt, machine, turn, entries);
     }
-    Ok(())
 }
 
 /// A core goes on, and all messages arrive.
 pub(crate) fn ask<const SETS: usize, const WAYS: usize>(
+    rt: &impl Abort,
     machine: &mut Machine<SETS, WAYS>,
     hart: HartId,
     entries: &mut Vec<Entry>,
-) -> Result<(), AllocError> {
-    make(machine, Step::Core(hart), entries)?;
-    settle(machine, entries)?;
-    Ok(())
+) {
+    make_step(rt, machine, Step::Core(hart), entries);
+    settle(rt, machine, entries);
 }
 
 /// A machine goes on until hart 0 aborts, or a thousand entries are given.
 pub(crate) fn go_to_an_abort<const SETS: usize, const WAYS: usize>(
+    rt: &impl Abort,
     machine: &mut Machine<SETS, WAYS>,
     entries: &mut Vec<Entry>,
-) -> Result<(), AllocError> {
+) {
     for _ in 0..1000 {
         let (_, _, others) = counts(entries);
         if others == 1 {
             break;
         }
-        go(machine, zero(), 1, entries)?;
+        go(rt, machine, zero(), 1, entries);
     }
-    Ok(())
 }

@@ -1,7 +1,6 @@
 //! One hart, turn by turn.
 
-use super::checks::check_events;
-use super::script::{Act, Fact, play_all, play_small};
+use super::script::{Act, Fact, play_all, play_small, play_small_to, play_to};
 use directory::{DirEntry, Owner};
 use elf_samples::{ABORTS, COMMITS, EXIT};
 use machine::TxInfo;
@@ -105,8 +104,7 @@ fn a_transaction_commits(rt: HostRuntime) -> Result<(), Fail> {
         Act::See(Fact::Steps(12)),
         Act::See(Fact::Hart(zero(), Addr::new(0x1020), Status::Exited(0))),
     ];
-    let entries = play_all(&rt, &COMMITS, 1, SIZE, &script)?;
-    check_events(&rt, &entries, &[None; 8]);
+    play_to(&rt, &COMMITS, 1, SIZE, &script, &[None; 8])?;
     Ok(())
 }
 
@@ -120,10 +118,9 @@ fn a_transaction_is_rolled_back(rt: HostRuntime) -> Result<(), Fail> {
         Act::See(Fact::Place(0, 0)),
         Act::Go(zero(), 100),
     ];
-    let entries = play_all(&rt, &ABORTS, 1, SIZE, &script)?;
     let abort = Some(aborted(AbortCause::Asked));
     let want = [None, None, None, None, abort, None, None, None];
-    check_events(&rt, &entries, &want);
+    play_to(&rt, &ABORTS, 1, SIZE, &script, &want)?;
     Ok(())
 }
 
@@ -150,7 +147,6 @@ fn a_spilled_block_is_rolled_back(rt: HostRuntime) -> Result<(), Fail> {
         Act::See(Fact::Place(0, 0)),
         Act::Go(zero(), 100),
     ];
-    let entries = play_small(&rt, &SPILLS, 1, LARGE, &script)?;
     let want = [
         None,
         None,
@@ -166,7 +162,7 @@ fn a_spilled_block_is_rolled_back(rt: HostRuntime) -> Result<(), Fail> {
         None,
         None,
     ];
-    check_events(&rt, &entries, &want);
+    play_small_to(&rt, &SPILLS, 1, LARGE, &script, &want)?;
     Ok(())
 }
 
@@ -193,8 +189,7 @@ fn a_store_on_a_full_log_aborts(rt: HostRuntime) -> Result<(), Fail> {
         Act::Go(zero(), 100),
         Act::See(Fact::Stopped),
     ];
-    let after = play_all(&rt, &STORES_114, 1, SIZE, &script)?;
-    check_events(&rt, &after, &[None; 3]);
+    play_to(&rt, &STORES_114, 1, SIZE, &script, &[None; 3])?;
     Ok(())
 }
 
@@ -247,8 +242,7 @@ fn a_store_is_a_request_and_three_messages(rt: HostRuntime) -> Result<(), Fail> 
         Act::See(Fact::Used(1)),
         Act::See(Fact::Directory(owned_by_zero())),
     ];
-    let entries = play_all(&rt, &STORES_ONCE, 1, SIZE, &script)?;
-    check_events(&rt, &entries, &[None; 6]);
+    play_to(&rt, &STORES_ONCE, 1, SIZE, &script, &[None; 6])?;
     Ok(())
 }
 
@@ -280,8 +274,7 @@ fn a_block_that_nobody_shares_is_stored_to_at_once(rt: HostRuntime) -> Result<()
         Act::Go(zero(), 100),
         Act::See(Fact::Steps(10)),
     ];
-    let entries = play_all(&rt, &LOADS_AND_STORES, 1, SIZE, &script)?;
-    check_events(&rt, &entries, &[None; 6]);
+    play_to(&rt, &LOADS_AND_STORES, 1, SIZE, &script, &[None; 6])?;
     Ok(())
 }
 

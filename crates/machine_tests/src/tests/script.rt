@@ -3,17 +3,18 @@
 //! The proof of a test then has a list to carry, and one function here has the machine.
 
 use super::checks::{
-    check_carried, check_count, check_counts, check_directory, check_entry, check_first_record,
-    check_flags, check_hart, check_last, check_line, check_log, check_logged_words, check_oldest,
-    check_place, check_register, check_retired, check_state, check_tx, check_undone_words,
-    check_used, check_view, check_word,
+    check_carried, check_count, check_counts, check_directory, check_entry, check_events,
+    check_first_record, check_flags, check_hart, check_last, check_line, check_log,
+    check_logged_words, check_oldest, check_place, check_register, check_retired, check_state,
+    check_tx, check_undone_words, check_used, check_view, check_word,
 };
 use super::moves::{
-    Name, ask, count, deliver, deliver_newest, find, go, go_to_an_abort, settle, take_turns,
+    Name, ask, count, deliver, deliver_newest, find, go, go_to_an_abort, make_step, settle,
+    take_turns,
 };
 use directory::DirEntry;
 use machine::{Machine, TxInfo};
-use machine_play::{all_stopped, booted, make};
+use machine_play::{all_stopped, booted};
 use std::process::Abort;
 use std::test::Fail;
 use words::{AbortCause, Addr, Entry, HartId, LineState, Marks, Message, Status, Step};
@@ -190,11 +191,10 @@ fn hold<const SETS: usize, const WAYS: usize>(
     machine: &mut Machine<SETS, WAYS>,
     name: Name,
     entries: &mut Vec<Entry>,
-) -> Result<(), Fail> {
+) {
     let before = find(machine, name);
-    deliver(machine, name, entries)?;
+    deliver(rt, machine, name, entries);
     assert!(rt; find(machine, name) == before);
-    Ok(())
 }
 
 /// Does one act, and gives how many steps the turns of a hart were.
@@ -204,43 +204,42 @@ fn perform<const SETS: usize, const WAYS: usize>(
     entries: &mut Vec<Entry>,
     steps: usize,
     act: Act,
-) -> Result<usize, Fail> {
+) -> usize {
     match act {
-        Act::Go(hart, wanted) => return Ok(go(machine, hart, wanted, entries)?),
+        Act::Go(hart, wanted) => return go(rt, machine, hart, wanted, entries),
         Act::GoBy(hart, wanted, want) => {
-            let made = go(machine, hart, wanted, entries)?;
+            let made = go(rt, machine, hart, wanted, entries);
             check_count(rt, made, want);
-            return Ok(made);
+            return made;
         }
-        Act::GoToAnAbort => go_to_an_abort(machine, entries)?,
-        Act::Make(step) => make(machine, step, entries)?,
-        Act::Deliver(name) => deliver(machine, name, entries)?,
-        Act::DeliverNewest(name) => deliver_newest(machine, name, entries)?,
-        Act::Hold(name) => hold(rt, machine, name, entries)?,
-        Act::Settle => settle(machine, entries)?,
-        Act::Ask(hart) => ask(machine, hart, entries)?,
-        Act::Turns(most) => take_turns(machine, most, entries)?,
+        Act::GoToAnAbort => go_to_an_abort(rt, machine, entries),
+        Act::Make(step) => make_step(rt, machine, step, entries),
+        Act::Deliver(name) => deliver(rt, machine, name, entries),
+        Act::DeliverNewest(name) => deliver_newest(rt, machine, name, entries),
+        Act::Hold(name) => hold(rt, machine, name, entries),
+        Act::Settle => settle(rt, machine, entries),
+        Act::Ask(hart) => ask(rt, machine, hart, entries),
+        Act::Turns(most) => take_turns(rt, machine, most, entries),
         Act::Forget => entries.clear(),
         Act::See(fact) => see(rt, machine, entries, steps, &fact),
     }
-    Ok(0)
+    0
 }
 
-/// Plays a script, and gives the entries that weren't put away.
+/// Plays a script, the entries pushed that aren't put away.
 fn play<const SETS: usize, const WAYS: usize>(
-    rt: &(impl Abort + AllocGlobal),
+    rt: &impl Abort,
     machine: &mut Machine<SETS, WAYS>,
     scripts: &[&[Act]],
-) -> Result<Vec<Entry>, Fail> {
-    let mut entries = Vec::new(rt.alloc());
+    entries: &mut Vec<Entry>,
+) {
     let mut steps: usize = 0;
     for script in scripts {
         for act in *script {
-            let made = perform(rt, machine, &mut entries, steps, *act)?;
+            let made = perform(rt, machine, entries, steps, *act);
             steps = steps.saturating_add(made);
         }
     }
-    Ok(entries)
 }
 
 /// Plays a script, and another after it, with caches of 16 sets of 4 ways.
@@ -251,9 +250,10 @@ pub(crate) fn play_on(
     size: u32,
     first: &[Act],
     then: &[Act],
-) -> Result<Vec<Entry>, Fail> {
+) -> Result<(), Fail> {
     let mut machine = booted::<16, 4>(rt.alloc(), text, harts, size)?;
-    play(rt, &mut machine, &[first, then])
+    play(rt, &mut machine, &[first, then], &mut Vec::new(rt.alloc()));
+    Ok(())
 }
 
 /// The same for one script.
@@ -263,18 +263,51 @@ pub(crate) fn play_all(
     harts: u32,
     size: u32,
     script: &[Act],
-) -> Result<Vec<Entry>, Fail> {
+) -> Result<(), Fail> {
     play_on(rt, text, harts, size, script, &[])
 }
 
-/// The same with caches of two lines, one a set.
+/// The same, where the entries that weren't put away are these then, `None` for a word that was retired.
+pub(crate) fn play_to(
+    rt: &(impl Abort + AllocGlobal),
+    text: &[u32],
+    harts: u32,
+    size: u32,
+    script: &[Act],
+    events: &[Option<Entry>],
+) -> Result<(), Fail> {
+    let mut machine = booted::<16, 4>(rt.alloc(), text, harts, size)?;
+    let mut entries = Vec::new(rt.alloc());
+    play(rt, &mut machine, &[script], &mut entries);
+    check_events(rt, &entries, events);
+    Ok(())
+}
+
+/// Plays a script with caches of two lines, one a set.
 pub(crate) fn play_small(
     rt: &(impl Abort + AllocGlobal),
     text: &[u32],
     harts: u32,
     size: u32,
     script: &[Act],
-) -> Result<Vec<Entry>, Fail> {
+) -> Result<(), Fail> {
     let mut machine = booted::<2, 1>(rt.alloc(), text, harts, size)?;
-    play(rt, &mut machine, &[script])
+    play(rt, &mut machine, &[script], &mut Vec::new(rt.alloc()));
+    Ok(())
+}
+
+/// The same, where the entries that weren't put away are these then.
+pub(crate) fn play_small_to(
+    rt: &(impl Abort + AllocGlobal),
+    text: &[u32],
+    harts: u32,
+    size: u32,
+    script: &[Act],
+    events: &[Option<Entry>],
+) -> Result<(), Fail> {
+    let mut machine = booted::<2, 1>(rt.alloc(), text, harts, size)?;
+    let mut entries = Vec::new(rt.alloc());
+    play(rt, &mut machine, &[script], &mut entries);
+    check_events(rt, &entries, events);
+    Ok(())
 }

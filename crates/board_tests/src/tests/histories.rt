@@ -1,3 +1,4 @@
+//! Histories of a few choices, as text, and read again.
 use elf_samples::Breaking;
 use schedule::{
     Choice, History, Journal, Name, ScheduleFault, Sort, Unkept, put_history, read,

@@ -1,7 +1,11 @@
+//! Harts in threads over one hub, and its history, played again.
+
+use super::play::WAITS;
 use board::{Code, End, Gate, Loan, Refusal, serve};
 use elf_samples::program;
 use hub::{Ended, Hub};
 use machine::{Machine, Silent};
+use machine_play::SIZE;
 use schedule::{Choice, History, Unkept, follow, put_history, read};
 use std::alloc::{AllocError, Global};
 use std::process::Abort;
@@ -10,33 +14,6 @@ use std::sync::Mutex;
 use std::test::Fail;
 use table::DecodedText;
 use words::{Addr, HartId, Taken};
-
-/// Adds 1 to the word at 0x2000 in a transaction, and exits with 0. After each abort a hart waits before it tries again, longer than the time
-/// before, and each for a time of its own.
-const WAITS: [u32; 20] = [
-    0x0010_0413,
-    0x0000_24b7,
-    0x0015_0993,
-    0x0059_9993,
-    0x0009_8913,
-    0x0200_040b,
-    0x0004_a283,
-    0x0012_8293,
-    0x0054_a023,
-    0x0000_100b,
-    0xfff4_0413,
-    0xfe04_12e3,
-    0x05d0_0893,
-    0x0000_0513,
-    0x0000_0073,
-    0x0139_0933,
-    0x0009_0313,
-    0xfff3_0313,
-    0xfe03_1ee3,
-    0xfc9f_f06f,
-];
-
-const SIZE: u32 = 131_072;
 
 /// The most turns of a hart.
 const TURNS: u64 = 100_000;

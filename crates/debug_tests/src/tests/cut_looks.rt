@@ -1,3 +1,4 @@
+//! Looks at programs on the coherent machine, with each put refused in turn.
 use commands::{DebugFault, Look, help, look};
 use elf_samples::{Breaking, COMMITS};
 use machine::Machine;

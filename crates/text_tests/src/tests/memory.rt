@@ -1,3 +1,4 @@
+//! For `rt try --test --fail-alloc N`: sources that are assembled, and ELF files that are read and written, where memory runs out.
 use assembler::{AsmFault, assemble};
 use loader::{LoadFault, read_elf, write_elf};
 use std::alloc::AllocError;

@@ -1,5 +1,0 @@
-//! Harts in threads over one hub, and its history, played again.
-#![tactic(auto)]
-
-#[cfg(test)]
-mod tests;

@@ -1,5 +1,0 @@
-//! Looks at programs on the coherent machine, with each put refused in turn.
-#![tactic(auto)]
-
-#[cfg(test)]
-mod tests;
