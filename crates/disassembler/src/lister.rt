@@ -87,7 +87,7 @@ pub fn put_line<S: Sink>(addr: Addr, word: u32, out: &mut S) -> Result<(), SinkF
             b": ",
             &hexadecimal(word),
             b"  ",
-            text.as_str().as_bytes(),
+            text.as_bytes(),
             b"\n",
         ],
     )

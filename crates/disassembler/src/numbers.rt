@@ -1,4 +1,4 @@
-ghost use Rattle.std.specs.Prelude.{◌≡◌, ◌≤◌, IsAscii, length};
+ghost use Rattle.std.specs.Prelude.{◌≡◌, ◌≤◌, length};
 ghost use Rattle.disassembler.specs.Canonical.{trimmed, signed};
 
 use itoa::Buffer;
@@ -14,9 +14,7 @@ pub(crate) fn signed(n: u32, digits: &mut Buffer) -> &str
 
 /// The digits without the zeros in front; a last zero stays.
 pub(crate) fn trimmed(digits: &[u8]) -> &[u8]
-    requires { IsAscii digits.now }
     ensures text { result.now ≡ trimmed digits.now }
-    ensures ascii { IsAscii result.now }
     ensures short { length result.now ≤ length digits.now }
 {
     match digits {

@@ -4,27 +4,26 @@ ghost use Rattle.disassembler.specs.Canonical.{canonical, spelled, plain, text_o
 
 use crate::names::{amo_name, branch_name, imm_name, load_name, op_name, shift_name, store_name};
 use crate::shapes::{atomic, based, begin, jump, numbered, registers, shifted, upper};
-use arrayvec::ArrayString;
 use operands::FenceBits;
 use table::{AmoOp, Instr, decode};
-use texts::{ascii, hexadecimal};
+use texts::Line;
 use words::Reg;
 
 /// The canonical text of a word: its mnemonic and its operands, or `.word` with its digits. No other word has the same.
-pub fn text(word: u32) -> ArrayString<40>
-    ensures { result.bytes ≡ canonical word }
+pub fn text(word: u32) -> Line<40>
+    ensures { result ≡ canonical word }
 {
-    let mut line = ArrayString::new();
+    let mut line = Line::new();
     add_text(word, &mut line);
     line
 }
 
 /// Adds the canonical text of a word to a line that has room for it: no text is longer than 40 bytes.
 #[tactic(auto, unfolding(crate::specs::Canonical::canonical))]
-pub fn add_text<const CAP: usize>(word: u32, line: &mut ArrayString<CAP>)
-    requires { length line.old.bytes + 40 ≤ CAP }
-    ensures text { line.new.bytes ≡ line.old.bytes ++ canonical word }
-    ensures longer { length line.new.bytes ≤ length line.old.bytes + 40 }
+pub fn add_text<const CAP: usize>(word: u32, line: &mut Line<CAP>)
+    requires { length line.old + 40 ≤ CAP }
+    ensures text { line.new ≡ line.old ++ canonical word }
+    ensures longer { length line.new ≤ length line.old + 40 }
 {
     match decode(word) {
         Some(instr) => add_instr(instr, word, line),
@@ -33,20 +32,20 @@ pub fn add_text<const CAP: usize>(word: u32, line: &mut ArrayString<CAP>)
 }
 
 #[tactic(auto, unfolding(crate::specs::Canonical::plain))]
-fn add_plain<const CAP: usize>(word: u32, line: &mut ArrayString<CAP>)
-    requires { length line.old.bytes + 40 ≤ CAP }
-    ensures text { line.new.bytes ≡ line.old.bytes ++ plain word }
-    ensures longer { length line.new.bytes ≤ length line.old.bytes + 40 }
+fn add_plain<const CAP: usize>(word: u32, line: &mut Line<CAP>)
+    requires { length line.old + 40 ≤ CAP }
+    ensures text { line.new ≡ line.old ++ plain word }
+    ensures longer { length line.new ≤ length line.old + 40 }
 {
-    line.push_str(".word 0x");
-    line.push_str(ascii(&hexadecimal(word)));
+    line.put(".word 0x");
+    line.put_word(word);
 }
 
 /// Adds the text of an instruction, or the plain text of its word if it has none.
-fn add_instr<const CAP: usize>(instr: Instr, word: u32, line: &mut ArrayString<CAP>)
-    requires { length line.old.bytes + 40 ≤ CAP }
-    ensures text { line.new.bytes ≡ line.old.bytes ++ text_or (plain word) (spelled instr) }
-    ensures longer { length line.new.bytes ≤ length line.old.bytes + 40 }
+fn add_instr<const CAP: usize>(instr: Instr, word: u32, line: &mut Line<CAP>)
+    requires { length line.old + 40 ≤ CAP }
+    ensures text { line.new ≡ line.old ++ text_or (plain word) (spelled instr) }
+    ensures longer { length line.new ≤ length line.old + 40 }
 {
     match instr {
         Instr::Lui { rd, imm } => upper("lui", rd, imm, line),
@@ -77,13 +76,13 @@ fn add_instr<const CAP: usize>(instr: Instr, word: u32, line: &mut ArrayString<C
             aq,
             rl,
         } if !aq && !rl => atomic(amo_name(op), rd, rs2, rs1, line),
-        Instr::Fence { bits } if bits.value() == FULL_FENCE => line.push_str("fence"),
+        Instr::Fence { bits } if bits.value() == FULL_FENCE => line.put("fence"),
         Instr::Amo { .. } | Instr::Fence { .. } => add_plain(word, line),
-        Instr::Ecall => line.push_str("ecall"),
-        Instr::Ebreak => line.push_str("ebreak"),
+        Instr::Ecall => line.put("ecall"),
+        Instr::Ebreak => line.put("ebreak"),
         Instr::TBegin { offset } => begin(offset, line),
-        Instr::TCommit => line.push_str("tcommit"),
-        Instr::TAbort => line.push_str("tabort"),
+        Instr::TCommit => line.put("tcommit"),
+        Instr::TAbort => line.put("tabort"),
     }
 }
 

@@ -5,99 +5,86 @@ ghost use Rattle.disassembler.specs.Canonical as spec;
 
 use crate::names::register;
 use crate::numbers::{signed, trimmed};
-use arrayvec::ArrayString;
 use itoa::Buffer;
 use operands::{AbortOffset, Imm12, Shamt, UpperImm};
-use texts::{ascii, hexadecimal};
+use texts::{Line, hexadecimal};
 use words::Reg;
 
 /// `op a`.
-fn first<const CAP: usize>(op: &str, a: Reg, line: &mut ArrayString<CAP>)
+fn first<const CAP: usize>(op: &str, a: Reg, line: &mut Line<CAP>)
     requires op { length op.now ≤ 9 }
-    requires room { length line.old.bytes + 40 ≤ CAP }
-    ensures text { line.new.bytes ≡ line.old.bytes ++ op.now ++ codes " " ++ register a }
-    ensures longer { length line.new.bytes ≤ length line.old.bytes + 14 }
+    requires room { length line.old + 40 ≤ CAP }
+    ensures text { line.new ≡ line.old ++ op.now ++ codes " " ++ register a }
+    ensures longer { length line.new ≤ length line.old + 14 }
 {
-    line.push_str(op);
-    line.push_str(" ");
-    line.push_str(register(a));
+    line.put(op);
+    line.put(" ");
+    line.put(register(a));
 }
 
 /// `op a, b`.
-fn second<const CAP: usize>(op: &str, a: Reg, b: Reg, line: &mut ArrayString<CAP>)
+fn second<const CAP: usize>(op: &str, a: Reg, b: Reg, line: &mut Line<CAP>)
     requires op { length op.now ≤ 9 }
-    requires room { length line.old.bytes + 40 ≤ CAP }
-    ensures text { line.new.bytes ≡ line.old.bytes ++ op.now ++ codes " " ++ register a ++ codes ", " ++ register b }
-    ensures longer { length line.new.bytes ≤ length line.old.bytes + 20 }
+    requires room { length line.old + 40 ≤ CAP }
+    ensures text { line.new ≡ line.old ++ op.now ++ codes " " ++ register a ++ codes ", " ++ register b }
+    ensures longer { length line.new ≤ length line.old + 20 }
 {
     first(op, a, line);
-    line.push_str(", ");
-    line.push_str(register(b));
+    line.put(", ");
+    line.put(register(b));
 }
 
 /// `op a, 0x..`, with the upper 20 bits.
 #[tactic(auto, unfolding(crate::specs::Canonical::upper))]
-pub(crate) fn upper<const CAP: usize>(op: &str, a: Reg, imm: UpperImm, line: &mut ArrayString<CAP>)
+pub(crate) fn upper<const CAP: usize>(op: &str, a: Reg, imm: UpperImm, line: &mut Line<CAP>)
     requires op { length op.now ≤ 9 }
-    requires room { length line.old.bytes + 40 ≤ CAP }
-    ensures text { line.new.bytes ≡ line.old.bytes ++ spec.two op.now (register a) (spec.upper imm) }
-    ensures longer { length line.new.bytes ≤ length line.old.bytes + 40 }
+    requires room { length line.old + 40 ≤ CAP }
+    ensures text { line.new ≡ line.old ++ spec.two op.now (register a) (spec.upper imm) }
+    ensures longer { length line.new ≤ length line.old + 40 }
 {
     let digits = hexadecimal(imm.value() >> 12);
     first(op, a, line);
-    line.push_str(", 0x");
-    line.push_str(ascii(trimmed(&digits)));
+    line.put(", 0x");
+    line.put_bytes(trimmed(&digits));
 }
 
 /// `op a, n`.
-pub(crate) fn jump<const CAP: usize>(op: &str, a: Reg, n: u32, line: &mut ArrayString<CAP>)
+pub(crate) fn jump<const CAP: usize>(op: &str, a: Reg, n: u32, line: &mut Line<CAP>)
     requires op { length op.now ≤ 9 }
-    requires room { length line.old.bytes + 40 ≤ CAP }
-    ensures text { line.new.bytes ≡ line.old.bytes ++ spec.two op.now (register a) (spec.signed n) }
-    ensures longer { length line.new.bytes ≤ length line.old.bytes + 27 }
+    requires room { length line.old + 40 ≤ CAP }
+    ensures text { line.new ≡ line.old ++ spec.two op.now (register a) (spec.signed n) }
+    ensures longer { length line.new ≤ length line.old + 27 }
 {
     let mut digits = Buffer::new();
     first(op, a, line);
-    line.push_str(", ");
-    line.push_str(signed(n, &mut digits));
+    line.put(", ");
+    line.put(signed(n, &mut digits));
 }
 
 /// `op a, n(base)`.
-pub(crate) fn based<const CAP: usize>(
-    op: &str,
-    a: Reg,
-    n: Imm12,
-    base: Reg,
-    line: &mut ArrayString<CAP>,
-)
+pub(crate) fn based<const CAP: usize>(op: &str, a: Reg, n: Imm12, base: Reg, line: &mut Line<CAP>)
     requires op { length op.now ≤ 9 }
-    requires room { length line.old.bytes + 40 ≤ CAP }
-    ensures text { line.new.bytes ≡ line.old.bytes ++ spec.offset op.now (register a) (spec.signed n) (register base) }
-    ensures longer { length line.new.bytes ≤ length line.old.bytes + 40 }
+    requires room { length line.old + 40 ≤ CAP }
+    ensures text { line.new ≡ line.old ++ spec.offset op.now (register a) (spec.signed n) (register base) }
+    ensures longer { length line.new ≤ length line.old + 40 }
 {
     jump(op, a, n.value(), line);
-    line.push_str("(");
-    line.push_str(register(base));
-    line.push_str(")");
+    line.put("(");
+    line.put(register(base));
+    line.put(")");
 }
 
 /// `op a, b, n`.
-pub(crate) fn numbered<const CAP: usize>(
-    op: &str,
-    a: Reg,
-    b: Reg,
-    n: u32,
-    line: &mut ArrayString<CAP>,
-)
+pub(crate) fn numbered<const CAP: usize>(op: &str, a: Reg, b: Reg, n: u32, line: &mut Line<CAP>)
     requires op { length op.now ≤ 9 }
-    requires room { length line.old.bytes + 40 ≤ CAP }
-    ensures text { line.new.bytes ≡ line.old.bytes ++ spec.three op.now (register a) (register b) (spec.signed n) }
-    ensures longer { length line.new.bytes ≤ length line.old.bytes + 40 }
+    requires room { length line.old + 40 ≤ CAP }
+    ensures text { line.new ≡ line.old ++ spec.three op.now (register a) (register b) (spec.signed n) }
+    ensures longer { length line.new ≤ length line.old + 40 }
 {
     let mut digits = Buffer::new();
     second(op, a, b, line);
-    line.push_str(", ");
-    line.push_str(signed(n, &mut digits));
+    line.put(", ");
+    line.put(signed(n, &mut digits));
 }
 
 /// `op a, b, amount`.
@@ -106,63 +93,51 @@ pub(crate) fn shifted<const CAP: usize>(
     a: Reg,
     b: Reg,
     amount: Shamt,
-    line: &mut ArrayString<CAP>,
+    line: &mut Line<CAP>,
 )
     requires op { length op.now ≤ 9 }
-    requires room { length line.old.bytes + 40 ≤ CAP }
-    ensures text { line.new.bytes ≡ line.old.bytes ++ spec.three op.now (register a) (register b) (decimal amount) }
-    ensures longer { length line.new.bytes ≤ length line.old.bytes + 40 }
+    requires room { length line.old + 40 ≤ CAP }
+    ensures text { line.new ≡ line.old ++ spec.three op.now (register a) (register b) (decimal amount) }
+    ensures longer { length line.new ≤ length line.old + 40 }
 {
     let mut digits = Buffer::new();
     second(op, a, b, line);
-    line.push_str(", ");
-    line.push_str(digits.format(amount.value()));
+    line.put(", ");
+    line.put(digits.format(amount.value()));
 }
 
 /// `op a, b, c`.
-pub(crate) fn registers<const CAP: usize>(
-    op: &str,
-    a: Reg,
-    b: Reg,
-    c: Reg,
-    line: &mut ArrayString<CAP>,
-)
+pub(crate) fn registers<const CAP: usize>(op: &str, a: Reg, b: Reg, c: Reg, line: &mut Line<CAP>)
     requires op { length op.now ≤ 9 }
-    requires room { length line.old.bytes + 40 ≤ CAP }
-    ensures text { line.new.bytes ≡ line.old.bytes ++ spec.three op.now (register a) (register b) (register c) }
-    ensures longer { length line.new.bytes ≤ length line.old.bytes + 40 }
+    requires room { length line.old + 40 ≤ CAP }
+    ensures text { line.new ≡ line.old ++ spec.three op.now (register a) (register b) (register c) }
+    ensures longer { length line.new ≤ length line.old + 40 }
 {
     second(op, a, b, line);
-    line.push_str(", ");
-    line.push_str(register(c));
+    line.put(", ");
+    line.put(register(c));
 }
 
 /// `op a, b, (base)`.
-pub(crate) fn atomic<const CAP: usize>(
-    op: &str,
-    a: Reg,
-    b: Reg,
-    base: Reg,
-    line: &mut ArrayString<CAP>,
-)
+pub(crate) fn atomic<const CAP: usize>(op: &str, a: Reg, b: Reg, base: Reg, line: &mut Line<CAP>)
     requires op { length op.now ≤ 9 }
-    requires room { length line.old.bytes + 40 ≤ CAP }
-    ensures text { line.new.bytes ≡ line.old.bytes ++ spec.atomic op.now (register a) (register b) (register base) }
-    ensures longer { length line.new.bytes ≤ length line.old.bytes + 40 }
+    requires room { length line.old + 40 ≤ CAP }
+    ensures text { line.new ≡ line.old ++ spec.atomic op.now (register a) (register b) (register base) }
+    ensures longer { length line.new ≤ length line.old + 40 }
 {
     second(op, a, b, line);
-    line.push_str(", (");
-    line.push_str(register(base));
-    line.push_str(")");
+    line.put(", (");
+    line.put(register(base));
+    line.put(")");
 }
 
 /// `tbegin n`.
-pub(crate) fn begin<const CAP: usize>(offset: AbortOffset, line: &mut ArrayString<CAP>)
-    requires { length line.old.bytes + 40 ≤ CAP }
-    ensures text { line.new.bytes ≡ line.old.bytes ++ spec.one (codes "tbegin") (spec.signed offset) }
-    ensures longer { length line.new.bytes ≤ length line.old.bytes + 40 }
+pub(crate) fn begin<const CAP: usize>(offset: AbortOffset, line: &mut Line<CAP>)
+    requires { length line.old + 40 ≤ CAP }
+    ensures text { line.new ≡ line.old ++ spec.one (codes "tbegin") (spec.signed offset) }
+    ensures longer { length line.new ≤ length line.old + 40 }
 {
     let mut digits = Buffer::new();
-    line.push_str("tbegin ");
-    line.push_str(signed(offset.value(), &mut digits));
+    line.put("tbegin ");
+    line.put(signed(offset.value(), &mut digits));
 }

@@ -11,25 +11,25 @@ use arrayvec::ArrayString;
 use disassembler::{add_text, register_name};
 use itoa::Buffer;
 use table::byte_count;
-use texts::{ascii, hexadecimal, put_all};
+use texts::{Line, put_all};
 use words::{AbortCause, Access, Addr, BlockNo, Cause, Entry, HartId, Reg, Sink, SinkFault};
 
 /// A line of an entry: none is longer than 180 bytes.
-type Line = ArrayString<180>;
+type EntryLine = Line<180>;
 
 /// Puts the line of an entry.
 pub fn put_entry<S: Sink>(entry: &Entry, sink: &mut S) -> Result<(), SinkFault>
     ensures { Puts (S.taken sink.old) (S.taken sink.new) (S.failed sink.old) (S.failed sink.new) (entry_line entry.now) result }
 {
-    let mut line = Line::new();
+    let mut line = EntryLine::new();
     write_entry(entry, &mut line);
-    put_all(sink, &[line.as_str().as_bytes()])
+    put_all(sink, &[line.as_bytes()])
 }
 
 /// Writes the line of an entry into an empty one.
-fn write_entry(entry: &Entry, line: &mut Line)
-    requires { line.old.bytes ≡ [] }
-    ensures { line.new.bytes ≡ entry_line entry.now }
+fn write_entry(entry: &Entry, line: &mut EntryLine)
+    requires { line.old ≡ [] }
+    ensures { line.new ≡ entry_line entry.now }
 {
     match *entry {
         Entry::Retire {
@@ -58,64 +58,64 @@ fn write_retired(
     write: Option<(Reg, u32)>,
     load: Option<Access>,
     store: Option<Access>,
-    line: &mut Line,
+    line: &mut EntryLine,
 )
-    requires { line.old.bytes ≡ [] }
-    ensures { line.new.bytes ≡ entry_line (Retire hart pc word write load store) }
+    requires { line.old ≡ [] }
+    ensures { line.new ≡ entry_line (Retire hart pc word write load store) }
 {
     write_word(hart, pc, word, line);
     add_write(write, line);
     add_access("load", load, line);
     add_access("store", store, line);
-    line.push_str("\n");
+    line.put("\n");
 }
 
 /// Writes the hart, the pc, and the word with its text.
-fn write_word(hart: HartId, pc: Addr, word: u32, line: &mut Line)
-    requires { line.old.bytes ≡ [] }
-    ensures text { line.new.bytes ≡ decimal hart ++ codes " 0x" ++ hexadecimal pc ++ codes " " ++ hexadecimal word ++ codes " " ++ canonical word }
-    ensures short { length line.new.bytes ≤ 64 }
+fn write_word(hart: HartId, pc: Addr, word: u32, line: &mut EntryLine)
+    requires { line.old ≡ [] }
+    ensures text { line.new ≡ decimal hart ++ codes " 0x" ++ hexadecimal pc ++ codes " " ++ hexadecimal word ++ codes " " ++ canonical word }
+    ensures short { length line.new ≤ 64 }
 {
-    line.push_str(ascii(&hart_digit(hart)));
-    line.push_str(" 0x");
-    line.push_str(ascii(&hexadecimal(pc.value())));
-    line.push_str(" ");
-    line.push_str(ascii(&hexadecimal(word)));
-    line.push_str(" ");
+    line.put_bytes(&hart_digit(hart));
+    line.put(" 0x");
+    line.put_word(pc.value());
+    line.put(" ");
+    line.put_word(word);
+    line.put(" ");
     add_text(word, line);
 }
 
 /// Adds the register that was written, if one was, and its value.
-fn add_write(write: Option<(Reg, u32)>, line: &mut Line)
-    requires { length line.old.bytes ≤ 64 }
-    ensures text { line.new.bytes ≡ line.old.bytes ++ spec.write_part write }
-    ensures longer { length line.new.bytes ≤ length line.old.bytes + 18 }
+fn add_write(write: Option<(Reg, u32)>, line: &mut EntryLine)
+    requires { length line.old ≤ 64 }
+    ensures text { line.new ≡ line.old ++ spec.write_part write }
+    ensures longer { length line.new ≤ length line.old + 18 }
 {
     if let Some((register, value)) = write {
-        line.push_str(" | ");
-        line.push_str(register_name(register));
-        line.push_str("=0x");
-        line.push_str(ascii(&hexadecimal(value)));
+        line.put(" | ");
+        line.put(register_name(register));
+        line.put("=0x");
+        line.put_word(value);
     }
 }
 
 /// Adds an access, if there was one.
-fn add_access(name: &str, access: Option<Access>, line: &mut Line)
+fn add_access(name: &str, access: Option<Access>, line: &mut EntryLine)
     requires short { length name.now ≤ 5 }
-    requires room { length line.old.bytes ≤ 130 }
-    ensures text { line.new.bytes ≡ line.old.bytes ++ spec.access_part name.now access }
-    ensures longer { length line.new.bytes ≤ length line.old.bytes + 48 }
+    requires room { length line.old ≤ 130 }
+    ensures text { line.new ≡ line.old ++ spec.access_part name.now access }
+    ensures longer { length line.new ≤ length line.old + 48 }
 {
     if let Some(access) = access {
         let mut digits = Buffer::new();
-        line.push_str(" | ");
-        line.push_str(name);
-        line.push_str(" ");
-        line.push_str(digits.format(byte_count(access.width)));
-        line.push_str(" 0x");
-        line.push_str(ascii(&hexadecimal(access.addr.value())));
-        line.push_str("=0x");
-        line.push_str(ascii(&hexadecimal(access.value)));
+        line.put(" | ");
+        line.put(name);
+        line.put(" ");
+        line.put(digits.format(byte_count(access.width)));
+        line.put(" 0x");
+        line.put_word(access.addr.value());
+        line.put("=0x");
+        line.put_word(access.value);
     }
 }
 
@@ -132,14 +132,14 @@ pub(crate) fn cause_text(cause: Cause) -> ArrayString<40>
     text
 }
 
-fn write_aborted(hart: HartId, cause: AbortCause, line: &mut Line)
-    requires { line.old.bytes ≡ [] }
-    ensures { line.new.bytes ≡ entry_line (Abort hart cause) }
+fn write_aborted(hart: HartId, cause: AbortCause, line: &mut EntryLine)
+    requires { line.old ≡ [] }
+    ensures { line.new ≡ entry_line (Abort hart cause) }
 {
-    line.push_str(ascii(&hart_digit(hart)));
-    line.push_str(" abort ");
-    line.push_str(abort_text(cause).as_str());
-    line.push_str("\n");
+    line.put_bytes(&hart_digit(hart));
+    line.put(" abort ");
+    line.put(abort_text(cause).as_str());
+    line.put("\n");
 }
 
 fn abort_text(cause: AbortCause) -> ArrayString<40>
@@ -162,36 +162,36 @@ fn named(name: &str) -> ArrayString<40>
     text
 }
 
-fn write_trapped(hart: HartId, cause: Cause, pc: Addr, line: &mut Line)
-    requires { line.old.bytes ≡ [] }
-    ensures { line.new.bytes ≡ entry_line (Trap hart cause pc) }
+fn write_trapped(hart: HartId, cause: Cause, pc: Addr, line: &mut EntryLine)
+    requires { line.old ≡ [] }
+    ensures { line.new ≡ entry_line (Trap hart cause pc) }
 {
-    line.push_str(ascii(&hart_digit(hart)));
-    line.push_str(" ");
-    line.push_str(cause_text(cause).as_str());
-    line.push_str(" at 0x");
-    line.push_str(ascii(&hexadecimal(pc.value())));
-    line.push_str("\n");
+    line.put_bytes(&hart_digit(hart));
+    line.put(" ");
+    line.put(cause_text(cause).as_str());
+    line.put(" at 0x");
+    line.put_word(pc.value());
+    line.put("\n");
 }
 
-fn write_refused(hart: HartId, requester: HartId, block: BlockNo, line: &mut Line)
-    requires { line.old.bytes ≡ [] }
-    ensures { line.new.bytes ≡ entry_line (Refuse hart requester block) }
+fn write_refused(hart: HartId, requester: HartId, block: BlockNo, line: &mut EntryLine)
+    requires { line.old ≡ [] }
+    ensures { line.new ≡ entry_line (Refuse hart requester block) }
 {
-    line.push_str(ascii(&hart_digit(hart)));
-    line.push_str(" refuses ");
-    line.push_str(ascii(&hart_digit(requester)));
-    line.push_str(" block 0x");
-    line.push_str(ascii(&first_byte(block)));
-    line.push_str("\n");
+    line.put_bytes(&hart_digit(hart));
+    line.put(" refuses ");
+    line.put_bytes(&hart_digit(requester));
+    line.put(" block 0x");
+    line.put_bytes(&first_byte(block));
+    line.put("\n");
 }
 
-fn write_spilled(hart: HartId, block: BlockNo, line: &mut Line)
-    requires { line.old.bytes ≡ [] }
-    ensures { line.new.bytes ≡ entry_line (Spill hart block) }
+fn write_spilled(hart: HartId, block: BlockNo, line: &mut EntryLine)
+    requires { line.old ≡ [] }
+    ensures { line.new ≡ entry_line (Spill hart block) }
 {
-    line.push_str(ascii(&hart_digit(hart)));
-    line.push_str(" spills block 0x");
-    line.push_str(ascii(&first_byte(block)));
-    line.push_str("\n");
+    line.put_bytes(&hart_digit(hart));
+    line.put(" spills block 0x");
+    line.put_bytes(&first_byte(block));
+    line.put("\n");
 }

@@ -59,7 +59,7 @@ fn put_entry_label<S: Sink>(sink: &mut S, entry: &Entry) -> Result<(), SinkFault
     ensures { Puts (S.taken sink.old) (S.taken sink.new) (S.failed sink.old) (S.failed sink.new) (spec.entry_label entry.now) result }
 {
     match entry {
-        Entry::Retire { word, .. } => put_all(sink, &[text(*word).as_str().as_bytes()]),
+        Entry::Retire { word, .. } => put_all(sink, &[text(*word).as_bytes()]),
         Entry::Abort { cause, .. } => put_all(sink, &[abort_label(*cause).as_bytes()]),
         Entry::Trap { cause, .. } => put_all(sink, &[b"trap ", cause.name().as_bytes()]),
         Entry::Refuse { requester, .. } => {

@@ -3,8 +3,8 @@ use Rattle.lines.proofs.entries.add_access.Goals as goal
 
 pub returns-in-Some-clause-text : goal.returns-in-Some-clause-text
 returns-in-Some-clause-text c =
-    let value = c.push_str-in-Some-7.ensures.bytes in
-    let addr = c.push_str-in-Some-5.ensures.bytes in
-    let width = c.push_str-in-Some-3.ensures.bytes in
-    let name = c.push_str-in-Some.ensures.bytes in
-    simp (append_assoc, append-nil, value, c.push_str-in-Some-6.ensures.bytes, addr, c.push_str-in-Some-4.ensures.bytes, width, c.push_str-in-Some-2.ensures.bytes, name, c.push_str.ensures.bytes, c.in-Some.is, c.format.ensures.text, c.byte_count.ensures.value, c.ascii.ensures, c.ascii-in-Some.ensures, c.hexadecimal.ensures.digits, c.hexadecimal-in-Some.ensures.digits, c.value.ensures)
+    let value = c.put_word-in-Some.ensures.text in
+    let addr = c.put_word.ensures.text in
+    let width = c.put-in-Some-3.ensures in
+    let name = c.put-in-Some.ensures in
+    simp (append_assoc, append-nil, value, c.put-in-Some-5.ensures, addr, c.put-in-Some-4.ensures, width, c.put-in-Some-2.ensures, name, c.put.ensures, c.in-Some.is, c.format.ensures.text, c.byte_count.ensures.value, c.value.ensures)

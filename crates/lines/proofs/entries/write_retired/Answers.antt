@@ -3,4 +3,4 @@ use Rattle.lines.proofs.entries.write_retired.Goals as goal
 
 pub returns : goal.returns
 returns c =
-    simp (append_assoc, c.push_str.ensures.bytes, c.add_access-2.ensures.text, c.add_access.ensures.text, c.add_write.ensures.text, c.write_word.ensures.text)
+    simp (append_assoc, c.put.ensures, c.add_access-2.ensures.text, c.add_access.ensures.text, c.add_write.ensures.text, c.write_word.ensures.text)
