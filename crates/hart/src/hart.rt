@@ -11,8 +11,8 @@ use std::marker::Model;
 use transaction::Tx;
 use words::{Addr, BlockNo, HartId, LOG_BYTES, Regs, STACK_BYTES, Status};
 
-/// A hart, with a cache of SETS sets of WAYS lines. What it has put out stands in its machine.
-#[derive(Clone, Copy, Debug, PartialEq, Eq)]
+/// A hart, with a cache of SETS sets of WAYS lines. What it has put out stands in its machine. Whether two are one, [`Hart::same`] tells.
+#[derive(Clone, Copy, Debug)]
 pub struct Hart<const SETS: usize, const WAYS: usize> {
     pub(crate) index: HartId,
     pub(crate) harts: usize,
