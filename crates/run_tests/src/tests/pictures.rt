@@ -3,8 +3,8 @@ use super::booted::booted;
 use super::refusing::Refusing;
 use elf_samples::{ABORTS, COMMITS};
 use std::alloc::Global;
+use std::process::Abort;
 use std::str;
-use std::test::Fail;
 use timeline::put_picture;
 use watch::Halt;
 use words::{Sink, Taken};
@@ -37,13 +37,13 @@ const PICTURE: &str =
 
 /// Puts the picture of a program's first steps into a sink.
 fn drawn<S: Sink>(
-    alloc: Global,
+    rt: &(impl Abort + AllocGlobal),
     text: &[u32],
     steps: u32,
     sink: &mut S,
-) -> Result<Result<(), Halt>, Fail> {
-    let mut machine = booted(alloc, text, 1)?;
-    Ok(put_picture(alloc, &mut machine, &[], steps, sink))
+) -> Result<(), Halt> {
+    let mut machine = booted(rt, text, 1);
+    put_picture(rt.alloc(), &mut machine, &[], steps, sink)
 }
 
 /// A sink in memory.
@@ -55,38 +55,37 @@ fn taken(alloc: Global) -> Taken {
 }
 
 #[test]
-fn each_step_is_a_row(rt: HostRuntime) -> Result<(), Fail> {
+fn each_step_is_a_row(rt: HostRuntime) {
     let mut sink = taken(rt.alloc());
-    match drawn(rt.alloc(), &COMMITS, 1000, &mut sink)? {
-        Ok(()) => assert_eq!(rt; str::from_utf8(&sink.bytes)?, PICTURE),
+    match drawn(&rt, &COMMITS, 1000, &mut sink) {
+        Ok(()) => assert_eq!(rt; str::from_utf8(&sink.bytes).expect(&rt, "text"), PICTURE),
         Err(Halt::NoMemory) => assert_eq!(rt; sink.bytes.len(), 0),
         Err(Halt::Untold) => assert_eq!(rt; sink.failed, 1),
     }
-    Ok(())
 }
 
 #[test]
-fn a_bar_ends_with_its_transaction(rt: HostRuntime) -> Result<(), Fail> {
+fn a_bar_ends_with_its_transaction(rt: HostRuntime) {
     // Steps 8 and 9 restore what was stored, and 10 aborts. Behind 5 steps it still runs.
     for (steps, bar) in [
         (1000, "\n<path class=\"aborted\" d=\"M100,70V270\"/>\n"),
         (5, "\n<path class=\"running\" d=\"M100,70V170\"/>\n"),
     ] {
         let mut sink = taken(rt.alloc());
-        if drawn(rt.alloc(), &ABORTS, steps, &mut sink)? == Ok(()) {
-            assert!(rt; str::from_utf8(&sink.bytes)?.contains(bar), "{steps}");
+        if drawn(&rt, &ABORTS, steps, &mut sink) == Ok(()) {
+            let text = str::from_utf8(&sink.bytes).expect(&rt, "text");
+            assert!(rt; text.contains(bar), "{steps}");
         }
     }
-    Ok(())
 }
 
 #[test]
-fn each_put_that_is_refused_is_told(rt: HostRuntime) -> Result<(), Fail> {
+fn each_put_that_is_refused_is_told(rt: HostRuntime) {
     // 13 pieces before the lanes, 8 and 6 of these, a bar of 9, 3 arrows of 9, 12 steps of 14, and the end.
     let pieces = 232;
     for left in 0..240 {
         let mut sink = Refusing { left, failed: 0 };
-        let put = drawn(rt.alloc(), &COMMITS, 1000, &mut sink)?;
+        let put = drawn(&rt, &COMMITS, 1000, &mut sink);
         let want = if left < pieces {
             Err(Halt::Untold)
         } else {
@@ -97,5 +96,4 @@ fn each_put_that_is_refused_is_told(rt: HostRuntime) -> Result<(), Fail> {
             assert_eq!(rt; sink.failed, u64::from(left < pieces));
         }
     }
-    Ok(())
 }

@@ -1,10 +1,9 @@
 //! Lines with what they spell, and the steps of a machine.
 use super::booted::booted;
 use elf_samples::COMMITS;
-use machine::Silent;
+use machine::{Machine, Silent};
 use schedule::{Choice, Name, ScheduleFault, Sort, choice, follow, name_of, read};
-use std::alloc::Global;
-use std::test::Fail;
+use std::process::Abort;
 use words::{Addr, BlockNo, HartId, Message, Status, Step};
 
 fn hart(number: u8) -> HartId {
@@ -68,14 +67,12 @@ fn lines_are_refused(rt: HostRuntime) {
 }
 
 #[test]
-fn texts_are_read(rt: HostRuntime) -> Result<(), Fail> {
+fn texts_are_read(rt: HostRuntime) {
     let text = "# a comment\ncore 1\n\n#\nturn\ndeliver ack 0 0x20\n";
+    let ack = named(Sort::Ack, 0, 1).expect(&rt, "a choice");
+    let want = [Choice::Core(hart(1)), Choice::Turn, ack];
     match read(rt.alloc(), text) {
-        Ok(choices) => {
-            let ack = named(Sort::Ack, 0, 1).ok_or("a choice")?;
-            let want = [Choice::Core(hart(1)), Choice::Turn, ack];
-            assert_eq!(rt; choices.as_slice(), want.as_slice());
-        }
+        Ok(choices) => assert_eq!(rt; choices.as_slice(), want.as_slice()),
         Err(fault) => assert_eq!(rt; fault, ScheduleFault::NoMemory),
     }
     for (text, line) in [("turns", 1), ("turn\n\n#\n core 0\n?", 4), ("turn\r\n", 1)] {
@@ -85,7 +82,6 @@ fn texts_are_read(rt: HostRuntime) -> Result<(), Fail> {
             Err(fault) => assert_eq!(rt; fault, ScheduleFault::Line(line)),
         }
     }
-    Ok(())
 }
 
 #[test]
@@ -114,47 +110,50 @@ fn answers_are_named_for_their_senders(rt: HostRuntime) {
     assert_eq!(rt; Sort::PutAck.name(), "putack");
 }
 
+/// Goes on by these choices and turns, so many steps.
+fn go(rt: &impl Abort, machine: &mut Machine<16, 4>, choices: &[Choice], steps: u32) {
+    follow(machine, choices, steps, &mut Silent).expect(rt, "memory");
+}
+
 /// The step that a choice is in the machine of a program, once its hart has gone on by so many of its first four steps. The fourth asks for
 /// the block at 0x2000.
-fn step_after(alloc: Global, steps: u32, choice: Choice) -> Result<Option<Step>, Fail> {
-    let mut machine = booted(alloc, &COMMITS, 1)?;
-    follow(
-        &mut machine,
-        &[Choice::Core(hart(0)); 4],
-        steps.min(4),
-        &mut Silent,
-    )?;
-    Ok(choice.step(&machine, hart(0)))
+fn step_after(rt: &(impl Abort + AllocGlobal), steps: u32, choice: Choice) -> Option<Step> {
+    let mut machine = booted(rt, &COMMITS, 1);
+    go(rt, &mut machine, &[Choice::Core(hart(0)); 4], steps.min(4));
+    choice.step(&machine, hart(0))
 }
 
 #[test]
-fn a_message_is_found_by_its_name(rt: HostRuntime) -> Result<(), Fail> {
-    let get = named(Sort::Get, 0, 256).ok_or("a choice")?;
-    assert_eq!(rt; step_after(rt.alloc(), 0, get)?, None);
-    let found = step_after(rt.alloc(), 4, get)?;
+fn a_message_is_found_by_its_name(rt: HostRuntime) {
+    let get = named(Sort::Get, 0, 256).expect(&rt, "a choice");
+    assert_eq!(rt; step_after(&rt, 0, get), None);
+    let found = step_after(&rt, 4, get);
     assert!(rt; matches!(found, Some(Step::Deliver(_))));
-    assert_eq!(rt; step_after(rt.alloc(), 4, Choice::Turn)?, found);
+    assert_eq!(rt; step_after(&rt, 4, Choice::Turn), found);
     for (sort, number, block) in [
         (Sort::Put, 0, 256),
         (Sort::Get, 1, 256),
         (Sort::Get, 0, 257),
     ] {
-        let other = named(sort, number, block).ok_or("a choice")?;
-        assert_eq!(rt; step_after(rt.alloc(), 4, other)?, None);
+        let other = named(sort, number, block).expect(&rt, "a choice");
+        assert_eq!(rt; step_after(&rt, 4, other), None);
     }
-    Ok(())
 }
 
 /// How a program's hart stands, and what stands at 0x2000, once these choices and turns were followed, by so many steps in all.
-fn followed(alloc: Global, choices: &[Choice], steps: u32) -> Result<(Status, Option<u32>), Fail> {
-    let mut machine = booted(alloc, &COMMITS, 1)?;
-    follow(&mut machine, choices, steps, &mut Silent)?;
-    let (_, _, status) = machine.regs(hart(0)).ok_or("a hart")?;
-    Ok((status, machine.peek(Addr::new(0x2000))))
+fn followed(
+    rt: &(impl Abort + AllocGlobal),
+    choices: &[Choice],
+    steps: u32,
+) -> (Status, Option<u32>) {
+    let mut machine = booted(rt, &COMMITS, 1);
+    go(rt, &mut machine, choices, steps);
+    let (_, _, status) = machine.regs(hart(0)).expect(rt, "a hart");
+    (status, machine.peek(Addr::new(0x2000)))
 }
 
 #[test]
-fn choices_and_turns_are_followed(rt: HostRuntime) -> Result<(), Fail> {
+fn choices_and_turns_are_followed(rt: HostRuntime) {
     let choices = [
         Choice::Core(hart(0)),
         Choice::Core(hart(1)),
@@ -166,7 +165,6 @@ fn choices_and_turns_are_followed(rt: HostRuntime) -> Result<(), Fail> {
         (&choices[..], 14, Status::Exited(0)),
         (&[], 100, Status::Exited(0)),
     ] {
-        assert_eq!(rt; followed(rt.alloc(), choices, steps)?, (status, Some(7)));
+        assert_eq!(rt; followed(&rt, choices, steps), (status, Some(7)));
     }
-    Ok(())
 }

@@ -5,8 +5,8 @@ use elf_samples::{ABORTS, COMMITS};
 use json::{Scratch, is_valid};
 use machine::Silent;
 use std::alloc::Global;
+use std::process::Abort;
 use std::str;
-use std::test::Fail;
 use timeline::{Chart, put_timeline};
 use watch::Halt;
 use words::{Sink, Taken};
@@ -40,13 +40,13 @@ const TIMELINE: &str = r#"{"traceEvents":[
 
 /// Puts the timeline of a program into a sink.
 fn shown<S: Sink>(
-    alloc: Global,
+    rt: &(impl Abort + AllocGlobal),
     text: &[u32],
     harts: u32,
     chart: &mut Chart<S>,
-) -> Result<Result<(), Halt>, Fail> {
-    let mut machine = booted(alloc, text, harts)?;
-    Ok(put_timeline(&mut machine, &[], 1000, chart, &mut Silent))
+) -> Result<(), Halt> {
+    let mut machine = booted(rt, text, harts);
+    put_timeline(&mut machine, &[], 1000, chart, &mut Silent)
 }
 
 /// A sink in memory.
@@ -58,36 +58,44 @@ fn taken(alloc: Global) -> Chart<Taken> {
 }
 
 #[test]
-fn each_step_has_its_events(rt: HostRuntime) -> Result<(), Fail> {
+fn each_step_has_its_events(rt: HostRuntime) {
     let mut chart = taken(rt.alloc());
-    match shown(rt.alloc(), &COMMITS, 1, &mut chart)? {
-        Ok(()) => assert_eq!(rt; str::from_utf8(&chart.sink.bytes)?, TIMELINE),
+    match shown(&rt, &COMMITS, 1, &mut chart) {
+        Ok(()) => {
+            assert_eq!(rt;
+                str::from_utf8(&chart.sink.bytes).expect(&rt, "text"),
+                TIMELINE
+            );
+        }
         Err(Halt::NoMemory) => {}
         Err(Halt::Untold) => assert_eq!(rt; chart.sink.failed, 1),
     }
-    Ok(())
+}
+
+/// That these bytes are a text in JSON.
+fn check_json(rt: &(impl Abort + AllocGlobal), bytes: &[u8]) {
+    let text = str::from_utf8(bytes).expect(rt, "text");
+    let mut scratch = Scratch::new(rt.alloc());
+    assert!(rt; is_valid(text, &mut scratch).expect(rt, "memory"));
 }
 
 #[test]
-fn a_timeline_is_json(rt: HostRuntime) -> Result<(), Fail> {
+fn a_timeline_is_json(rt: HostRuntime) {
     for program in [&COMMITS[..], &ABORTS[..]] {
         let mut chart = taken(rt.alloc());
-        let mut scratch = Scratch::new(rt.alloc());
-        if shown(rt.alloc(), program, 2, &mut chart)? == Ok(()) {
-            let text = str::from_utf8(&chart.sink.bytes)?;
-            assert!(rt; is_valid(text, &mut scratch)?);
+        if shown(&rt, program, 2, &mut chart) == Ok(()) {
+            check_json(&rt, &chart.sink.bytes);
         }
     }
-    Ok(())
 }
 
 #[test]
-fn each_put_that_is_refused_is_told(rt: HostRuntime) -> Result<(), Fail> {
+fn each_put_that_is_refused_is_told(rt: HostRuntime) {
     // 9 pieces of names, 12 slices of 7, a begin of 5, an end of 7, 6 ends of flows of 11, and the last line.
     let pieces = 172;
     for left in 0..180 {
         let mut chart = Chart::new(Refusing { left, failed: 0 });
-        let put = shown(rt.alloc(), &COMMITS, 1, &mut chart)?;
+        let put = shown(&rt, &COMMITS, 1, &mut chart);
         let want = if left < pieces {
             Err(Halt::Untold)
         } else {
@@ -98,5 +106,4 @@ fn each_put_that_is_refused_is_told(rt: HostRuntime) -> Result<(), Fail> {
             assert_eq!(rt; chart.sink.failed, u64::from(left < pieces));
         }
     }
-    Ok(())
 }

@@ -4,8 +4,7 @@ use super::refusing::Refusing;
 use elf_samples::COMMITS;
 use machine::Silent;
 use schedule::Choice;
-use std::alloc::Global;
-use std::test::Fail;
+use std::process::Abort;
 use watch::{Halt, put_trace};
 use words::{HartId, Sink, Taken};
 
@@ -19,39 +18,37 @@ const TRACE: &str = "0 0x00001000 00000a0b tbegin 20\n\
     0 0x0000101c 00000073 ecall\n";
 
 /// Traces the program, of whose steps so many are chosen, into a sink.
-fn traced<S: Sink>(alloc: Global, chosen: usize, sink: &mut S) -> Result<Result<(), Halt>, Fail> {
-    let mut machine = booted(alloc, &COMMITS, 1)?;
+fn traced<S: Sink>(
+    rt: &(impl Abort + AllocGlobal),
+    chosen: usize,
+    sink: &mut S,
+) -> Result<(), Halt> {
     let choices = [Choice::Core(HartId::new(0)); 3];
-    Ok(put_trace(
-        &mut machine,
-        &choices[..chosen.min(3)],
-        100,
-        sink,
-        &mut Silent,
-    ))
+    let choices = &choices[..chosen.min(3)];
+    let mut machine = booted(rt, &COMMITS, 1);
+    put_trace(&mut machine, choices, 100, sink, &mut Silent)
 }
 
 #[test]
-fn each_entry_has_its_line(rt: HostRuntime) -> Result<(), Fail> {
+fn each_entry_has_its_line(rt: HostRuntime) {
     for chosen in [0, 3] {
         let mut sink = Taken {
             bytes: Vec::new(rt.alloc()),
             failed: 0,
         };
-        match traced(rt.alloc(), chosen, &mut sink)? {
+        match traced(&rt, chosen, &mut sink) {
             Ok(()) => assert_eq!(rt; &sink.bytes[..], TRACE.as_bytes()),
             Err(Halt::NoMemory) => {}
             Err(Halt::Untold) => assert_eq!(rt; sink.failed, 1),
         }
     }
-    Ok(())
 }
 
 #[test]
-fn each_put_that_is_refused_is_told(rt: HostRuntime) -> Result<(), Fail> {
+fn each_put_that_is_refused_is_told(rt: HostRuntime) {
     for left in 0..10 {
         let mut sink = Refusing { left, failed: 0 };
-        let put = traced(rt.alloc(), 0, &mut sink)?;
+        let put = traced(&rt, 0, &mut sink);
         // Each of the eight lines is one put.
         let want = if left < 8 { Err(Halt::Untold) } else { Ok(()) };
         if put != Err(Halt::NoMemory) {
@@ -59,5 +56,4 @@ fn each_put_that_is_refused_is_told(rt: HostRuntime) -> Result<(), Fail> {
             assert_eq!(rt; sink.failed, u64::from(left < 8));
         }
     }
-    Ok(())
 }

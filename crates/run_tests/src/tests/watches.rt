@@ -6,8 +6,7 @@ use elf_samples::COMMITS;
 use machine::Silent;
 use network::Flight;
 use schedule::Choice;
-use std::alloc::Global;
-use std::test::Fail;
+use std::process::Abort;
 use watch::{Halt, WatchFault, Watcher, follow_watched};
 use words::{Addr, Entry, HartId, Step};
 
@@ -60,10 +59,10 @@ struct Watched {
 }
 
 /// Watches the program, of whose steps so many are chosen, for so many steps, with room for so many words.
-fn watch_run(alloc: Global, chosen: usize, steps: u32, most: usize) -> Result<Watched, Fail> {
-    let mut machine = booted(alloc, &COMMITS, 1)?;
+fn watch_run(rt: &(impl Abort + AllocGlobal), chosen: usize, steps: u32, most: usize) -> Watched {
+    let mut machine = booted(rt, &COMMITS, 1);
     let mut words = Words {
-        retired: Vec::new(alloc),
+        retired: Vec::new(rt.alloc()),
         most,
     };
     let choices = [Choice::Core(HartId::new(0)); 3];
@@ -76,45 +75,42 @@ fn watch_run(alloc: Global, chosen: usize, steps: u32, most: usize) -> Result<Wa
         &mut words,
         &mut Silent,
     );
-    let (_, pc, _) = machine.regs(HartId::new(0)).ok_or("a hart")?;
-    Ok(Watched {
+    let (_, pc, _) = machine.regs(HartId::new(0)).expect(rt, "a hart");
+    Watched {
         ended,
         retired: words.retired,
         word: machine.peek(Addr::new(0x2000)),
         pc,
-    })
+    }
 }
 
 #[test]
-fn each_retired_word_is_noted(rt: HostRuntime) -> Result<(), Fail> {
+fn each_retired_word_is_noted(rt: HostRuntime) {
     for chosen in [0, 3] {
-        let run = watch_run(rt.alloc(), chosen, 100, 100)?;
+        let run = watch_run(&rt, chosen, 100, 100);
         if run.ended != Err(Halt::NoMemory) {
             assert_eq!(rt; run.ended, Ok(()));
             assert_eq!(rt; &run.retired[..], COMMITS.as_slice());
             assert_eq!(rt; run.word, Some(7));
         }
     }
-    Ok(())
 }
 
 #[test]
-fn the_step_of_a_missed_entry_is_made(rt: HostRuntime) -> Result<(), Fail> {
+fn the_step_of_a_missed_entry_is_made(rt: HostRuntime) {
     for chosen in [0, 3] {
-        let run = watch_run(rt.alloc(), chosen, 100, 2)?;
+        let run = watch_run(&rt, chosen, 100, 2);
         if run.ended != Err(Halt::NoMemory) {
             assert_eq!(rt; run.ended, Err(Halt::Untold));
             assert_eq!(rt; &run.retired[..], &COMMITS[..2]);
             assert_eq!(rt; run.pc, Addr::new(0x100c));
         }
     }
-    Ok(())
 }
 
 #[test]
-fn so_many_steps_are_made(rt: HostRuntime) -> Result<(), Fail> {
-    let run = watch_run(rt.alloc(), 0, 2, 100)?;
+fn so_many_steps_are_made(rt: HostRuntime) {
+    let run = watch_run(&rt, 0, 2, 100);
     assert_eq!(rt; run.ended, Ok(()));
     assert_eq!(rt; &run.retired[..], &COMMITS[..2]);
-    Ok(())
 }
