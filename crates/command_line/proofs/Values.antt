@@ -87,11 +87,14 @@ pub size_none : (rows : List Row) {harts memory : ℕ} → IsSizeOf rows harts m
 size_none rows {harts} {memory} (is, has) =
     none_of_both _ _ (none_malformed number_of 1 harts (first_of (codes "harts") rows) is) (none_malformed number_of 1048576 memory (first_of (codes "memory") rows) has)
 
--- the same of how far a run goes
+-- the same of how far a run goes, without its caches and with them
+pub steps_none : (rows : List Row) {steps : ℕ} → malformed_of_size rows ≡ [] → read_or number_of 10000000 (codes "steps") rows ≡ Some steps
+    → malformed_of_size rows ++ malformed number_of (given (codes "steps") rows) ≡ []
+steps_none rows {steps} none is = none_of_both _ _ none (none_malformed number_of 10000000 steps (first_of (codes "steps") rows) is)
+
 pub limits_none : (rows : List Row) {harts memory steps : ℕ} {cache : Cache} → AreLimitsOf rows harts memory steps cache → malformed_of_limits rows ≡ []
 limits_none rows {harts} {memory} {steps} {cache} (size, is, has) =
-    let no_steps = none_malformed number_of 10000000 steps (first_of (codes "steps") rows) is in
-    none_of_both _ _ (none_of_both _ _ (size_none rows size) no_steps) (none_malformed cache_of Normal cache (first_of (codes "cache") rows) has)
+    none_of_both _ _ (steps_none rows (size_none rows size) is) (none_malformed cache_of Normal cache (first_of (codes "cache") rows) has)
 
 -- the first malformed value of a run: one of how far it goes, of its counts, or of its words
 pub limits_first : (rows : List Row) (fault : OrderFault) → NamesFirstOf (malformed_of_limits rows) fault → NamesFirstOf (malformed_of rows) fault

@@ -68,8 +68,13 @@ fn with_subcommand<'a>(
     ensures { (app : App) (shape : Shape) → IfOk command.entry (λ c. app_of c ≡ app) → Makes made.entry (record { top = shape; subs = [] })
         → IfOk result (λ c. app_of c ≡ with_subcommand app shape) }
 {
-    let made = made?;
-    command?.subcommand(made)
+    match command {
+        Ok(command) => match made {
+            Ok(made) => command.subcommand(made),
+            Err(error) => Err(error),
+        },
+        Err(error) => Err(error),
+    }
 }
 
 /// The command with an argument more.
@@ -80,7 +85,10 @@ fn with_argument<'a>(
     requires { argument.global ≡ false }
     ensures { (app : App) → Makes command.entry app → Makes result (with_rule app (rule_of argument.entry)) }
 {
-    command?.arg(argument)
+    match command {
+        Ok(command) => command.arg(argument),
+        Err(error) => Err(error),
+    }
 }
 
 /// The command with an argument more that has to be there.
