@@ -134,40 +134,50 @@ fn clear_often(cache: &mut Normal, rounds: u64) -> u64 {
     count
 }
 
-pub fn measure(rt: &(impl Print + Eprint + Clock), rounds: u64) -> io::Result<()> {
-    measure_looks(rt, rounds)?;
+pub(crate) fn measure(rt: &(impl Print + Eprint + Clock), rounds: u64) -> io::Result<()> {
+    let mut small = Small::new();
+    fill(&mut small);
     let mut cache = Normal::new();
     fill(&mut cache);
-    let start = Instant::now(rt)?;
-    let count = store_often(&mut cache, rounds);
-    let took = start.elapsed(rt)?;
-    tell(rt, "look, mark_written, write_bytes", count, took, rounds)?;
-    let start = Instant::now(rt)?;
-    let count = copy_often(&cache, rounds);
-    tell(rt, "copy of a cache", count, start.elapsed(rt)?, rounds)?;
-    let mut other = cache;
-    let start = Instant::now(rt)?;
-    let count = compare_often(&mut cache, &mut other, rounds);
-    let took = start.elapsed(rt)?;
-    tell(rt, "two stores, same of two caches", count, took, rounds)?;
-    let start = Instant::now(rt)?;
-    let count = clear_often(&mut cache, rounds);
-    tell(rt, "store, clear_marks", count, start.elapsed(rt)?, rounds)
+    measure_looks(rt, &small, &cache, rounds)?;
+    measure_stores(rt, &mut cache, rounds)
 }
 
 /// Looks into a small cache and one of normal size, and reads words of that.
-fn measure_looks(rt: &(impl Print + Eprint + Clock), rounds: u64) -> io::Result<()> {
-    let mut small = Small::new();
-    fill(&mut small);
-    let start = Instant::now(rt)?;
-    let sum = look_often(&small, rounds);
-    tell(rt, "look, small", sum, start.elapsed(rt)?, rounds)?;
-    let mut cache = Normal::new();
-    fill(&mut cache);
-    let start = Instant::now(rt)?;
-    let sum = look_often(&cache, rounds);
-    tell(rt, "look", sum, start.elapsed(rt)?, rounds)?;
-    let start = Instant::now(rt)?;
-    let sum = read_often(&cache, rounds);
-    tell(rt, "read_word", sum, start.elapsed(rt)?, rounds)
+fn measure_looks(
+    rt: &(impl Print + Eprint + Clock),
+    small: &Small,
+    cache: &Normal,
+    rounds: u64,
+) -> io::Result<()> {
+    let start = Instant::now(rt);
+    let sum = look_often(small, rounds);
+    tell(rt, "look, small", sum, start, rounds)?;
+    let start = Instant::now(rt);
+    let sum = look_often(cache, rounds);
+    tell(rt, "look", sum, start, rounds)?;
+    let start = Instant::now(rt);
+    let sum = read_often(cache, rounds);
+    tell(rt, "read_word", sum, start, rounds)
+}
+
+/// Stores to a cache, copies it, compares it with its copy, and clears its marks.
+fn measure_stores(
+    rt: &(impl Print + Eprint + Clock),
+    cache: &mut Normal,
+    rounds: u64,
+) -> io::Result<()> {
+    let start = Instant::now(rt);
+    let count = store_often(cache, rounds);
+    tell(rt, "look, mark_written, write_bytes", count, start, rounds)?;
+    let start = Instant::now(rt);
+    let count = copy_often(cache, rounds);
+    tell(rt, "copy of a cache", count, start, rounds)?;
+    let mut other = copied(cache);
+    let start = Instant::now(rt);
+    let count = compare_often(cache, &mut other, rounds);
+    tell(rt, "two stores, same of two caches", count, start, rounds)?;
+    let start = Instant::now(rt);
+    let count = clear_often(cache, rounds);
+    tell(rt, "store, clear_marks", count, start, rounds)
 }

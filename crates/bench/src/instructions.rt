@@ -6,7 +6,7 @@ use table::{Act, effect_at, write_register};
 use words::{Addr, Regs};
 
 /// addi, add, xor, slli, lw, sw, bne and jal, over a few registers.
-pub const WORDS: [u32; 8] = [
+pub(crate) const WORDS: [u32; 8] = [
     0x0012_8293,
     0x0062_83b3,
     0x0053_4333,
@@ -46,7 +46,7 @@ fn execute_often(rounds: u64) -> u64 {
     sum
 }
 
-pub fn measure(rt: &(impl Print + Eprint + Clock), rounds: u64) -> io::Result<()> {
+pub(crate) fn measure(rt: &(impl Print + Eprint + Clock), rounds: u64) -> io::Result<()> {
     let start = Instant::now(rt)?;
     let sum = execute_often(rounds);
     let took = start.elapsed(rt)?;

@@ -29,19 +29,22 @@ fn file_of(alloc: Global, segments: u16, words: u32) -> Result<Vec<u8>, AllocErr
         u32::from(segments),
         0,
     ];
-    for number in header {
-        file.extend_from_slice(&number.to_le_bytes())?;
-    }
+    add_words(&mut file, &header)?;
     for i in (0..u32::from(segments)).rev() {
         let addr = i.wrapping_mul(size).wrapping_add(0x1000);
-        for number in [1, text, addr, addr, size, size, 5, 1] {
-            file.extend_from_slice(&number.to_le_bytes())?;
-        }
+        add_words(&mut file, &[1, text, addr, addr, size, size, 5, 1])?;
     }
     for i in 0..words as usize {
-        file.extend_from_slice(&WORDS[i % 8].to_le_bytes())?;
+        add_words(&mut file, &[WORDS[i % 8]])?;
     }
     Ok(file)
+}
+
+fn add_words(file: &mut Vec<u8>, words: &[u32]) -> Result<(), AllocError> {
+    for word in words {
+        file.extend_from_slice(&word.to_le_bytes())?;
+    }
+    Ok(())
 }
 
 fn program_of(alloc: Global, segments: u16, words: u32) -> Option<Program> {
@@ -63,14 +66,16 @@ fn measure_one(
         bytes: Vec::new(rt.alloc()),
         failed: 0,
     };
-    let start = Instant::now(rt)?;
-    let _ = listing(&program, &mut out);
-    let took = start.elapsed(rt)?;
     let lines = u64::from(segments).saturating_mul(u64::from(words));
-    tell(rt, name, out.bytes.len() as u64, took, lines)
+    let start = Instant::now(rt);
+    let _ = listing(&program, &mut out);
+    tell(rt, name, out.bytes.len() as u64, start, lines)
 }
 
-pub fn measure(rt: &(impl Print + Eprint + Clock + AllocGlobal), rounds: u64) -> io::Result<()> {
+pub(crate) fn measure(
+    rt: &(impl Print + Eprint + Clock + AllocGlobal),
+    rounds: u64,
+) -> io::Result<()> {
     let words = rounds.min(1_047_552) as u32;
     measure_one(rt, "listing, one segment", 1, words)?;
     let segments = words.min(65535) as u16;

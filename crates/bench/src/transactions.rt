@@ -105,23 +105,24 @@ fn begun(tx: &Tx, count: u64) -> Tx {
     tx
 }
 
-pub fn measure(rt: &(impl Print + Eprint + Clock), rounds: u64) -> io::Result<()> {
+pub(crate) fn measure(rt: &(impl Print + Eprint + Clock), rounds: u64) -> io::Result<()> {
+    measure_logs(rt, rounds)?;
+    let tx = Tx::new(Addr::new(0xff000));
+    let start = Instant::now(rt);
+    let count = copy_transactions(&tx, rounds);
+    tell(rt, "copy of a transaction", count, start, rounds)?;
+    let start = Instant::now(rt);
+    let count = compare_transactions(&tx, rounds);
+    tell(rt, "two copies, two begins, same", count, start, rounds)
+}
+
+fn measure_logs(rt: &(impl Print + Eprint + Clock), rounds: u64) -> io::Result<()> {
     let mut log = full();
     let mut other = log;
-    let tx = Tx::new(Addr::new(0xff000));
-    let start = Instant::now(rt)?;
+    let start = Instant::now(rt);
     let count = copy_logs(&log, rounds);
-    tell(rt, "copy of a log", count, start.elapsed(rt)?, rounds)?;
-    let start = Instant::now(rt)?;
+    tell(rt, "copy of a log", count, start, rounds)?;
+    let start = Instant::now(rt);
     let count = compare_logs(&mut log, &mut other, rounds);
-    let took = start.elapsed(rt)?;
-    tell(rt, "two appends, same of two logs", count, took, rounds)?;
-    let start = Instant::now(rt)?;
-    let count = copy_transactions(&tx, rounds);
-    let took = start.elapsed(rt)?;
-    tell(rt, "copy of a transaction", count, took, rounds)?;
-    let start = Instant::now(rt)?;
-    let count = compare_transactions(&tx, rounds);
-    let took = start.elapsed(rt)?;
-    tell(rt, "two copies, two begins, same", count, took, rounds)
+    tell(rt, "two appends, same of two logs", count, start, rounds)
 }

@@ -1,10 +1,15 @@
 -- Values that are read.
-use Rattle.std.proofs.Common.{◌≡◌, ◌∙◌, ◌++◌, inr, Bool, List, [], ◌∷◌, Option, Some, None, Result, Ok, Err, MatchResult, codes, is_some, refl, sym, ap, true≢false}
+use Rattle.std.proofs.Common.{ℕ, ◌≡◌, ◌∙◌, ◌++◌, inr, Bool, List, [], ◌∷◌, Option, Some, None, Result, Ok, Err, MatchResult, codes, is_some, refl, sym, ap, true≢false}
 use Rattle.std.specs.Borrow.{Bor}
 use Rattle.std.specs.Option.{IsSome, ok_or, option_map, option_map_or, option_to_list, unwrap_or}
 use Rattle.clap.specs.Words.{Row, Text, first_of, first_value, matched_of, raw_values, rows_of}
 use Rattle.clap.specs.declared.parser.matches.Found.{Found}
 use Rattle.clap.proofs.WalkLemmas.{first_value-rows, raw_values-rows}
+use Rattle.numerals.specs.Numbers.{number_of}
+use Rattle.command_line.specs.declared.request.Cache.{Cache}
+use Rattle.command_line.specs.declared.request.Cache.TheVariants.{Normal}
+use Rattle.command_line.specs.declared.request.Stats.{Stats}
+use Rattle.command_line.specs.Reading.{AreLimitsOf, IsSizeOf, cache_of, given, malformed_of, malformed_of_limits, malformed_of_size, read_or, stats_of}
 use Rattle.command_line.specs.Reading.{HasValue, IsReadingOf, IsRequestFor, IsRunOf, IsRunRequestOf, IsThreadsFault, NamesFirstInRun, NamesFirstOf, is_given, malformed, words_of}
 use Rattle.command_line.specs.declared.request.Order.{Order}
 use Rattle.command_line.specs.declared.request.Order.TheVariants as order
@@ -76,3 +81,29 @@ first_behind xs ys fault none first = rw none first
 
 pub none_of_both : (xs ys : List Text) → xs ≡ [] → ys ≡ [] → xs ++ ys ≡ []
 none_of_both xs ys first second = rw (first, second) refl
+
+-- where the size of a machine is read, no value of it is malformed
+pub size_none : (rows : List Row) {harts memory : ℕ} → IsSizeOf rows harts memory → malformed_of_size rows ≡ []
+size_none rows {harts} {memory} (is, has) =
+    none_of_both _ _ (none_malformed number_of 1 harts (first_of (codes "harts") rows) is) (none_malformed number_of 1048576 memory (first_of (codes "memory") rows) has)
+
+-- the same of how far a run goes, without its caches and with them
+pub steps_none : (rows : List Row) {steps : ℕ} → malformed_of_size rows ≡ [] → read_or number_of 10000000 (codes "steps") rows ≡ Some steps
+    → malformed_of_size rows ++ malformed number_of (given (codes "steps") rows) ≡ []
+steps_none rows {steps} none is = none_of_both _ _ none (none_malformed number_of 10000000 steps (first_of (codes "steps") rows) is)
+
+pub limits_none : (rows : List Row) {harts memory steps : ℕ} {cache : Cache} → AreLimitsOf rows harts memory steps cache → malformed_of_limits rows ≡ []
+limits_none rows {harts} {memory} {steps} {cache} (size, is, has) =
+    none_of_both _ _ (steps_none rows (size_none rows size) is) (none_malformed cache_of Normal cache (first_of (codes "cache") rows) has)
+
+-- the first malformed value of a run: one of how far it goes, of its counts, or of its words
+pub limits_first : (rows : List Row) (fault : OrderFault) → NamesFirstOf (malformed_of_limits rows) fault → NamesFirstOf (malformed_of rows) fault
+limits_first rows fault first = first_of_more _ (malformed number_of (words_of rows)) fault (first_of_more _ (malformed stats_of (given (codes "stats") rows)) fault first)
+
+pub stats_first : (rows : List Row) (fault : OrderFault) → malformed_of_limits rows ≡ [] → NamesFirstOf (malformed stats_of (given (codes "stats") rows)) fault → NamesFirstOf (malformed_of rows) fault
+stats_first rows fault none first = first_of_more _ (malformed number_of (words_of rows)) fault (first_behind (malformed_of_limits rows) _ fault none first)
+
+pub words_first : {stats : Option Stats} (rows : List Row) (fault : OrderFault) → malformed_of_limits rows ≡ [] → read_or stats_of None (codes "stats") rows ≡ Some stats → NamesFirstOf (malformed number_of (words_of rows)) fault
+    → NamesFirstOf (malformed_of rows) fault
+words_first {stats} rows fault none is first =
+    first_behind _ _ fault (none_of_both (malformed_of_limits rows) _ none (none_malformed stats_of None stats (first_of (codes "stats") rows) is)) first

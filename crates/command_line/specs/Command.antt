@@ -1,8 +1,11 @@
 -- The program's command, as clap knows it.
-use Rattle.std.specs.Prelude.{List, Some, [], ◌∷◌, true, false, codes}
-use Rattle.clap.specs.Words.{App, Rule, Shape, Text, new_rule, with_rule}
+use Rattle.std.specs.Prelude.{◌≡◌, List, Result, IfOk, Some, [], ◌∷◌, true, false, codes}
+use Rattle.std.specs.declared.alloc.AllocError.{AllocError}
+use Rattle.clap.specs.Words.{App, Rule, Shape, Text, app_of, new_rule, with_rule}
 use Rattle.clap.specs.Simple.{new_shape}
 use Rattle.clap.specs.declared.builder.ArgAction.TheVariants.{Append, SetTrue}
+use Rattle.clap.specs.declared.builder.command.Command.{Command}
+use Rattle.clap.specs.declared.builder.command.Command.TheViews.{out-Command}
 
 -- an argument that has to be there
 abbrev pub required_named : Text → Rule
@@ -19,6 +22,15 @@ flag_named name = record (new_rule name) { long = Some name; action = Some SetTr
 -- the arguments WORD, as many as the user likes
 abbrev pub words : Rule
 words = record (new_rule (codes "words")) { action = Some Append; value_names = 1 }
+
+-- the command is this one, and has no global argument
+pub record IsApp (c : Command) (app : App) : Type 0 where
+  pub shape : app_of c ≡ app
+  pub local : (out-Command c).has_globals ≡ false
+
+-- the same of a command, if it could be made
+abbrev pub Makes : Result Command AllocError → App → Type 0
+Makes made app = IfOk made (λ c. IsApp c app)
 
 -- a command with these arguments after its own
 unfoldable pub with_rules : List Rule → App → App

@@ -1,5 +1,5 @@
 -- What the values that clap found stand for.
-use Rattle.std.specs.Prelude.{◌≡◌, ◌≢◌, ◌⊎◌, ◌||◌, Bool, true, false, IfSome, IsSome, ⊤, List, [], ◌++◌, Option, Some, None, codes, filter, if◌then◌else◌, is_some, map, not, slice_get, unwrap_or}
+use Rattle.std.specs.Prelude.{ℕ, ◌≡◌, ◌≢◌, ◌⊎◌, ◌||◌, Bool, true, false, IfSome, IsSome, ⊤, List, [], ◌++◌, Option, Some, None, codes, filter, if◌then◌else◌, is_some, map, not, slice_get, unwrap_or}
 use Rattle.std.specs.Option.{option_map, option_map_or, option_to_list}
 use Rattle.std.specs.Str.{bytes_eq}
 use Rattle.clap.specs.Words.{Row, Text, all_of, fault_of, first_of, subcommand_of}
@@ -67,6 +67,23 @@ abbrev pub malformed_of_machine : List Row → List Text
 malformed_of_machine rows = malformed number_of (given (codes "harts") rows)
     ++ malformed number_of (given (codes "memory") rows)
     ++ malformed cache_of (given (codes "cache") rows)
+
+-- the same of how large a machine is, and of that with how far a run goes
+abbrev pub malformed_of_size : List Row → List Text
+malformed_of_size rows = malformed number_of (given (codes "harts") rows) ++ malformed number_of (given (codes "memory") rows)
+
+abbrev pub malformed_of_limits : List Row → List Text
+malformed_of_limits rows = malformed_of_size rows ++ malformed number_of (given (codes "steps") rows) ++ malformed cache_of (given (codes "cache") rows)
+
+-- a machine is as large as the values of its subcommand say
+abbrev pub IsSizeOf : List Row → ℕ → ℕ → Type 0
+IsSizeOf rows harts memory =
+    (read_or number_of 1 (codes "harts") rows ≡ Some harts) × (read_or number_of 1048576 (codes "memory") rows ≡ Some memory)
+
+-- and so far does a run on it go, with these caches
+abbrev pub AreLimitsOf : List Row → ℕ → ℕ → ℕ → Cache → Type 0
+AreLimitsOf rows harts memory steps cache = IsSizeOf rows harts memory
+    × (read_or number_of 10000000 (codes "steps") rows ≡ Some steps) × (read_or cache_of Normal (codes "cache") rows ≡ Some cache)
 
 -- the words are these texts with their numbers
 abbrev pub IsReadingOfWords : List Text → List Word → Type 0

@@ -1,9 +1,9 @@
-ghost use Rattle.std.specs.Prelude.{◌≡◌, IfOk, IsOkAnd, MatchResult, codes, false, map};
-ghost use Rattle.clap.specs.Words.{app_of, kind_of, new_app, rule_of, shape_of, with_subcommand};
+ghost use Rattle.std.specs.Prelude.{◌≡◌, IfOk, MatchResult, [], false, map};
+ghost use Rattle.clap.specs.Words.{App, Shape, app_of, kind_of, new_app, rule_of, with_rule, with_subcommand};
 ghost use Rattle.clap.specs.declared.builder.command.Command.TheViews.{out-Command};
 ghost use Rattle.clap.specs.declared.error.ErrorKind.TheVariants.{OutOfMemory};
 ghost use Rattle.command_line.specs.Command as spec;
-ghost use Rattle.command_line.specs.Command.{with_rules};
+ghost use Rattle.command_line.specs.Command.{Makes, with_rules};
 ghost use Rattle.command_line.specs.Reading.{IsFaultOf, IsRequestOf, IsRefusal};
 ghost use Rattle.command_line.specs.declared.fault.OrderFault.TheVariants.{NoMemory};
 
@@ -52,129 +52,159 @@ fn command<'a>(alloc: Global) -> Result<Command<'a>, AllocError>
         .about("Simulates harts with transactional memory")
         .disable_help_subcommand(true)
         .subcommand_required(true);
-    with_listings(alloc, with_runs(alloc, command)?)
+    let command = with_subcommand(Ok(command), run_command(alloc));
+    let command = with_subcommand(command, debug_command(alloc));
+    let command = with_subcommand(command, dis_command(alloc));
+    with_subcommand(command, asm_command(alloc))
 }
 
-/// The command with the subcommands that run a program.
-fn with_runs<'a>(alloc: Global, command: Command<'a>) -> Result<Command<'a>, AllocError>
-    ensures { IfOk result (λ c. app_of c ≡ with_subcommand (with_subcommand (app_of command.entry) spec.run) spec.debug) }
-{
-    let command = add(command, run_command(alloc))?;
-    add(command, debug_command(alloc))
-}
+// Memory may run out with each argument and each subcommand that a command gets. Where it has, the command stays an error.
 
-/// The command with the subcommands that turn text into a program and back.
-fn with_listings<'a>(alloc: Global, command: Command<'a>) -> Result<Command<'a>, AllocError>
-    ensures { IfOk result (λ c. app_of c ≡ with_subcommand (with_subcommand (app_of command.entry) spec.dis) spec.asm) }
-{
-    let command = add(command, dis_command(alloc))?;
-    add(command, asm_command(alloc))
-}
-
-/// The command with a subcommand more, which could not be made where memory ran out.
-fn add<'a>(
-    command: Command<'a>,
+/// The command with a subcommand more.
+fn with_subcommand<'a>(
+    command: Result<Command<'a>, AllocError>,
     made: Result<Command<'a>, AllocError>,
 ) -> Result<Command<'a>, AllocError>
-    requires { IfOk made (λ sub. (out-Command sub).has_globals ≡ false) }
-    ensures { IfOk result (λ c. IsOkAnd made.entry (λ sub. app_of c ≡ with_subcommand (app_of command.entry) (shape_of sub))) }
+    ensures { (app : App) (shape : Shape) → IfOk command.entry (λ c. app_of c ≡ app) → Makes made.entry (record { top = shape; subs = [] })
+        → IfOk result (λ c. app_of c ≡ with_subcommand app shape) }
 {
-    command.subcommand(made?)
+    match command {
+        Ok(command) => match made {
+            Ok(made) => command.subcommand(made),
+            Err(error) => Err(error),
+        },
+        Err(error) => Err(error),
+    }
+}
+
+/// The command with an argument more.
+fn with_argument<'a>(
+    command: Result<Command<'a>, AllocError>,
+    argument: Arg<'a>,
+) -> Result<Command<'a>, AllocError>
+    requires { argument.global ≡ false }
+    ensures { (app : App) → Makes command.entry app → Makes result (with_rule app (rule_of argument.entry)) }
+{
+    match command {
+        Ok(command) => command.arg(argument),
+        Err(error) => Err(error),
+    }
+}
+
+/// The command with an argument more that has to be there.
+fn with_required<'a>(
+    alloc: Global,
+    command: Result<Command<'a>, AllocError>,
+    name: &'a str,
+    value: &'a str,
+    help: &'a str,
+) -> Result<Command<'a>, AllocError>
+    ensures { (app : App) → Makes command.entry app → Makes result (with_rule app (spec.required_named name.entry.now)) }
+{
+    with_argument(command, required(alloc, name, value, help))
+}
+
+/// The command with an option more.
+fn with_option<'a>(
+    alloc: Global,
+    command: Result<Command<'a>, AllocError>,
+    name: &'a str,
+    value: &'a str,
+    help: &'a str,
+) -> Result<Command<'a>, AllocError>
+    ensures { (app : App) → Makes command.entry app → Makes result (with_rule app (spec.option_named name.entry.now)) }
+{
+    with_argument(command, option(alloc, name, value, help))
 }
 
 fn run_command<'a>(alloc: Global) -> Result<Command<'a>, AllocError>
-    ensures shape { IfOk result (λ c. shape_of c ≡ spec.run) }
-    ensures local { IfOk result (λ c. (out-Command c).has_globals ≡ false) }
+    ensures { Makes result (record { top = spec.run; subs = [] }) }
 {
     let about = "Runs a program, and reports what became of it";
-    let command = with_machine(alloc, bare(alloc, "run", about))?;
-    let command = with_limits(alloc, command)?;
-    let command = with_views(alloc, command)?;
+    let command = with_machine(alloc, Ok(bare(alloc, "run", about)));
+    let command = with_limits(alloc, command);
+    let command = with_views(alloc, command);
     with_threads(alloc, command)
 }
 
 fn debug_command<'a>(alloc: Global) -> Result<Command<'a>, AllocError>
-    ensures shape { IfOk result (λ c. shape_of c ≡ spec.debug) }
-    ensures local { IfOk result (λ c. (out-Command c).has_globals ≡ false) }
+    ensures { Makes result (record { top = spec.debug; subs = [] }) }
 {
     let about = "Plays a program by hand, command by command";
-    with_machine(alloc, bare(alloc, "debug", about))?.arg(option(
-        alloc, "cache", "NAME", CACHE_HELP,
-    ))
+    let command = with_machine(alloc, Ok(bare(alloc, "debug", about)));
+    with_option(alloc, command, "cache", "NAME", CACHE_HELP)
 }
 
 /// The command with the program and the size of the machine that runs it.
-fn with_machine<'a>(alloc: Global, command: Command<'a>) -> Result<Command<'a>, AllocError>
-    requires { (out-Command command).has_globals ≡ false }
-    ensures app { IfOk result (λ c. app_of c ≡ with_rules spec.machine (app_of command.entry)) }
-    ensures local { IfOk result (λ c. (out-Command c).has_globals ≡ false) }
+fn with_machine<'a>(
+    alloc: Global,
+    command: Result<Command<'a>, AllocError>,
+) -> Result<Command<'a>, AllocError>
+    ensures { (app : App) → Makes command.entry app → Makes result (with_rules spec.machine app) }
 {
-    command
-        .arg(program(alloc))?
-        .arg(option(alloc, "harts", "N", HARTS_HELP))?
-        .arg(option(alloc, "memory", "S", MEMORY_HELP))
+    let command = with_required(alloc, command, "file", "FILE", PROGRAM_HELP);
+    let command = with_option(alloc, command, "harts", "N", HARTS_HELP);
+    with_option(alloc, command, "memory", "S", MEMORY_HELP)
 }
 
 /// The command with how far a run goes, with which caches, and by which first steps.
-fn with_limits<'a>(alloc: Global, command: Command<'a>) -> Result<Command<'a>, AllocError>
-    requires { (out-Command command).has_globals ≡ false }
-    ensures app { IfOk result (λ c. app_of c ≡ with_rules spec.limits (app_of command.entry)) }
-    ensures local { IfOk result (λ c. (out-Command c).has_globals ≡ false) }
+fn with_limits<'a>(
+    alloc: Global,
+    command: Result<Command<'a>, AllocError>,
+) -> Result<Command<'a>, AllocError>
+    ensures { (app : App) → Makes command.entry app → Makes result (with_rules spec.limits app) }
 {
     let steps = "How many steps are taken at most, 10000000 if not given";
     let schedule = "A file whose lines choose the first steps";
-    command
-        .arg(option(alloc, "steps", "N", steps))?
-        .arg(option(alloc, "cache", "NAME", CACHE_HELP))?
-        .arg(option(alloc, "schedule", "LIST", schedule))
+    let command = with_option(alloc, command, "steps", "N", steps);
+    let command = with_option(alloc, command, "cache", "NAME", CACHE_HELP);
+    with_option(alloc, command, "schedule", "LIST", schedule)
 }
 
 /// The command with what is shown of a run beside its report.
-fn with_views<'a>(alloc: Global, command: Command<'a>) -> Result<Command<'a>, AllocError>
-    requires { (out-Command command).has_globals ≡ false }
-    ensures app { IfOk result (λ c. app_of c ≡ with_rules spec.views (app_of command.entry)) }
-    ensures local { IfOk result (λ c. (out-Command c).has_globals ≡ false) }
+fn with_views<'a>(
+    alloc: Global,
+    command: Result<Command<'a>, AllocError>,
+) -> Result<Command<'a>, AllocError>
+    ensures { (app : App) → Makes command.entry app → Makes result (with_rules spec.views app) }
 {
     let trace = "A file for the trace, a line for each entry; - for standard output";
     let timeline =
         "A file for the timeline: FILE.json, as trace events, or FILE.svg, a picture of 2000 steps at most";
     let stats = "Counts behind the report, as a table or as csv; not with a trace or a timeline";
-    command
-        .arg(option(alloc, "trace", "FILE", trace))?
-        .arg(option(alloc, "timeline", "FILE", timeline))?
-        .arg(option(alloc, "stats", "NAME", stats))
+    let command = with_option(alloc, command, "trace", "FILE", trace);
+    let command = with_option(alloc, command, "timeline", "FILE", timeline);
+    with_option(alloc, command, "stats", "NAME", stats)
 }
 
 /// The command with a run in threads, and with the words of memory that the report shows.
-fn with_threads<'a>(alloc: Global, command: Command<'a>) -> Result<Command<'a>, AllocError>
-    requires { (out-Command command).has_globals ≡ false }
-    ensures app { IfOk result (λ c. app_of c ≡ with_rules spec.threads_and_words (app_of command.entry)) }
-    ensures local { IfOk result (λ c. (out-Command c).has_globals ≡ false) }
+fn with_threads<'a>(
+    alloc: Global,
+    command: Result<Command<'a>, AllocError>,
+) -> Result<Command<'a>, AllocError>
+    ensures { (app : App) → Makes command.entry app → Makes result (with_rules spec.threads_and_words app) }
 {
     let threads =
         "Runs each hart in a thread of its own, with no schedule, trace, timeline and counts";
     let history = "A file for the steps that threads made, as a schedule that plays them again";
-    command
-        .arg(flag(alloc, "threads", threads))?
-        .arg(option(alloc, "history", "FILE", history))?
-        .arg(words(alloc))
+    let command = with_argument(command, flag(alloc, "threads", threads));
+    let command = with_option(alloc, command, "history", "FILE", history);
+    with_argument(command, words(alloc))
 }
 
 fn dis_command<'a>(alloc: Global) -> Result<Command<'a>, AllocError>
-    ensures shape { IfOk result (λ c. shape_of c ≡ spec.dis) }
-    ensures local { IfOk result (λ c. (out-Command c).has_globals ≡ false) }
+    ensures { Makes result (record { top = spec.dis; subs = [] }) }
 {
-    let file = required(alloc, "file", "FILE", "The program, an ELF file");
-    bare(alloc, "dis", "Lists a program").arg(file)
+    let command = Ok(bare(alloc, "dis", "Lists a program"));
+    with_required(alloc, command, "file", "FILE", "The program, an ELF file")
 }
 
 fn asm_command<'a>(alloc: Global) -> Result<Command<'a>, AllocError>
-    ensures shape { IfOk result (λ c. shape_of c ≡ spec.asm) }
-    ensures local { IfOk result (λ c. (out-Command c).has_globals ≡ false) }
+    ensures { Makes result (record { top = spec.asm; subs = [] }) }
 {
-    bare(alloc, "asm", "Assembles a program")
-        .arg(required(alloc, "source", "IN", "The source"))?
-        .arg(required(alloc, "target", "OUT", "The ELF file to write"))
+    let command = Ok(bare(alloc, "asm", "Assembles a program"));
+    let command = with_required(alloc, command, "source", "IN", "The source");
+    with_required(alloc, command, "target", "OUT", "The ELF file to write")
 }
 
 // A command with no argument yet.
@@ -183,13 +213,6 @@ fn bare<'a>(alloc: Global, name: &'a str, about: &'a str) -> Command<'a>
     ensures local { (out-Command result).has_globals ≡ false }
 {
     Command::new(alloc, name).about(about)
-}
-
-fn program<'a>(alloc: Global) -> Arg<'a>
-    ensures rule { rule_of result ≡ spec.required_named (codes "file") }
-    ensures local { result.global ≡ false }
-{
-    required(alloc, "file", "FILE", PROGRAM_HELP)
 }
 
 fn required<'a>(alloc: Global, name: &'a str, value: &'a str, help: &'a str) -> Arg<'a>

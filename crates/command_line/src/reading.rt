@@ -6,7 +6,8 @@ ghost use Rattle.command_line.specs.Reading.{NamesFirstIn, NamesFirstOf, cache_o
 ghost use Rattle.command_line.specs.Reading.{NamesFirstInRun, IsRequestFor, IsThreadsFault, stands_alone, can_keep, is_given};
 ghost use Rattle.command_line.specs.Views.{HasView, HasViewFault, IsTraceTo, IsTraceFault, IsTargetOf, IsClash, is_read_by};
 ghost use Rattle.command_line.specs.Views.{IsTimelineTo, IsTimelineFault, IsDrawnTo, IsDrawnFault};
-ghost use Rattle.command_line.specs.Reading.{malformed_of, malformed_of_machine, read_or, stats_of, words_of};
+ghost use Rattle.command_line.specs.Reading.{malformed_of, malformed_of_machine, malformed_of_size, malformed_of_limits, read_or, stats_of, words_of};
+ghost use Rattle.command_line.specs.Reading.{IsSizeOf, AreLimitsOf};
 
 use crate::fault::OrderFault;
 use crate::request::{
@@ -209,21 +210,16 @@ fn read_run<'a>(alloc: Global, matches: &ArgMatches<'a>) -> Result<Run<'a>, Orde
     ensures { MatchResult result (IsRunOf (rows_of (found_of matches.now)))
         (NamesFirstOf (malformed_of (rows_of (found_of matches.now)))) }
 {
-    let file = argument(matches, "file");
-    let harts = number_given(matches, "harts", DEFAULT_HARTS)?;
-    let memory = number_given(matches, "memory", DEFAULT_MEMORY)?;
-    let steps = number_given(matches, "steps", DEFAULT_STEPS)?;
-    let cache = cache_given(matches, "cache", DEFAULT_CACHE)?;
-    let schedule = path_given(matches, "schedule");
+    let limits = limits_given(matches)?;
     let stats = stats_given(matches, "stats")?;
     let words = words_given(alloc, matches)?;
     Ok(Run {
-        file,
-        harts,
-        memory,
-        steps,
-        cache,
-        schedule,
+        file: argument(matches, "file"),
+        harts: limits.size.harts,
+        memory: limits.size.memory,
+        steps: limits.steps,
+        cache: limits.cache,
+        schedule: path_given(matches, "schedule"),
         stats,
         words,
     })
@@ -234,16 +230,48 @@ fn read_debug<'a>(matches: &ArgMatches<'a>) -> Result<Debug<'a>, OrderFault<'a>>
     ensures { MatchResult result (IsDebugOf (rows_of (found_of matches.now)))
         (NamesFirstOf (malformed_of_machine (rows_of (found_of matches.now)))) }
 {
-    let file = argument(matches, "file");
-    let harts = number_given(matches, "harts", DEFAULT_HARTS)?;
-    let memory = number_given(matches, "memory", DEFAULT_MEMORY)?;
+    let size = size_given(matches)?;
     let cache = cache_given(matches, "cache", DEFAULT_CACHE)?;
     Ok(Debug {
-        file,
-        harts,
-        memory,
+        file: argument(matches, "file"),
+        harts: size.harts,
+        memory: size.memory,
         cache,
     })
+}
+
+/// How many harts a machine has, and how many bytes of memory.
+#[derive(Clone, Copy)]
+struct Size {
+    harts: u32,
+    memory: u32,
+}
+
+/// On which machine a run takes place, and how far it goes.
+#[derive(Clone, Copy)]
+struct Limits {
+    size: Size,
+    steps: u32,
+    cache: Cache,
+}
+
+fn size_given<'a>(matches: &ArgMatches<'a>) -> Result<Size, OrderFault<'a>>
+    ensures { MatchResult result (λ size. IsSizeOf (rows_of (found_of matches.now)) size.harts size.memory)
+        (NamesFirstOf (malformed_of_size (rows_of (found_of matches.now)))) }
+{
+    let harts = number_given(matches, "harts", DEFAULT_HARTS)?;
+    let memory = number_given(matches, "memory", DEFAULT_MEMORY)?;
+    Ok(Size { harts, memory })
+}
+
+fn limits_given<'a>(matches: &ArgMatches<'a>) -> Result<Limits, OrderFault<'a>>
+    ensures { MatchResult result (λ limits. AreLimitsOf (rows_of (found_of matches.now)) limits.size.harts limits.size.memory limits.steps limits.cache)
+        (NamesFirstOf (malformed_of_limits (rows_of (found_of matches.now)))) }
+{
+    let size = size_given(matches)?;
+    let steps = number_given(matches, "steps", DEFAULT_STEPS)?;
+    let cache = cache_given(matches, "cache", DEFAULT_CACHE)?;
+    Ok(Limits { size, steps, cache })
 }
 
 fn number_given<'a>(matches: &ArgMatches<'a>, id: &str, default: u32) -> Result<u32, OrderFault<'a>>

@@ -1,8 +1,6 @@
-use Rattle.std.proofs.Common.{◌≡◌, ◌∙◌, [], ap, codes, rules, true}
-use Rattle.std.proofs.lemmas.Result.{IfOk-weaker}
-use Rattle.clap.specs.Words.{App, app_of, with_subcommand}
+use Rattle.std.proofs.Common.{◌≡◌, [], codes, rules, true}
+use Rattle.clap.specs.Words.{App, app_of}
 use Rattle.clap.specs.Simple.{new_shape}
-use Rattle.command_line.specs.Command as spec
 use Rattle.command_line.proofs.parser.command.Goals as goal
 
 -- the command before its subcommands
@@ -18,5 +16,7 @@ bare = record {
 pub returns : goal.returns
 returns c =
     let start : app_of c.subcommand_required-command.result ≡ bare = search rules in
-    let runs = c.in_ok-with_runs.ensures ∙ ap (λ a. with_subcommand (with_subcommand a spec.run) spec.debug) start in
-    IfOk-weaker c.with_listings.result _ _ (λ r is. is ∙ ap (λ a. with_subcommand (with_subcommand a spec.dis) spec.asm) runs) c.with_listings.ensures
+    let run = c.with_subcommand-command.ensures _ _ start c.run_command.ensures in
+    let debug = c.with_subcommand-command-2.ensures _ _ run c.debug_command.ensures in
+    let dis = c.with_subcommand-command-3.ensures _ _ debug c.dis_command.ensures in
+    c.with_subcommand.ensures _ _ dis c.asm_command.ensures

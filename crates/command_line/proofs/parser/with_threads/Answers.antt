@@ -1,20 +1,14 @@
-use Rattle.std.proofs.Common.{IfOk, refl}
-use Rattle.std.proofs.lemmas.Result.{IfOk-weaker}
-use Rattle.clap.specs.Words.{app_of}
+use Rattle.std.proofs.Common.{codes, subst}
+use Rattle.clap.specs.Words.{Rule, with_rule}
 use Rattle.command_line.specs.Command as spec
-use Rattle.command_line.specs.Command.{with_rules}
-use Rattle.command_line.proofs.Commands.{IsApp, with_three}
+use Rattle.command_line.specs.Command.{Makes, with_rules}
 use Rattle.command_line.proofs.parser.with_threads.Goals as goal
 
-made : (c : goal.After-arg-3) → IfOk c.arg-3.result (λ r. IsApp r (with_rules spec.threads_and_words (app_of c.args.command)))
-made c =
-    let start : IsApp c.args.command (app_of c.args.command) = record { shape = refl; local = c.requires } in
-    IfOk-weaker c.arg-3.result _ _
-    (λ r adds. with_three _ _ _ _ _ _ _ _ _ _ _ start c.flag.ensures.rule c.flag.ensures.local c.in_ok-arg.ensures
-    c.option.ensures.rule c.option.ensures.local c.in_ok-arg-2.ensures c.words.ensures.rule c.words.ensures.local adds) c.arg-3.ensures
-
-pub returns-clause-app : goal.returns-clause-app
-returns-clause-app c = IfOk-weaker c.arg-3.result _ _ (λ r is. is.shape) (made c)
-
-pub returns-clause-local : goal.returns-clause-local
-returns-clause-local c = IfOk-weaker c.arg-3.result _ _ (λ r is. is.local) (made c)
+pub returns : goal.returns
+unfolding with_rules
+returns c = λ app is.
+    let one = with_rule app (spec.flag_named (codes "threads")) in
+    let two = with_rule one (spec.option_named (codes "history")) in
+    let threads = subst (λ (r : Rule). Makes c.with_argument-command.result (with_rule app r)) c.flag.ensures.rule (c.with_argument-command.ensures app is) in
+    let history = c.with_option-command.ensures one threads in
+    subst (λ (r : Rule). Makes c.with_argument.result (with_rule two r)) c.words.ensures.rule (c.with_argument.ensures two history)

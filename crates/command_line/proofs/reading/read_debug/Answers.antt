@@ -1,4 +1,18 @@
+use Rattle.std.proofs.Common.{codes}
+use Rattle.std.proofs.lemmas.Result.{err_from_is_err_and}
+use Rattle.clap.specs.Words.{found_of, rows_of}
+use Rattle.command_line.specs.Reading.{cache_of, given, malformed, malformed_of_size}
+use Rattle.command_line.proofs.Values.{first_behind, first_of_more, size_none}
 use Rattle.command_line.proofs.reading.read_debug.Goals as goal
 
-pub returns : goal.returns
-returns c = (c.argument-file.ensures, c.in_ok-harts.ensures, c.in_ok-memory.ensures, c.in_ok-cache.ensures)
+pub returns-in_err-size : goal.returns-in_err-size
+returns-in_err-size c =
+    let rows = rows_of (found_of c.args.matches.now) in
+    let p = err_from_is_err_and c.from_residual.result c.from_residual.ensures.1 in
+    rw (p.1, p.2) (first_of_more _ (malformed cache_of (given (codes "cache") rows)) _ c.in_err-size.ensures)
+
+pub returns-in_err-cache : goal.returns-in_err-cache
+returns-in_err-cache c =
+    let rows = rows_of (found_of c.args.matches.now) in
+    let p = err_from_is_err_and c.from_residual-in_err-cache.result c.from_residual-in_err-cache.ensures.1 in
+    rw (p.1, p.2) (first_behind (malformed_of_size rows) _ _ (size_none rows c.in_ok-size.ensures) c.in_err-cache.ensures)
