@@ -1,5 +1,7 @@
 //! What has to come of command lines.
-use super::calls::Told;
+use super::calls::{Told, performed};
+use super::paper::Paper;
+use command_line::Order;
 use std::process::Abort;
 
 /// That a command ended with this status, and put these texts whole.
@@ -42,4 +44,17 @@ pub(crate) fn check_cut(rt: &impl Abort, cuts: &mut Cuts, told: &Told) {
         let error = b"logtm: cannot write standard output\n".as_slice();
         assert_eq!(rt; told.error.bytes.as_slice(), error);
     }
+}
+
+/// The same of an order, of whose puts on standard output so many are taken.
+pub(crate) fn check_order_cut(
+    rt: &(impl Abort + AllocGlobal),
+    order: &Order<'_>,
+    file: &[u8],
+    left: u32,
+    cuts: &mut Cuts,
+) {
+    let (out, error) = (Paper::new(rt.alloc(), left), Paper::endless(rt.alloc()));
+    let told = performed(rt.alloc(), order, file, &[], out, error);
+    check_cut(rt, cuts, &told);
 }

@@ -1,31 +1,24 @@
 //! Counts behind the report that cannot be put.
-use super::calls::{file_of, order_of, performed};
-use super::checks::{Cuts, check_cut};
-use super::paper::Paper;
+use super::calls::{file_of, order_of};
+use super::checks::{Cuts, check_order_cut};
 use elf_samples::COMMITS;
 use std::process::Abort;
 use std::test::Fail;
 
 /// That each put of the report and its counts is refused in turn.
-fn check_counts_cut(
-    rt: &(impl Abort + AllocGlobal),
-    words: &[&str],
-    file: &[u8],
-) -> Result<(), Fail> {
-    let order = order_of(rt.alloc(), words).ok_or("an order")?;
+fn check_counts_cut(rt: &(impl Abort + AllocGlobal), words: &[&str], file: &[u8]) {
+    let order = order_of(rt.alloc(), words).expect(rt, "an order");
     let mut cuts = Cuts::new();
     for left in 0..150 {
-        let (out, error) = (Paper::new(rt.alloc(), left), Paper::endless(rt.alloc()));
-        let told = performed(rt.alloc(), &order, file, &[], out, error);
-        check_cut(rt, &mut cuts, &told);
+        check_order_cut(rt, &order, file, left, &mut cuts);
     }
     assert!(rt; cuts.whole.is_some());
-    Ok(())
 }
 
 #[test]
 fn each_put_of_counts_is_refused(rt: HostRuntime) -> Result<(), Fail> {
     let file = file_of(rt.alloc(), &COMMITS)?;
-    check_counts_cut(&rt, &["logtm", "run", "f", "--stats=table"], &file)?;
-    check_counts_cut(&rt, &["logtm", "run", "f", "--stats=csv"], &file)
+    check_counts_cut(&rt, &["logtm", "run", "f", "--stats=table"], &file);
+    check_counts_cut(&rt, &["logtm", "run", "f", "--stats=csv"], &file);
+    Ok(())
 }

@@ -48,7 +48,7 @@ fn check_cut(
 #[test]
 fn each_put_of_a_session_is_refused(rt: HostRuntime) -> Result<(), Fail> {
     let file = file_of(rt.alloc(), &COMMITS)?;
-    let debug = debug_of(rt.alloc(), WORDS.as_slice()).ok_or("a debug")?;
+    let debug = debug_of(rt.alloc(), WORDS.as_slice()).expect(&rt, "a debug");
     let mut whole = false;
     for puts in 0..60 {
         let status = check_cut(&rt, &debug, &file, puts, 100);
@@ -72,18 +72,17 @@ fn check_end(
     puts: u32,
     out: &str,
     error: &str,
-) -> Result<(), Fail> {
-    let file = file_of(rt.alloc(), &COMMITS)?;
-    let debug = debug_of(rt.alloc(), WORDS.as_slice()).ok_or("a debug")?;
+) {
+    let file = file_of(rt.alloc(), &COMMITS).expect(rt, "memory");
+    let debug = debug_of(rt.alloc(), WORDS.as_slice()).expect(rt, "a debug");
     let mut input = input_of(typed, fails);
     let (paper, errors) = (Paper::new(rt.alloc(), puts), Paper::endless(rt.alloc()));
     let told = played(rt.alloc(), &debug, &file, &mut input, "", paper, errors);
     check_told(rt, &told, 3, out, error);
-    Ok(())
 }
 
 #[test]
-fn what_ended_a_session_is_told(rt: HostRuntime) -> Result<(), Fail> {
+fn what_ended_a_session_is_told(rt: HostRuntime) {
     let stepped = "0 0x00001000 00000a0b tbegin 20\n";
     let cases: [(&[u8], bool, u32, &str, &str); 4] = [
         // The input fails where a line could go on, and where one could begin.
@@ -94,26 +93,19 @@ fn what_ended_a_session_is_told(rt: HostRuntime) -> Result<(), Fail> {
         (TYPED, false, 0, "0 0x00001000 000", UNWRITTEN),
     ];
     for (typed, fails, puts, out, error) in cases {
-        check_end(&rt, typed, fails, puts, out, error)?;
+        check_end(&rt, typed, fails, puts, out, error);
     }
-    Ok(())
 }
 
 /// That a program is refused, and no line of the input is read.
-fn check_refused(
-    rt: &(impl Abort + AllocGlobal),
-    words: &[&str],
-    file: &[u8],
-    text: &str,
-) -> Result<(), Fail> {
-    let debug = debug_of(rt.alloc(), words).ok_or("a debug")?;
+fn check_refused(rt: &(impl Abort + AllocGlobal), words: &[&str], file: &[u8], text: &str) {
+    let debug = debug_of(rt.alloc(), words).expect(rt, "a debug");
     let mut input = input_of(TYPED, false);
     let (out, error) = (Paper::endless(rt.alloc()), Paper::endless(rt.alloc()));
     let told = played(rt.alloc(), &debug, file, &mut input, "? ", out, error);
     check_told(rt, &told, 4, "", text);
-    let first = input.bytes.next().ok_or("a byte")?;
+    let first = input.bytes.next().expect(rt, "a byte");
     assert_eq!(rt; first.ok(), Some(b's'));
-    Ok(())
 }
 
 #[test]
@@ -121,9 +113,10 @@ fn a_refused_program_has_no_session(rt: HostRuntime) -> Result<(), Fail> {
     let file = file_of(rt.alloc(), &COMMITS)?;
     let source = b"li a0, 1\nfoo a0\n".as_slice();
     let unknown = "logtm: line 2: 1 Unknown\nfoo a0\n";
-    let cut = file.get(..40).ok_or("the file has 116 bytes")?;
-    check_refused(&rt, &WORDS, cut, "logtm: load 1 Truncated\n")?;
-    check_refused(&rt, &["logtm", "debug", "f.s"], source, unknown)?;
+    let cut = file.get(..40).expect(&rt, "the file has 116 bytes");
+    check_refused(&rt, &WORDS, cut, "logtm: load 1 Truncated\n");
+    check_refused(&rt, &["logtm", "debug", "f.s"], source, unknown);
     let words = ["logtm", "debug", "f", "--harts", "9"];
-    check_refused(&rt, &words, &file, "logtm: boot 2 BadHarts\n")
+    check_refused(&rt, &words, &file, "logtm: boot 2 BadHarts\n");
+    Ok(())
 }

@@ -47,32 +47,39 @@ fn check_timeline_cut(rt: &(impl Abort + AllocGlobal), run: &Run<'_>, file: &[u8
 #[test]
 fn each_put_of_the_timeline_is_refused(rt: HostRuntime) -> Result<(), Fail> {
     let file = file_of(rt.alloc(), &COMMITS)?;
-    let run = run_of(rt.alloc(), TWO_STEPS.as_slice()).ok_or("a run")?;
+    let run = run_of(rt.alloc(), TWO_STEPS.as_slice()).expect(&rt, "a run");
     for left in 0..35 {
         check_timeline_cut(&rt, &run, &file, left);
     }
     Ok(())
 }
 
+/// That a run is told of whose timeline or picture, on this paper, is cut.
+fn check_cut(
+    rt: &(impl Abort + AllocGlobal),
+    run: &Run<'_>,
+    form: Form,
+    file: &[u8],
+    paper: Paper,
+) {
+    let (told, shown) = shown_apart(rt.alloc(), run, form, file, &[], paper);
+    check_told(rt, &told, 3, "", UNWRITTEN);
+    assert_eq!(rt; shown.failed, 1);
+}
+
 #[test]
 fn a_timeline_that_is_not_written_out_is_told(rt: HostRuntime) -> Result<(), Fail> {
     let file = file_of(rt.alloc(), &COMMITS)?;
-    let run = run_of(rt.alloc(), TWO_STEPS.as_slice()).ok_or("a run")?;
-    let paper = Paper::stuck(rt.alloc());
-    let (told, timeline) = shown_apart(rt.alloc(), &run, Form::Timeline, &file, &[], paper);
-    check_told(&rt, &told, 3, "", UNWRITTEN);
-    assert_eq!(rt; timeline.failed, 1);
+    let run = run_of(rt.alloc(), TWO_STEPS.as_slice()).expect(&rt, "a run");
+    check_cut(&rt, &run, Form::Timeline, &file, Paper::stuck(rt.alloc()));
     Ok(())
 }
 
 #[test]
 fn a_picture_that_is_cut_is_told(rt: HostRuntime) -> Result<(), Fail> {
     let file = file_of(rt.alloc(), &COMMITS)?;
-    let run = run_of(rt.alloc(), TWO_STEPS.as_slice()).ok_or("a run")?;
-    for paper in [Paper::new(rt.alloc(), 10), Paper::stuck(rt.alloc())] {
-        let (told, picture) = shown_apart(rt.alloc(), &run, Form::Picture, &file, &[], paper);
-        check_told(&rt, &told, 3, "", UNWRITTEN);
-        assert_eq!(rt; picture.failed, 1);
-    }
+    let run = run_of(rt.alloc(), TWO_STEPS.as_slice()).expect(&rt, "a run");
+    check_cut(&rt, &run, Form::Picture, &file, Paper::new(rt.alloc(), 10));
+    check_cut(&rt, &run, Form::Picture, &file, Paper::stuck(rt.alloc()));
     Ok(())
 }

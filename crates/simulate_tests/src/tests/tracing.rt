@@ -41,7 +41,7 @@ fn check_trace_cut(rt: &(impl Abort + AllocGlobal), run: &Run<'_>, file: &[u8], 
 #[test]
 fn each_put_of_the_trace_is_refused(rt: HostRuntime) -> Result<(), Fail> {
     let file = file_of(rt.alloc(), &COMMITS)?;
-    let run = run_of(rt.alloc(), SHOWS.as_slice()).ok_or("a run")?;
+    let run = run_of(rt.alloc(), SHOWS.as_slice()).expect(&rt, "a run");
     for left in 0..20 {
         check_trace_cut(&rt, &run, &file, left);
     }
@@ -51,21 +51,32 @@ fn each_put_of_the_trace_is_refused(rt: HostRuntime) -> Result<(), Fail> {
 #[test]
 fn a_trace_that_is_not_written_out_is_told(rt: HostRuntime) -> Result<(), Fail> {
     let file = file_of(rt.alloc(), &COMMITS)?;
-    let run = run_of(rt.alloc(), SHOWS.as_slice()).ok_or("a run")?;
+    let run = run_of(rt.alloc(), SHOWS.as_slice()).expect(&rt, "a run");
     let (told, trace) = traced_apart(rt.alloc(), &run, &file, &[], Paper::stuck(rt.alloc()));
     check_told(&rt, &told, 3, "", UNWRITTEN);
     assert_eq!(rt; trace.failed, 1);
     Ok(())
 }
 
+/// That a trace and the report behind it are cut where so many puts are too few.
+fn check_both_cut(
+    rt: &(impl Abort + AllocGlobal),
+    run: &Run<'_>,
+    file: &[u8],
+    left: u32,
+    cuts: &mut Cuts,
+) {
+    let told = traced_before(rt.alloc(), run, file, &[], Paper::new(rt.alloc(), left));
+    check_cut(rt, cuts, &told);
+}
+
 #[test]
 fn each_put_of_both_is_refused(rt: HostRuntime) -> Result<(), Fail> {
     let file = file_of(rt.alloc(), &COMMITS)?;
-    let run = run_of(rt.alloc(), SHOWS.as_slice()).ok_or("a run")?;
+    let run = run_of(rt.alloc(), SHOWS.as_slice()).expect(&rt, "a run");
     let mut cuts = Cuts::new();
     for left in 0..120 {
-        let told = traced_before(rt.alloc(), &run, &file, &[], Paper::new(rt.alloc(), left));
-        check_cut(&rt, &mut cuts, &told);
+        check_both_cut(&rt, &run, &file, left, &mut cuts);
     }
     assert_eq!(rt; cuts.whole, Some(TRACE.len() + REPORT.len()));
     Ok(())
