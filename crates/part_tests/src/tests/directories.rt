@@ -1,7 +1,6 @@
 //! The directory alone: what arrives at it about one block, and what it sends.
 
 use directory::{Busy, DirEntry, Directory, Owner, Received};
-use std::alloc::AllocError;
 use std::process::Abort;
 use std::test::Fail;
 use words::{Block, BlockNo, HartId, HartSet, Kind, LineState, Message, Stamp};
@@ -47,16 +46,11 @@ fn harts(rt: &impl Abort, numbers: &[usize]) -> HartSet {
     set
 }
 
-fn get(
-    rt: &impl Abort,
-    directory: &mut Directory,
-    number: usize,
-    kind: Kind,
-) -> Result<Received, AllocError> {
+fn get(rt: &impl Abort, directory: &mut Directory, number: usize, kind: Kind) -> Received {
     let from = hart(rt, number);
     assert!(rt; from.index() < directory.harts());
     assert!(rt; 1 < directory.blocks());
-    directory.receive(Message::Get {
+    let message = Message::Get {
         from,
         block: BlockNo::new(1),
         kind,
@@ -64,7 +58,8 @@ fn get(
             count: 7,
             hart: from,
         }),
-    })
+    };
+    directory.receive(message).expect(rt, "memory")
 }
 
 fn put(
@@ -73,16 +68,17 @@ fn put(
     number: usize,
     content: Block,
     marked: bool,
-) -> Result<Received, AllocError> {
+) -> Received {
     let from = hart(rt, number);
     assert!(rt; from.index() < directory.harts());
     assert!(rt; 1 < directory.blocks());
-    directory.receive(Message::Put {
+    let message = Message::Put {
         from,
         block: BlockNo::new(1),
         content,
         marked,
-    })
+    };
+    directory.receive(message).expect(rt, "memory")
 }
 
 fn done(
@@ -91,16 +87,17 @@ fn done(
     number: usize,
     ok: bool,
     content: Option<Block>,
-) -> Result<Received, AllocError> {
+) -> Received {
     let from = hart(rt, number);
     assert!(rt; from.index() < directory.harts());
     assert!(rt; 1 < directory.blocks());
-    directory.receive(Message::Done {
+    let message = Message::Done {
         from,
         block: BlockNo::new(1),
         ok,
         content,
-    })
+    };
+    directory.receive(message).expect(rt, "memory")
 }
 
 /// The message that goes out with an index.
@@ -209,27 +206,27 @@ fn check_used(rt: &impl Abort, directory: &Directory, want: usize) {
     assert_eq!(rt; directory.used(), want);
 }
 
-fn check_row(rt: &impl Abort, directory: &mut Directory, row: &Row) -> Result<(), AllocError> {
+fn check_row(rt: &impl Abort, directory: &mut Directory, row: &Row) {
     match *row {
         Row::Grants(number, kind, give, content, expect) => {
-            let received = get(rt, directory, number, kind)?;
+            let received = get(rt, directory, number, kind);
             check_grants(rt, &received, number, give, content, expect);
             check_forwards(rt, &received, kind, number, expect);
         }
         Row::HoldsGet(number, kind) => {
-            let received = get(rt, directory, number, kind)?;
+            let received = get(rt, directory, number, kind);
             check_count(rt, &received, None);
         }
         Row::Acknowledges(number, content, marked) => {
-            let received = put(rt, directory, number, content, marked)?;
+            let received = put(rt, directory, number, content, marked);
             check_acknowledges(rt, &received, number);
         }
         Row::HoldsPut(number, content) => {
-            let received = put(rt, directory, number, content, false)?;
+            let received = put(rt, directory, number, content, false);
             check_count(rt, &received, None);
         }
         Row::Done(number, ok, content) => {
-            let received = done(rt, directory, number, ok, content)?;
+            let received = done(rt, directory, number, ok, content);
             check_count(rt, &received, Some(0));
         }
         Row::Busy(number, give) => check_busy(rt, directory, number, give),
@@ -237,7 +234,6 @@ fn check_row(rt: &impl Abort, directory: &mut Directory, row: &Row) -> Result<()
         Row::Memory(content) => check_memory(rt, directory, content),
         Row::Used(want) => check_used(rt, directory, want),
     }
-    Ok(())
 }
 
 /// That each row comes true in order, from three blocks of zeros on.
@@ -245,7 +241,7 @@ fn check(rt: &(impl Abort + AllocGlobal), rows: &[Row]) -> Result<(), Fail> {
     let memory = vec![in rt.alloc(); ZEROS; 3]?;
     let mut directory = Directory::new(rt.alloc(), memory, 4);
     for row in rows {
-        check_row(rt, &mut directory, row)?;
+        check_row(rt, &mut directory, row);
     }
     Ok(())
 }

@@ -1,9 +1,7 @@
 //! Messages in flight, by key and by age. The calls say nothing of what they answer, so that no test's proof has to carry it.
 
 use network::Net;
-use std::alloc::{AllocError, Global};
 use std::process::Abort;
-use std::test::Fail;
 use words::{BlockNo, HartId, Message};
 
 /// The message that is told by a block's number.
@@ -28,14 +26,14 @@ fn send(rt: &impl Abort, net: &mut Net, block: u32) -> usize {
 }
 
 /// A network, and the keys of its three messages, which are told by 1, 2 and 3.
-fn with_three(rt: &impl Abort, alloc: Global) -> Result<(Net, [usize; 3]), AllocError> {
-    let mut net = Net::new(alloc);
+fn with_three(rt: &(impl Abort + AllocGlobal)) -> (Net, [usize; 3]) {
+    let mut net = Net::new(rt.alloc());
     assert_eq!(rt; net.room(), 0);
-    net.reserve(3)?;
+    net.reserve(3).expect(rt, "memory");
     let first = send(rt, &mut net, 1);
     let second = send(rt, &mut net, 2);
     let third = send(rt, &mut net, 3);
-    Ok((net, [first, second, third]))
+    (net, [first, second, third])
 }
 
 fn check_message(rt: &impl Abort, net: &Net, key: usize, want: Option<Message>) {
@@ -77,8 +75,8 @@ fn check_key(rt: &impl Abort, key: usize, want: usize) {
 }
 
 #[test]
-fn messages_keep_their_order(rt: HostRuntime) -> Result<(), Fail> {
-    let (mut net, [first, second, third]) = with_three(&rt, rt.alloc())?;
+fn messages_keep_their_order(rt: HostRuntime) {
+    let (mut net, [first, second, third]) = with_three(&rt);
     check_message(&rt, &net, third, Some(ack(3)));
     check_message(&rt, &net, 100, None);
     check_oldest(&rt, &net, first);
@@ -91,7 +89,6 @@ fn messages_keep_their_order(rt: HostRuntime) -> Result<(), Fail> {
     check_message(&rt, &net, second, Some(ack(2)));
     check_oldest_above(&rt, &net, 3, Some(fourth));
     check_oldest_above(&rt, &net, 4, None);
-    Ok(())
 }
 
 /// That so much room isn't given.
@@ -100,19 +97,18 @@ fn check_refused(rt: &impl Abort, net: &mut Net, count: usize) {
 }
 
 #[test]
-fn a_refused_growth_loses_nothing(rt: HostRuntime) -> Result<(), Fail> {
-    let (mut net, [first, _, third]) = with_three(&rt, rt.alloc())?;
+fn a_refused_growth_loses_nothing(rt: HostRuntime) {
+    let (mut net, [first, _, third]) = with_three(&rt);
     check_refused(&rt, &mut net, usize::MAX / 2);
     check_message(&rt, &net, third, Some(ack(3)));
     check_oldest(&rt, &net, first);
     check_message(&rt, &net, first, Some(ack(1)));
-    Ok(())
 }
 
 #[test]
-fn messages_come_by_age(rt: HostRuntime) -> Result<(), Fail> {
+fn messages_come_by_age(rt: HostRuntime) {
     check_next(&rt, &Net::new(rt.alloc()), None, None);
-    let (mut net, [first, second, third]) = with_three(&rt, rt.alloc())?;
+    let (mut net, [first, second, third]) = with_three(&rt);
     check_next(&rt, &net, None, Some(first));
     check_taken(&rt, &mut net, first, Some(ack(1)));
     let fourth = send(&rt, &mut net, 4);
@@ -127,5 +123,4 @@ fn messages_come_by_age(rt: HostRuntime) -> Result<(), Fail> {
     check_message(&rt, &net, fourth, Some(ack(4)));
     // After a key with nothing under it comes the oldest message.
     check_next(&rt, &net, Some(100), Some(second));
-    Ok(())
 }

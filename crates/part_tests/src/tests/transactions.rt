@@ -2,7 +2,7 @@
 
 use std::process::Abort;
 use std::test::Fail;
-use transaction::{Tx, TxFault};
+use transaction::{Restart, Tx, TxFault};
 use words::{AbortCause, Addr, BlockNo, Cause, HartId, Regs, Stamp};
 
 const REGS: Regs = [7; 32];
@@ -14,13 +14,41 @@ fn stamp(count: u64) -> Stamp {
     }
 }
 
+/// What comes of a begin where nothing is being aborted.
+fn check_begin(
+    rt: &impl Abort,
+    tx: &mut Tx,
+    regs: &Regs,
+    pc: u32,
+    count: u64,
+    want: Result<bool, TxFault>,
+) {
+    assert!(rt; tx.aborting().is_none());
+    assert_eq!(rt; tx.begin(regs, Addr::new(pc), stamp(count)), want);
+}
+
 /// A transaction that began with `REGS`, the abort pc 0x1014 and the stamp of count 5.
 fn begun(rt: &impl Abort) -> Tx {
     let mut tx = Tx::new(Addr::new(0xff000));
-    assert!(rt; tx.aborting().is_none());
-    assert_eq!(rt; tx.begin(&REGS, Addr::new(0x1014), stamp(5)), Ok(true));
+    check_begin(rt, &mut tx, &REGS, 0x1014, 5, Ok(true));
     assert!(rt; tx.aborting().is_none());
     tx
+}
+
+/// The stamp of the transaction.
+fn check_stamp(rt: &impl Abort, tx: &Tx, count: u64) {
+    assert_eq!(rt; tx.stamp(), Some(stamp(count)));
+}
+
+/// The stamp of the transaction, and that which is kept for the next.
+fn check_stamps(rt: &impl Abort, tx: &Tx, running: Option<u64>, kept: Option<u64>) {
+    assert_eq!(rt; tx.stamp(), running.map(stamp));
+    assert_eq!(rt; tx.kept_stamp(), kept.map(stamp));
+}
+
+/// A record is appended, whose content is ones.
+fn append(rt: &impl Abort, tx: &mut Tx) {
+    assert_eq!(rt; tx.append_record(BlockNo::new(256), &[1; 8]), Ok(()));
 }
 
 /// Asserts the depth, both flags and how many records the log has.
@@ -40,9 +68,8 @@ fn check_commit(rt: &impl Abort, tx: &mut Tx) {
 /// A transaction in a transaction, with a record and both flags.
 fn nested(rt: &impl Abort) -> Tx {
     let mut tx = begun(rt);
-    assert!(rt; tx.aborting().is_none());
-    assert_eq!(rt; tx.begin(&[0; 32], Addr::new(0), stamp(6)), Ok(false));
-    assert_eq!(rt; tx.append_record(BlockNo::new(256), &[1; 8]), Ok(()));
+    check_begin(rt, &mut tx, &[0; 32], 0, 6, Ok(false));
+    append(rt, &mut tx);
     tx.set_overflow();
     tx.set_cycle();
     tx
@@ -66,7 +93,7 @@ fn the_outermost_commit_forgets_log_and_flags(rt: HostRuntime) {
     check_state(&rt, &tx, 1, true, 1);
     check_commit(&rt, &mut tx);
     check_state(&rt, &tx, 0, false, 0);
-    assert_eq!(rt; (tx.stamp(), tx.kept_stamp()), (None, None));
+    check_stamps(&rt, &tx, None, None);
 }
 
 #[test]
@@ -84,21 +111,35 @@ fn outside_nothing_commits_and_nothing_aborts(rt: HostRuntime) {
 fn a_commit_leaves_no_stamp_for_the_next(rt: HostRuntime) {
     let mut tx = begun(&rt);
     check_commit(&rt, &mut tx);
+    check_begin(&rt, &mut tx, &REGS, 0x1014, 6, Ok(true));
+    check_stamp(&rt, &tx, 6);
+}
+
+fn start_abort(rt: &impl Abort, tx: &mut Tx, cause: AbortCause) {
     assert!(rt; tx.aborting().is_none());
-    assert_eq!(rt; tx.begin(&REGS, Addr::new(0x1014), stamp(6)), Ok(true));
-    assert_eq!(rt; tx.stamp(), Some(stamp(6)));
+    assert_eq!(rt; tx.start_abort(cause), Ok(()));
+}
+
+/// The one record is taken.
+fn pop(rt: &impl Abort, tx: &mut Tx) {
+    assert!(rt; !tx.log().is_empty());
+    tx.pop_record();
 }
 
 /// A transaction that aborts for this cause, whose one record is taken.
 fn undone(rt: &impl Abort, cause: AbortCause) -> Tx {
     let mut tx = begun(rt);
-    assert_eq!(rt; tx.append_record(BlockNo::new(256), &[1; 8]), Ok(()));
+    append(rt, &mut tx);
     tx.set_overflow();
-    assert!(rt; tx.aborting().is_none());
-    assert_eq!(rt; tx.start_abort(cause), Ok(()));
-    assert!(rt; !tx.log().is_empty());
-    tx.pop_record();
+    start_abort(rt, &mut tx, cause);
+    pop(rt, &mut tx);
     tx
+}
+
+/// The abort of a transaction ends, whose records are all taken.
+fn end_abort(rt: &impl Abort, tx: &mut Tx) -> Restart {
+    assert!(rt; tx.log().is_empty() && tx.aborting().is_some());
+    tx.end_abort()
 }
 
 #[test]
@@ -118,26 +159,19 @@ fn an_abort_restarts_at_the_checkpoint(rt: HostRuntime) {
 #[test]
 fn an_abort_keeps_the_stamp(rt: HostRuntime) {
     let mut tx = undone(&rt, AbortCause::Asked);
-    assert!(rt; tx.log().is_empty() && tx.aborting().is_some());
-    tx.end_abort();
-    assert_eq!(rt; (tx.stamp(), tx.kept_stamp()), (None, Some(stamp(5))));
-    assert!(rt; tx.aborting().is_none());
-    assert_eq!(rt; tx.begin(&REGS, Addr::new(0x1014), stamp(9)), Ok(false));
-    assert_eq!(rt; tx.stamp(), Some(stamp(5)));
+    end_abort(&rt, &mut tx);
+    check_stamps(&rt, &tx, None, Some(5));
+    check_begin(&rt, &mut tx, &REGS, 0x1014, 9, Ok(false));
+    check_stamp(&rt, &tx, 5);
 }
 
 #[test]
 fn nests_255_deep(rt: HostRuntime) {
     let mut tx = Tx::new(Addr::new(0xff000));
     for depth in 0..255 {
-        assert!(rt; tx.aborting().is_none());
-        assert_eq!(rt; tx.begin(&REGS, Addr::new(0), stamp(0)), Ok(depth == 0));
+        check_begin(&rt, &mut tx, &REGS, 0, 0, Ok(depth == 0));
     }
-    assert!(rt; tx.aborting().is_none());
-    assert_eq!(rt;
-        tx.begin(&REGS, Addr::new(0), stamp(0)),
-        Err(TxFault::TooDeep)
-    );
+    check_begin(&rt, &mut tx, &REGS, 0, 0, Err(TxFault::TooDeep));
     assert_eq!(rt; tx.depth(), 255);
 }
 
