@@ -31,6 +31,7 @@ pub fn is_running<const SETS: usize, const WAYS: usize>(
     requires { SETS * WAYS < 2 ^ 32 }
     ensures { IsTrue result ↔ IsRunning machine.now id }
 {
+    machine.keeps();
     match machine.hart(id) {
         Some(hart) => match hart.status() {
             Status::Running => true,
