@@ -1,5 +1,4 @@
 ghost use Rattle.std.specs.Prelude.{◌≡◌, ◌≤◌, ◌+◌, ◌++◌, [], length, codes, decimal};
-ghost use Rattle.words.specs.Bytes.{bytes_in};
 ghost use Rattle.words.specs.declared.entry.Entry.TheVariants.{Retire, Abort, Trap, Refuse, Spill};
 ghost use Rattle.texts.specs.Puts.{Puts};
 ghost use Rattle.texts.specs.Numerals.{hexadecimal};
@@ -11,8 +10,9 @@ use crate::parts::{first_byte, hart_digit};
 use arrayvec::ArrayString;
 use disassembler::{add_text, register_name};
 use itoa::Buffer;
+use table::byte_count;
 use texts::{Line, put_all};
-use words::{AbortCause, Access, Addr, BlockNo, Cause, Entry, HartId, Reg, Sink, SinkFault, Width};
+use words::{AbortCause, Access, Addr, BlockNo, Cause, Entry, HartId, Reg, Sink, SinkFault};
 
 /// A line of an entry: none is longer than 180 bytes.
 type EntryLine = Line<180>;
@@ -107,26 +107,15 @@ fn add_access(name: &str, access: Option<Access>, line: &mut EntryLine)
     ensures longer { length line.new ≤ length line.old + 48 }
 {
     if let Some(access) = access {
+        let mut digits = Buffer::new();
         line.put(" | ");
         line.put(name);
         line.put(" ");
-        line.put(width_text(access.width));
+        line.put(digits.format(byte_count(access.width)));
         line.put(" 0x");
         line.put_word(access.addr.value());
         line.put("=0x");
         line.put_word(access.value);
-    }
-}
-
-/// How many bytes an access has.
-fn width_text(width: Width) -> &'static str
-    ensures text { result.now ≡ decimal (bytes_in width) }
-    ensures short { length result.now ≤ 1 }
-{
-    match width {
-        Width::Byte => "1",
-        Width::Half => "2",
-        Width::Word => "4",
     }
 }
 

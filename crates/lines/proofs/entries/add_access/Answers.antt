@@ -7,4 +7,4 @@ returns-in-Some-clause-text c =
     let addr = c.put_word.ensures.text in
     let width = c.put-in-Some-3.ensures in
     let name = c.put-in-Some.ensures in
-    simp (append_assoc, append-nil, value, c.put-in-Some-5.ensures, addr, c.put-in-Some-4.ensures, width, c.put-in-Some-2.ensures, name, c.put.ensures, c.in-Some.is, c.width_text.ensures.text, c.value.ensures)
+    simp (append_assoc, append-nil, value, c.put-in-Some-5.ensures, addr, c.put-in-Some-4.ensures, width, c.put-in-Some-2.ensures, name, c.put.ensures, c.in-Some.is, c.format.ensures.text, c.byte_count.ensures.value, c.value.ensures)
