@@ -1,6 +1,7 @@
 use loader::{LoadFault, Program, read_elf, write_elf};
-use std::alloc::{AllocError, Global};
-use std::test::*;
+use std::alloc::Global;
+use std::process::Abort;
+use std::test::Fail;
 use table::Segment;
 use words::Addr;
 
@@ -63,16 +64,16 @@ fn set(bytes: &mut [u8], changes: &[(usize, u32)]) {
     }
 }
 
-fn sample_with(alloc: Global, changes: &[(usize, u32)]) -> Result<Vec<u8>, AllocError> {
-    let mut bytes = Vec::from_slice(alloc, &SAMPLE)?;
+fn sample_with(rt: &(impl Abort + AllocGlobal), changes: &[(usize, u32)]) -> Vec<u8> {
+    let mut bytes = Vec::from_slice(rt.alloc(), &SAMPLE).expect(rt, "memory");
     set(&mut bytes, changes);
-    Ok(bytes)
+    bytes
 }
 
 /// The sample with its segment's header twice, the second at 0x2000 and for data.
-fn two_headers_with(alloc: Global, changes: &[(usize, u32)]) -> Result<Vec<u8>, AllocError> {
-    let mut bytes = Vec::from_slice(alloc, &SAMPLE[..84])?;
-    bytes.extend_from_slice(&SAMPLE[52..])?;
+fn two_headers_with(rt: &(impl Abort + AllocGlobal), changes: &[(usize, u32)]) -> Vec<u8> {
+    let mut bytes = Vec::from_slice(rt.alloc(), &SAMPLE[..84]).expect(rt, "memory");
+    bytes.extend_from_slice(&SAMPLE[52..]).expect(rt, "memory");
     let offset = KIND + 4;
     let second = [
         (TABLE_LEN, 2),
@@ -83,7 +84,12 @@ fn two_headers_with(alloc: Global, changes: &[(usize, u32)]) -> Result<Vec<u8>, 
     ];
     set(&mut bytes, &second);
     set(&mut bytes, changes);
-    Ok(bytes)
+    bytes
+}
+
+/// The program of a file, which is read.
+fn read(rt: &(impl Abort + AllocGlobal), bytes: &[u8]) -> Program {
+    read_elf(rt.alloc(), bytes).expect(rt, "a program")
 }
 
 fn fault(alloc: Global, bytes: &[u8]) -> Option<LoadFault> {
@@ -104,15 +110,12 @@ fn is_sample(program: &Program) -> bool {
 }
 
 #[test]
-fn reads_the_sample(rt: HostRuntime) -> Result<(), Fail> {
-    let program = read_elf(rt.alloc(), &SAMPLE)
-        .ok()
-        .ok_or("the sample is a program")?;
+fn reads_the_sample(rt: HostRuntime) {
+    let program = read(&rt, &SAMPLE);
     assert!(rt; is_sample(&program));
     assert_eq!(rt; program.text().word(Addr::new(0x1000)), Some(0x05d0_0893));
     assert_eq!(rt; program.text().word(Addr::new(0x1008)), Some(0x0000_0073));
     assert_eq!(rt; program.text().word(Addr::new(0x100c)), None);
-    Ok(())
 }
 
 #[test]
@@ -128,7 +131,7 @@ fn prefixes_are_truncated(rt: HostRuntime) -> Result<(), Fail> {
 }
 
 #[test]
-fn refuses_each_fault(rt: HostRuntime) -> Result<(), Fail> {
+fn refuses_each_fault(rt: HostRuntime) {
     let cases = [
         ((4, 0x0001_0102), LoadFault::NotElf32),
         ((0, 0x464c_457e), LoadFault::NotElf32),
@@ -154,7 +157,7 @@ fn refuses_each_fault(rt: HostRuntime) -> Result<(), Fail> {
         ((KIND, 2), LoadFault::BadEntry),
     ];
     for (change, want) in cases {
-        let bytes = sample_with(rt.alloc(), &[change])?;
+        let bytes = sample_with(&rt, &[change]);
         assert_eq!(rt;
             fault(rt.alloc(), &bytes),
             Some(want),
@@ -163,11 +166,10 @@ fn refuses_each_fault(rt: HostRuntime) -> Result<(), Fail> {
             change.0
         );
     }
-    Ok(())
 }
 
 #[test]
-fn segments_stand_apart(rt: HostRuntime) -> Result<(), Fail> {
+fn segments_stand_apart(rt: HostRuntime) {
     let cases = [
         (0x2000, None),
         (0x100c, None),
@@ -177,14 +179,13 @@ fn segments_stand_apart(rt: HostRuntime) -> Result<(), Fail> {
         (0x0ff5, Some(LoadFault::SegmentOverlap)),
     ];
     for (addr, want) in cases {
-        let bytes = two_headers_with(rt.alloc(), &[(ADDR + SECOND, addr)])?;
+        let bytes = two_headers_with(&rt, &[(ADDR + SECOND, addr)]);
         assert_eq!(rt; fault(rt.alloc(), &bytes), want, "the second at {addr}");
     }
-    Ok(())
 }
 
 #[test]
-fn passes_over_what_is_not_loaded(rt: HostRuntime) -> Result<(), Fail> {
+fn passes_over_what_is_not_loaded(rt: HostRuntime) {
     let outside = (ADDR + SECOND, 0xffff_ffff);
     let cases = [
         [(KIND + SECOND, 0x7000_0003), outside],
@@ -192,49 +193,48 @@ fn passes_over_what_is_not_loaded(rt: HostRuntime) -> Result<(), Fail> {
         [(32, 0xffff_ffff), (KIND + SECOND, 0)],
     ];
     for changes in cases {
-        let bytes = two_headers_with(rt.alloc(), &changes)?;
-        let program = read_elf(rt.alloc(), &bytes)
-            .ok()
-            .ok_or("the second header is passed over")?;
-        assert!(rt; is_sample(&program));
+        let bytes = two_headers_with(&rt, &changes);
+        assert!(rt; is_sample(&read(&rt, &bytes)));
     }
-    Ok(())
 }
 
 #[test]
-fn memory_beyond_the_file_is_zero(rt: HostRuntime) -> Result<(), Fail> {
-    let bytes = sample_with(rt.alloc(), &[(MEMORY_SIZE, 20)])?;
-    let program = read_elf(rt.alloc(), &bytes)
-        .ok()
-        .ok_or("a segment may have more memory than bytes")?;
+fn memory_beyond_the_file_is_zero(rt: HostRuntime) {
+    let program = read(&rt, &sample_with(&rt, &[(MEMORY_SIZE, 20)]));
     assert_eq!(rt; program.text().word(Addr::new(0x1008)), Some(0x0000_0073));
     assert_eq!(rt; program.text().word(Addr::new(0x100c)), Some(0));
     assert_eq!(rt; program.text().word(Addr::new(0x1010)), Some(0));
-    let bytes = two_headers_with(
-        rt.alloc(),
-        &[(FILE_SIZE + SECOND, 0), (KIND + 4 + SECOND, 0xffff_ffff)],
-    )?;
-    assert!(rt; read_elf(rt.alloc(), &bytes).is_ok());
-    Ok(())
 }
 
 #[test]
-fn any_byte_may_be_any_value(rt: HostRuntime) -> Result<(), Fail> {
+fn an_empty_part_of_the_file_lies_anywhere(rt: HostRuntime) {
+    let changes = [(FILE_SIZE + SECOND, 0), (KIND + 4 + SECOND, 0xffff_ffff)];
+    let bytes = two_headers_with(&rt, &changes);
+    assert!(rt; read_elf(rt.alloc(), &bytes).is_ok());
+}
+
+/// Whether the sample is read with this byte there. If not, it isn't for want of memory.
+fn is_read_with(rt: &(impl Abort + AllocGlobal), at: usize, value: u8) -> bool {
+    let mut bytes = SAMPLE;
+    if let Some(byte) = bytes.get_mut(at) {
+        *byte = value;
+    }
+    let fault = fault(rt.alloc(), &bytes);
+    assert!(rt; fault != Some(LoadFault::NoMemory), "{value} at {at}");
+    fault.is_none()
+}
+
+#[test]
+fn any_byte_may_be_any_value(rt: HostRuntime) {
     let mut read: u32 = 0;
     for at in 0..SAMPLE.len() {
         for value in 0..=u8::MAX {
-            let mut bytes = Vec::from_slice(rt.alloc(), &SAMPLE)?;
-            if let Some(byte) = bytes.get_mut(at) {
-                *byte = value;
-            }
-            match read_elf(rt.alloc(), &bytes) {
-                Ok(_) => read = read.saturating_add(1),
-                Err(fault) => assert!(rt; fault != LoadFault::NoMemory, "{value} at {at}"),
+            if is_read_with(&rt, at, value) {
+                read = read.saturating_add(1);
             }
         }
     }
     assert!(rt; read > 0);
-    Ok(())
 }
 
 #[test]
@@ -250,29 +250,28 @@ fn faults_are_numbered(rt: HostRuntime) -> Result<(), Fail> {
     Ok(())
 }
 
+/// Whether two programs are the same.
+fn check_same(rt: &impl Abort, program: &Program, other: &Program, want: bool) {
+    assert_eq!(rt; program.same(other), want);
+}
+
 #[test]
-fn copies_are_the_same(rt: HostRuntime) -> Result<(), Fail> {
-    let program = read_elf(rt.alloc(), &SAMPLE)
-        .ok()
-        .ok_or("the sample is a program")?;
-    let copy = program.copy(rt.alloc())?;
+fn copies_are_the_same(rt: HostRuntime) {
+    let program = read(&rt, &SAMPLE);
+    let copy = program.copy(rt.alloc()).expect(&rt, "memory");
     assert!(rt; is_sample(&copy));
-    assert!(rt; program.same(&copy));
-    let bytes = sample_with(rt.alloc(), &[(ENTRY, 0x1004)])?;
-    let other = read_elf(rt.alloc(), &bytes)
-        .ok()
-        .ok_or("the entry may be any word")?;
-    assert!(rt; !program.same(&other));
-    Ok(())
+    check_same(&rt, &program, &copy, true);
+    let other = read(&rt, &sample_with(&rt, &[(ENTRY, 0x1004)]));
+    check_same(&rt, &program, &other, false);
 }
 
 /// The sample's header with as many segments as a file can have: the sample's, and others of a byte
 /// each, one after another from the last address down.
-fn full_table(alloc: Global) -> Result<Vec<u8>, AllocError> {
-    let mut bytes = Vec::from_slice(alloc, &SAMPLE[..KIND])?;
+fn full_table(rt: &(impl Abort + AllocGlobal)) -> Vec<u8> {
+    let mut bytes = Vec::from_slice(rt.alloc(), &SAMPLE[..KIND]).expect(rt, "memory");
     let mut header = [0; 32];
     header.copy_from_slice(&SAMPLE[KIND..KIND + SECOND]);
-    bytes.extend_from_slice(&header)?;
+    bytes.extend_from_slice(&header).expect(rt, "memory");
     set(
         &mut header,
         &[
@@ -283,34 +282,30 @@ fn full_table(alloc: Global) -> Result<Vec<u8>, AllocError> {
     );
     for i in 1..u32::from(u16::MAX) {
         set(&mut header, &[(ADDR - KIND, 0x0040_0000 - 4 * i)]);
-        bytes.extend_from_slice(&header)?;
+        bytes.extend_from_slice(&header).expect(rt, "memory");
     }
-    bytes.extend_from_slice(&SAMPLE[84..])?;
+    bytes.extend_from_slice(&SAMPLE[84..]).expect(rt, "memory");
     let end = KIND + SECOND * usize::from(u16::MAX);
     set(&mut bytes, &[(TABLE_LEN, 0xffff), (KIND + 4, end as u32)]);
-    Ok(bytes)
+    bytes
+}
+
+/// The file of a program.
+fn written(rt: &(impl Abort + AllocGlobal), program: &Program) -> Vec<u8> {
+    write_elf(rt.alloc(), program).expect(rt, "memory")
 }
 
 #[test]
-fn a_full_table_is_read(rt: HostRuntime) -> Result<(), Fail> {
-    let bytes = full_table(rt.alloc())?;
-    let program = read_elf(rt.alloc(), &bytes)
-        .ok()
-        .ok_or("a full table is read")?;
+fn a_full_table_is_read(rt: HostRuntime) {
+    let program = read(&rt, &full_table(&rt));
     assert_eq!(rt; program.segments().len(), 65_535);
-    let written = write_elf(rt.alloc(), &program)?;
-    let again = read_elf(rt.alloc(), &written)
-        .ok()
-        .ok_or("what was written is read")?;
-    assert!(rt; again.same(&program));
-    Ok(())
+    let again = read(&rt, &written(&rt, &program));
+    check_same(&rt, &again, &program, true);
 }
 
 #[test]
-fn a_linked_file_is_read(rt: HostRuntime) -> Result<(), Fail> {
-    let program = read_elf(rt.alloc(), &LINKED)
-        .ok()
-        .ok_or("the linker's file is a program")?;
+fn a_linked_file_is_read(rt: HostRuntime) {
+    let program = read(&rt, &LINKED);
     assert_eq!(rt; program.entry(), Addr::new(0x1000));
     match program.segments() {
         [text, data] => {
@@ -322,20 +317,18 @@ fn a_linked_file_is_read(rt: HostRuntime) -> Result<(), Fail> {
         }
         _ => assert!(rt; false, "the linker's file has two segments"),
     }
-    Ok(())
+}
+
+/// That a file is read and written as this one.
+fn check_written(rt: &(impl Abort + AllocGlobal), file: &[u8], want: &[u8]) {
+    let program = read(rt, file);
+    assert_eq!(rt; written(rt, &program).as_slice(), want);
 }
 
 #[test]
-fn writes_files(rt: HostRuntime) -> Result<(), Fail> {
-    let program = read_elf(rt.alloc(), &SAMPLE)
-        .ok()
-        .ok_or("the sample is a program")?;
-    assert_eq!(rt; write_elf(rt.alloc(), &program)?[..], SAMPLE[..]);
-    let program = read_elf(rt.alloc(), &LINKED)
-        .ok()
-        .ok_or("the linker's file is a program")?;
+fn writes_files(rt: HostRuntime) {
+    check_written(&rt, &SAMPLE, &SAMPLE);
     let mut want = LINKED;
     want[ALIGN] = 1;
-    assert_eq!(rt; write_elf(rt.alloc(), &program)?[..], want[..]);
-    Ok(())
+    check_written(&rt, &LINKED, &want);
 }
