@@ -1,4 +1,4 @@
-mod Drawing
+mod Putting
 mod Sending
 mod Showing
 mod Finding

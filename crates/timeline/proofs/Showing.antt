@@ -13,7 +13,7 @@ use Rattle.watch.specs.declared.halt.Halt.{Halt}
 use Rattle.watch.specs.declared.halt.Halt.TheVariants.{NoMemory, Untold}
 use Rattle.timeline.specs.Events.{events_from}
 use Rattle.timeline.specs.Timelines.{opening, closing, IsShown, IsCutShort}
-use Rattle.timeline.proofs.Drawing.{Notes, Misses, noted, missed}
+use Rattle.timeline.proofs.Putting.{Notes, Misses, noted, missed}
 
 -- a put that went well
 pub well_put : {a b : Option (List ℕ)} {fa fb : ℕ} {text : List ℕ} (r : Result Unit SinkFault) → r ≡ Ok tt → Puts a b fa fb text r → Puts a b fa fb text (Ok tt)

@@ -3,7 +3,7 @@ use Rattle.texts.proofs.Putting.{puts-both, puts-cut, puts-same}
 use Rattle.watch.specs.Moments.{Moment}
 use Rattle.timeline.specs.Marks.{label_of}
 use Rattle.timeline.specs.Events.{slice_event, arrival_event, sent_events, events_behind}
-use Rattle.timeline.proofs.Drawing.{same_events}
+use Rattle.timeline.proofs.Putting.{same_events}
 use Rattle.timeline.proofs.chart.put_events.Goals as goal
 
 pub returns-in_err-put_begin : goal.returns-in_err-put_begin
