@@ -23,6 +23,7 @@ fn served<'p, const SETS: usize, const WAYS: usize, R: Threads + Wait + Abort + 
     requires sets { 0 < SETS }
     requires ways { 0 < WAYS }
     requires lines { SETS * WAYS < 2 ^ 32 }
+    requires few { SETS < 2 ^ 32 }
     requires harts { harts ≤ 8 }
 {
     let board: Board<'p, SETS, WAYS> = Board::boot(rt.alloc(), program, harts, SIZE).expect(
@@ -51,6 +52,7 @@ fn check_count<
     requires sets { 0 < SETS }
     requires ways { 0 < WAYS }
     requires lines { SETS * WAYS < 2 ^ 32 }
+    requires few { SETS < 2 ^ 32 }
     requires harts { harts ≤ 8 }
 {
     let program = program(rt.alloc(), text)?;

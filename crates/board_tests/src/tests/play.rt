@@ -128,6 +128,7 @@ pub(crate) fn check_again<const SETS: usize, const WAYS: usize, A: Allocator>(
     requires sets { 0 < SETS }
     requires ways { 0 < WAYS }
     requires lines { SETS * WAYS < 2 ^ 32 }
+    requires few { SETS < 2 ^ 32 }
 {
     let mut machine = begun_again(rt, end);
     check_entries(rt, &mut machine, &end.history, &end.entries);
