@@ -46,6 +46,7 @@ pub(crate) fn run_hub<
     size: u32,
     turns: u64,
 ) -> Result<Ended<'p, SETS, WAYS, J>, Stop<'a>>
+    requires ways { 0 < WAYS }
     requires lines { SETS * WAYS < 2 ^ 32 }
     requires few { harts ≤ most_harts }
     ensures { MatchResult result (λ end. IsEnd (geometry SETS WAYS) program.now harts size (J.tells end.journal) end.machine)

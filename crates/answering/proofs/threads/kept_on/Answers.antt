@@ -12,7 +12,7 @@ returns-in_err-hub g c = λ file holds.
 
 pub run_hub-requires-after_bounds : goal.run_hub-requires-after_bounds
 run_hub-requires-after_bounds g c κs within =
-    (omega arith, (omega arith, (c.requires.lines, few_harts c.args.code.program.now.segments c.args.run.now.harts c.args.run.now.memory c.in_ok-hub.ensures.boots)))
+    (omega arith, (omega arith, (c.requires.ways, (c.requires.lines, few_harts c.args.code.program.now.segments c.args.run.now.harts c.args.run.now.memory c.in_ok-hub.ensures.boots))))
 
 pub returns-in_err-end : goal.returns-in_err-end
 returns-in_err-end g c = λ file holds.

@@ -1,4 +1,6 @@
+use Rattle.std.proofs.Common.{◌*◌, ◌≤◌, arith}
 use Rattle.std.proofs.lemmas.Result.{err_from_is_err_and}
+use native.Mathlib.Nat.{mul-le-mul_left}
 use Rattle.machine.specs.States.{geometry}
 use Rattle.answering.proofs.ThreadedRuns.{unreadable, all_ready}
 use Rattle.answering.proofs.threads.make_ready.Goals as goal
@@ -13,3 +15,7 @@ pub returns : goal.returns
 returns g c =
     all_ready c.args.run.now c.args.code.program.now (geometry g.row.SETS g.row.WAYS) c.in_ok-hub.hub.machine c.machine.result.now c.in_ok-hub.ensures.ok.boots c.in_ok-hub.ensures.ok.machine c.machine.ensures
     c.deref.result.now c.deref.ensures.value c.in_ok-addrs.addrs.items c.in_ok-addrs.ensures.same c.in_ok-addrs.ensures.all
+
+-- a machine has a size that fits: it has no more sets than lines
+pub drop-hub-inside-requires-in_err-addrs-2-room-T-Destruct : goal.drop-hub-inside-requires-in_err-addrs-2-room-T-Destruct
+drop-hub-inside-requires-in_err-addrs-2-room-T-Destruct g c κs = let few : g.row.SETS * 1 ≤ g.row.SETS * g.row.WAYS = mul-le-mul_left g.row.SETS c.requires.ways in omega arith
