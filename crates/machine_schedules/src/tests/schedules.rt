@@ -48,6 +48,7 @@ fn outcome<const SETS: usize, const WAYS: usize>(
     requires sets { 0 < SETS }
     requires ways { 0 < WAYS }
     requires lines { SETS * WAYS < 2 ^ 32 }
+    requires few { SETS < 2 ^ 32 }
 {
     let mut machine = booted::<SETS, WAYS>(rt.alloc(), text, harts, SIZE)?;
     let mut entries = Vec::new(rt.alloc());
