@@ -20,7 +20,7 @@ use Rattle.machine.specs.States.{State, setting_of, shown}
 use Rattle.board.specs.Boards.{first_flat}
 use Rattle.schedule.specs.declared.choices.Choice.{Choice}
 use Rattle.schedule.specs.Written.{text_of, IsWritable}
-use Rattle.hub.specs.Hubs.{IsEnd}
+use Rattle.board.specs.Hubs.{IsEnd}
 use Rattle.watch.specs.Moments.{Moment}
 use Rattle.watch.proofs.Moments.{steps_by}
 use Rattle.simulate.specs.Conclusions.{IsConcluded, IsHalfConcluded}

@@ -1,13 +1,12 @@
 ghost use Rattle.std.specs.Prelude.{◌≡◌, ◌≤◌, ◌<◌, ◌*◌, ◌^◌, ◌⊎◌, MatchResult, OnErr};
 ghost use Rattle.words.specs.Limits.{most_harts};
 ghost use Rattle.machine.specs.States.{geometry};
-ghost use Rattle.hub.specs.Hubs.{IsEnd};
+ghost use Rattle.board.specs.Hubs.{IsEnd};
 ghost use Rattle.simulate.specs.declared.fault.Fault.TheVariants.{NoMemory};
 ghost use Rattle.answering.specs.declared.stop.Stop.TheVariants.{Refused, Exchanged};
 
 use crate::stop::Stop;
-use board::{Gate, Loan, STEPS, serve};
-use hub::{Ended, Hub};
+use board::{Ended, Gate, Hub, Loan, STEPS, serve};
 use loader::Program;
 use schedule::Journal;
 use std::alloc::{AllocError, Global};

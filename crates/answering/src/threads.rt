@@ -16,9 +16,8 @@ ghost use Rattle.answering.specs.declared.stop.Stop.TheVariants.{Refused};
 
 use crate::serving::run_hub;
 use crate::stop::Stop;
-use board::Code;
+use board::{Code, Ended, Hub};
 use command_line::{Cache, Run};
-use hub::{Ended, Hub};
 use loader::Program;
 use machine::Machine;
 use schedule::{History, Journal, Unkept, put_history, written_choices_are_read};

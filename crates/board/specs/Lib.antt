@@ -2,3 +2,5 @@ pub mod Loans
 pub mod Leases
 pub mod Boards
 pub mod Visits
+pub mod Hubs
+pub mod HubVisits

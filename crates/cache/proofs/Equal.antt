@@ -1,4 +1,4 @@
--- `==` of two caches decides that they are one value.
+-- `==` of two lines decides that they are one value.
 use Rattle.std.proofs.Common.{rules, ◌≡◌, Bool, List, Option, Some, None, refl, sym, ap, Decides}
 use Rattle.std.specs.Option.{option_eq}
 use Rattle.std.specs.Cmp.{booleans_Decides}

@@ -19,7 +19,7 @@ use words::{Addr, BLOCK_WORDS, Block, BlockNo, LineState, Marks, Width};
 
 /// A cache of SETS sets of WAYS ways each. The set of a block is its number modulo SETS. It keeps which sets have a line at all, so that
 /// what goes over all lines passes over the other sets.
-#[derive(Clone, Copy, Debug, PartialEq, Eq)]
+#[derive(Clone, Copy, Debug)]
 pub struct Cache<const SETS: usize, const WAYS: usize> {
     sets: [[Option<Line>; WAYS]; SETS],
     occupied: [bool; SETS],

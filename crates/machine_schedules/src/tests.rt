@@ -1,4 +1,6 @@
 mod alike;
+mod machines;
 mod play;
+mod programs;
 mod runs;
 mod schedules;

@@ -1,4 +1,5 @@
-//! Schedules, watched runs, traces and counts, each on programs of a few words.
+//! Schedules, watched runs, traces, counts and pictures, each on programs of a few words. The debugger's commands and looks: how they are spelled, what they
+//! do where a put fails or memory runs out, and what a console makes of lines.
 #![tactic(auto)]
 
 #[cfg(test)]

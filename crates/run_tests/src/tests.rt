@@ -1,7 +1,11 @@
 mod booted;
+mod cut;
+mod cut_looks;
 mod pictures;
 mod refusing;
 mod schedules;
+mod spelled;
+mod talks;
 mod tallies;
 mod timelines;
 mod traces;

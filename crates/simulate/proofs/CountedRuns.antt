@@ -14,11 +14,11 @@ use Rattle.schedule.specs.Follows.{Plays}
 use Rattle.schedule.proofs.Following.{CarryAll}
 use Rattle.watch.specs.Moments.{Moment, entries_of}
 use Rattle.watch.proofs.Moments.{steps_by}
-use Rattle.tally.specs.declared.counting.Tally.{Tally}
-use Rattle.tally.specs.Kinds.{count_at, number_of}
-use Rattle.tally.specs.Traffic.{figure_at, figure_of}
-use Rattle.tally.specs.Runs.{IsTally}
-use Rattle.tally.proofs.SameTexts.{same_table, same_csv, same_machine_table, same_machine_lines}
+use Rattle.watch.specs.declared.counting.Tally.{Tally}
+use Rattle.watch.specs.Kinds.{count_at, number_of}
+use Rattle.watch.specs.Traffic.{figure_at, figure_of}
+use Rattle.watch.specs.Runs.{IsTally}
+use Rattle.watch.proofs.SameTexts.{same_table, same_csv, same_machine_table, same_machine_lines}
 use Rattle.texts.specs.Puts.{Puts}
 use Rattle.texts.proofs.Putting.{puts-both, puts-cut}
 use Rattle.simulate.specs.Answers.{IsGiven}

@@ -7,14 +7,14 @@ use Rattle.machine.specs.States.{State}
 use Rattle.schedule.specs.declared.choices.Choice.{Choice}
 use Rattle.watch.specs.Moments.{Moment}
 use Rattle.watch.specs.Watched.{PlaysWith}
-use Rattle.tally.specs.declared.counting.Tally.{Tally}
-use Rattle.tally.specs.declared.figures.Figure.{Figure}
-use Rattle.tally.specs.declared.kinds.Kind.{Kind}
-use Rattle.tally.specs.Kinds.{count_at, number_of}
-use Rattle.tally.specs.Traffic.{figure_at, figure_of}
-use Rattle.tally.specs.Runs.{IsTally}
-use Rattle.tally.specs.CountTexts.{table, csv}
-use Rattle.tally.specs.MachineTexts.{machine_table, machine_lines}
+use Rattle.watch.specs.declared.counting.Tally.{Tally}
+use Rattle.watch.specs.declared.figures.Figure.{Figure}
+use Rattle.watch.specs.declared.kinds.Kind.{Kind}
+use Rattle.watch.specs.Kinds.{count_at, number_of}
+use Rattle.watch.specs.Traffic.{figure_at, figure_of}
+use Rattle.watch.specs.Runs.{IsTally}
+use Rattle.watch.specs.CountTexts.{table, csv}
+use Rattle.watch.specs.MachineTexts.{machine_table, machine_lines}
 
 -- the counts of so many harts, and what is told of the machine, in a form
 abbrev pub counts_text : Stats → (ℕ → Kind → ℕ) → ℕ → (Figure → ℕ) → List ℕ

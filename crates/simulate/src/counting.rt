@@ -3,8 +3,8 @@ ghost use Rattle.std.specs.Prelude.{◌≤◌, IfOk};
 ghost use Rattle.words.specs.Limits.{most_harts};
 ghost use Rattle.machine.specs.States.{geometry};
 ghost use Rattle.texts.specs.Puts.{Puts};
-ghost use Rattle.tally.specs.Kinds.{count_at};
-ghost use Rattle.tally.specs.Traffic.{figure_at};
+ghost use Rattle.watch.specs.Kinds.{count_at};
+ghost use Rattle.watch.specs.Traffic.{figure_at};
 ghost use Rattle.command_line.specs.declared.request.Stats.TheVariants.{Table, Csv};
 ghost use Rattle.simulate.specs.Counted.{counts_part, counts_text, IsCountedIn};
 
@@ -12,7 +12,7 @@ use command_line::Stats;
 use machine::{Machine, Progress};
 use schedule::{Choice, follow};
 use std::alloc::AllocError;
-use tally::{Tally, put_csv, put_machine_csv, put_machine_table, put_table, tally_run};
+use watch::{Tally, put_csv, put_machine_csv, put_machine_table, put_table, tally_run};
 use words::{Sink, SinkFault};
 
 /// Makes the steps of a run, and counts what they do if a form is asked for. Progress is told on the way, and ends with them. It fails only if

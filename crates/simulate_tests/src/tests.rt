@@ -6,4 +6,5 @@ mod drawing;
 mod memory;
 mod paper;
 mod running;
+mod threads;
 mod tracing;

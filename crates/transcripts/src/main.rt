@@ -2,10 +2,15 @@
 //! gate compares that with what is expected. The last list runs the examples, as the docs do, and is shown as on a terminal.
 #![tactic(auto)]
 
-use std::io;
-use transcript::{Telling, play};
+mod answers;
+mod echo;
+mod lists;
 
-static LISTS: [&str; 13] = [
+use answers::Telling;
+use lists::play;
+use std::io;
+
+static LISTS: [&str; 15] = [
     "running",
     "sources",
     "schedules",
@@ -14,6 +19,8 @@ static LISTS: [&str; 13] = [
     "drawing",
     "debugger",
     "looks",
+    "sharing",
+    "traps",
     "instructions",
     "assembling",
     "faults",

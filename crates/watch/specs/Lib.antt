@@ -1,3 +1,8 @@
 pub mod Moments
 pub mod Watched
 pub mod Traces
+pub mod Kinds
+pub mod Traffic
+pub mod Runs
+pub mod CountTexts
+pub mod MachineTexts

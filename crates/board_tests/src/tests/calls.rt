@@ -1,10 +1,9 @@
 //! The calls that workers make of a board and of their gate, in order.
 
-use super::play::{TEN, booted};
+use super::play::{TEN, booted, zero};
 use board::{Board, Desk, End, Gate, Lease, Refusal, serve, work};
 use elf_samples::program;
 use loader::Program;
-use machine_play::zero;
 use std::alloc::AllocError;
 use std::cell::RefCell;
 use std::process::Abort;

@@ -3,11 +3,10 @@
 ghost use Rattle.std.specs.Prelude.{◌≤◌, ◌<◌, ◌*◌, ◌^◌};
 
 use super::gates::Runs;
-use super::play::{WAITS, check_again};
+use super::play::{SIZE, WAITS, check_again, peek, place};
 use board::{Board, End, Finished, serve};
 use elf_samples::{COUNTS, program};
 use loader::Program;
-use machine_play::{SIZE, peek, place};
 use std::process::Abort;
 use std::sync::{Mutex, Wait};
 use std::test::Fail;

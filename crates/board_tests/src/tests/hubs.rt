@@ -1,11 +1,9 @@
 //! Harts in threads over one hub, and its history, played again.
 
-use super::play::WAITS;
-use board::{Code, End, Gate, Loan, Refusal, serve};
+use super::play::{SIZE, WAITS};
+use board::{Code, End, Ended, Gate, Hub, Loan, Refusal, serve};
 use elf_samples::program;
-use hub::{Ended, Hub};
 use machine::{Machine, Silent};
-use machine_play::SIZE;
 use schedule::{Choice, History, Unkept, follow, put_history, read};
 use std::alloc::{AllocError, Global};
 use std::process::Abort;

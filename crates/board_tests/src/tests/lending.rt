@@ -1,9 +1,8 @@
 //! Harts that are lent again, in place of a lease that isn't needed any more.
 
-use super::play::{Small, TEN, booted, check_again, make};
+use super::play::{Small, TEN, booted, check_again, make, one, zero};
 use board::Lease;
 use elf_samples::program;
-use machine_play::{one, zero};
 use std::process::Abort;
 use std::test::Fail;
 use words::{HartId, Step};

@@ -3,12 +3,11 @@
 ghost use Rattle.std.specs.Prelude.{◌≤◌, ◌<◌};
 
 use super::gates::Runs;
-use super::play::check_again;
+use super::play::{SIZE, check_again, peek, place, zero};
 use board::{Board, End, Finished, Lease, Refusal, work};
 use elf_samples::{COMMITS, program};
 use linked_list_allocator::LocalHeap;
 use loader::Program;
-use machine_play::{SIZE, peek, place, zero};
 use std::alloc::AllocError;
 use std::process::Abort;
 use std::sync::{Mutex, Wait};

@@ -5,10 +5,39 @@ ghost use Rattle.std.specs.Prelude.{◌≤◌, ◌<◌, ◌*◌, ◌^◌};
 use board::{Board, Finished};
 use loader::Program;
 use machine::Machine;
-use machine_play::{SIZE, peek, regs};
 use std::alloc::Allocator;
 use std::process::Abort;
-use words::{Addr, Entry, HartId, Step};
+use words::{Addr, Entry, HartId, Regs, Status, Step};
+
+/// How many bytes of memory the machines here have.
+pub(crate) const SIZE: u32 = 131_072;
+
+pub(crate) fn zero() -> HartId {
+    HartId::new(0)
+}
+
+pub(crate) fn one() -> HartId {
+    HartId::new(1)
+}
+
+/// The word that the programs access.
+pub(crate) fn place() -> Addr {
+    Addr::new(0x2000)
+}
+
+pub(crate) fn peek<const SETS: usize, const WAYS: usize>(
+    machine: &Machine<SETS, WAYS>,
+    addr: Addr,
+) -> Option<u32> {
+    machine.peek(addr)
+}
+
+pub(crate) fn regs<const SETS: usize, const WAYS: usize>(
+    machine: &Machine<SETS, WAYS>,
+    hart: HartId,
+) -> Option<(Regs, Addr, Status)> {
+    machine.regs(hart)
+}
 
 /// Adds 1 to the word at 0x2000 in a transaction, and exits with 0. After each abort a hart waits before it tries again, longer than the time
 /// before, and each for a time of its own.

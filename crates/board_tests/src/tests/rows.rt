@@ -1,10 +1,9 @@
 //! Leases that are out at once, and leases that come back with no step.
 
 use super::gates::{Meeting, Runs};
-use super::play::{Small, TEN, booted};
+use super::play::{Small, TEN, booted, one, zero};
 use board::{End, serve};
 use elf_samples::program;
-use machine_play::{one, zero};
 use std::process::Abort;
 use std::sync::Mutex;
 use std::test::Fail;

@@ -1,10 +1,9 @@
 //! A lease whose hart has changed while it was out, and one of another program.
 
-use super::play::{Small, booted, check_again, make};
+use super::play::{Small, booted, check_again, make, one, zero};
 use board::{Lease, Refusal, is_hart};
 use elf_samples::{COMMITS, program};
 use loader::Program;
-use machine_play::{one, zero};
 use std::process::Abort;
 use std::test::Fail;
 use words::{HartId, Step};

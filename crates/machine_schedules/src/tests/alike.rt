@@ -1,6 +1,6 @@
+use super::machines::{peek, raw, regs, tx, view};
 use flat::Engine;
 use machine::Machine;
-use machine_play::{peek, raw, regs, tx, view};
 use reference::Machine as Checker;
 use std::process::Abort;
 use words::{Addr, HartId};

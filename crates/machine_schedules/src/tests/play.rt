@@ -1,9 +1,11 @@
 //! Schedules that a simulator wouldn't choose.
 
+use super::machines::{
+    all_stopped, entry, harts, has_line, make, message, next_message, next_turn,
+};
 use elf_samples::elf_file;
 use loader::read_elf;
 use machine::Machine;
-use machine_play::{all_stopped, entry, harts, line, make, message, next_message, next_turn};
 use reference::Machine as Checker;
 use std::alloc::{AllocError, Global};
 use std::test::Fail;
@@ -52,7 +54,7 @@ fn evict_all<const SETS: usize, const WAYS: usize>(
         if let Some(hart) = HartId::try_new(number) {
             for k in 0..blocks.min(1024) {
                 let block = BlockNo::new(FIRST_BLOCK + k);
-                if line(machine, hart, block).is_some() {
+                if has_line(machine, hart, block) {
                     make(machine, Step::Evict(hart, block), entries)?;
                 }
             }

@@ -1,12 +1,13 @@
 //! Lists of steps, cut and not, and with want of memory.
 
 use super::alike::check_alike;
+use super::machines::{SIZE, booted, make, next_turn, peek};
 use super::play::checked;
+use super::programs::{one, place, zero};
 use elf_samples::{COMMITS, COUNTS, elf_file};
 use flat::BootFault;
 use loader::{Program, read_elf};
 use machine::Machine;
-use machine_play::{SIZE, booted, make, next_turn, one, peek, place, zero};
 use std::alloc::{AllocError, Global};
 use std::process::Abort;
 use std::test::Fail;

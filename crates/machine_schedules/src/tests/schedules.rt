@@ -1,11 +1,12 @@
 ghost use Rattle.std.specs.Prelude.{◌<◌, ◌*◌, ◌^◌};
 
 use super::alike::check_alike;
+use super::machines::{SIZE, booted};
 use super::play::{Schedule, checked, play};
+use super::programs::{SPILLS, STORES_113, STORES_114};
 use elf_samples::{ABORTS, ADDS, COMMITS, COUNTS};
 use flat::Engine;
 use machine::Machine;
-use machine_play::{SIZE, SPILLS, STORES_113, STORES_114, booted};
 use reference::Machine as Checker;
 use std::process::Abort;
 use std::test::Fail;

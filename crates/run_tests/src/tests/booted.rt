@@ -1,7 +1,48 @@
+//! Programs, and the machine as it begins with them.
+
+ghost use Rattle.std.specs.Prelude.{◌<◌, ◌*◌, ◌^◌};
+
 use elf_samples::elf_file;
 use loader::read_elf;
 use machine::Machine;
+use std::alloc::Global;
 use std::process::Abort;
+use std::test::Fail;
+
+/// Loads the word at 0x2000 and stores it there again, and exits with 0.
+pub(crate) const LOADS_AND_STORES: [u32; 6] = [
+    0x0000_22b7,
+    0x0002_a303,
+    0x0062_a023,
+    0x05d0_0893,
+    0x0000_0513,
+    0x0000_0073,
+];
+
+/// Stores 7 to 0x2000, and exits with 0.
+pub(crate) const STORES_ONCE: [u32; 6] = [
+    0x0000_22b7,
+    0x0070_0313,
+    0x0062_a023,
+    0x05d0_0893,
+    0x0000_0513,
+    0x0000_0073,
+];
+
+/// A machine of so many harts and bytes of memory at the start of a program.
+pub(crate) fn booted_in<const SETS: usize, const WAYS: usize>(
+    alloc: Global,
+    text: &[u32],
+    harts: u32,
+    size: u32,
+) -> Result<Machine<SETS, WAYS>, Fail>
+    requires sets { 0 < SETS }
+    requires ways { 0 < WAYS }
+    requires lines { SETS * WAYS < 2 ^ 32 }
+{
+    let file = elf_file(alloc, text)?;
+    Ok(Machine::boot(alloc, read_elf(alloc, &file)?, harts, size)?)
+}
 
 /// A machine of so many harts at the start of a program.
 pub(crate) fn booted(rt: &(impl Abort + AllocGlobal), text: &[u32], harts: u32) -> Machine<16, 4> {

@@ -3,7 +3,7 @@ use super::booted::booted;
 use elf_samples::{ABORTS, COMMITS};
 use machine::Silent;
 use std::process::Abort;
-use tally::{Kind, Tally, tally_run};
+use watch::{Kind, Tally, tally_run};
 use words::HartId;
 
 fn counted(rt: &(impl Abort + AllocGlobal), text: &[u32], harts: u32) -> Tally {

@@ -11,7 +11,8 @@ pub(crate) struct Paper {
     pub(crate) bytes: Vec<u8>,
     /// How many puts failed.
     pub(crate) failed: u64,
-    left: u32,
+    /// How many puts are taken whole from now on.
+    pub(crate) left: u32,
     flushes: bool,
 }
 

@@ -1,7 +1,7 @@
 use Rattle.std.proofs.Common.{sym, subst}
 use Rattle.command_line.specs.declared.request.Stats.{Stats}
-use Rattle.tally.specs.Kinds.{count_at}
-use Rattle.tally.specs.Traffic.{figure_at}
+use Rattle.watch.specs.Kinds.{count_at}
+use Rattle.watch.specs.Traffic.{figure_at}
 use Rattle.texts.specs.Puts.{Puts}
 use Rattle.simulate.specs.Counted.{counts_text}
 use Rattle.simulate.proofs.counting.put_form.Goals as goal

@@ -1,6 +1,6 @@
 use Rattle.texts.proofs.Putting.{puts-both, puts-cut}
-use Rattle.tally.specs.Traffic.{figure_at}
-use Rattle.tally.specs.MachineTexts.{machine_lines}
+use Rattle.watch.specs.Traffic.{figure_at}
+use Rattle.watch.specs.MachineTexts.{machine_lines}
 use Rattle.simulate.proofs.counting.put_lines.Goals as goal
 
 pub returns-in_err-put_csv : goal.returns-in_err-put_csv

@@ -1,6 +1,6 @@
 use Rattle.texts.proofs.Putting.{puts-both, puts-cut}
-use Rattle.tally.specs.Traffic.{figure_at}
-use Rattle.tally.specs.MachineTexts.{machine_table}
+use Rattle.watch.specs.Traffic.{figure_at}
+use Rattle.watch.specs.MachineTexts.{machine_table}
 use Rattle.simulate.proofs.counting.put_tables.Goals as goal
 
 pub returns-in_err-put_table : goal.returns-in_err-put_table

@@ -1,5 +1,0 @@
-//! The debugger's commands and looks: how they are spelled, what they do where a put fails or memory runs out, and what a console makes of lines.
-#![tactic(auto)]
-
-#[cfg(test)]
-mod tests;

@@ -1,4 +1,0 @@
-mod cut;
-mod cut_looks;
-mod spelled;
-mod talks;

@@ -1,6 +1,0 @@
-use Rattle.machine.specs.States.{geometry}
-use Rattle.hub.specs.Visits.{IsVisitOf}
-use Rattle.hub.proofs.hub.Hub.visit.Given as goal
-
-abbrev pub invariant-loop-made : goal.invariant-loop-made
-invariant-loop-made g l = IsVisitOf (geometry g.row.SETS g.row.WAYS) g.J.Journal.tells l.id l.made l.fn.self l.self

@@ -1,2 +1,0 @@
-pub mod Hubs
-pub mod Visits

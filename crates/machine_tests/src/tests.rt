@@ -1,6 +1,0 @@
-mod checks;
-mod moves;
-mod rows;
-mod script;
-mod sharing;
-mod traps;

@@ -1,0 +1,300 @@
+//! Each command with a put that fails, and with memory that runs out.
+use super::booted::{LOADS_AND_STORES, booted_in};
+use commands::{Command, DebugFault, command_of};
+use debugger::{Flow, Session};
+use elf_samples::{Breaking, COMMITS, EXIT};
+use std::alloc::Global;
+use std::process::Abort;
+use std::test::Fail;
+use words::Taken;
+
+/// What a line spells.
+fn read(line: &str) -> Result<Command, Fail> {
+    Ok(command_of(line).ok_or("a command")?)
+}
+
+/// Does a command, and once more where memory ran out.
+fn do_command(
+    rt: &impl Abort,
+    session: &mut Session<16, 4>,
+    command: Command,
+    sink: &mut Taken,
+    line: &str,
+) {
+    let mut answer = session.command(command, sink);
+    if answer == Err(DebugFault::NoMemory) {
+        assert!(rt; sink.bytes.is_empty(), "at {line}");
+        answer = session.command(command, sink);
+    }
+    assert_eq!(rt; answer, Ok(Flow::Go), "at {line}");
+}
+
+/// That a command, done once more where memory ran out, tells these lines.
+fn check_done(
+    rt: &impl Abort,
+    alloc: Global,
+    session: &mut Session<16, 4>,
+    line: &str,
+    told: &str,
+) -> Result<(), Fail> {
+    let command = read(line)?;
+    let mut sink = Taken {
+        bytes: Vec::with_capacity(alloc, 256)?,
+        failed: 0,
+    };
+    do_command(rt, session, command, &mut sink, line);
+    assert_eq!(rt; sink.bytes.as_slice(), told.as_bytes(), "at {line}");
+    Ok(())
+}
+
+/// Does a command that goes on or comes to the limit of its turns.
+fn go(
+    rt: &impl Abort,
+    alloc: Global,
+    session: &mut Session<16, 4>,
+    line: &str,
+) -> Result<(), Fail> {
+    let command = read(line)?;
+    let mut sink = Breaking::new(alloc, 20);
+    let answer = session.command(command, &mut sink);
+    if answer == Err(DebugFault::NoMemory) {
+        Err("memory ran out")?;
+    }
+    assert!(rt;
+        answer == Ok(Flow::Go) || answer == Err(DebugFault::Limit),
+        "at {line}"
+    );
+    Ok(())
+}
+
+/// The session of a program, after a command.
+fn after(
+    rt: &impl Abort,
+    alloc: Global,
+    text: &[u32],
+    harts: u32,
+    line: &str,
+) -> Result<Session<16, 4>, Fail> {
+    let mut session = Session::new(booted_in(alloc, text, harts, 131_072)?);
+    go(rt, alloc, &mut session, line)?;
+    Ok(session)
+}
+
+/// That a sink has failed once if its command was cut, and then has a beginning of what the whole tells.
+fn check_sink(rt: &impl Abort, sink: &Breaking, cut: bool, told: &str, line: &str) {
+    let bytes = sink.bytes.as_slice();
+    assert_eq!(rt; sink.failed == 1, cut, "at {line}");
+    assert!(rt; told.as_bytes().starts_with(bytes), "at {line}");
+    assert_eq!(rt; bytes.len() < told.len(), cut, "at {line}");
+}
+
+/// Whether a put failed, the last of so many that the sink takes: then the fault is told, and a beginning was taken.
+fn is_cut(
+    rt: &impl Abort,
+    alloc: Global,
+    session: &mut Session<16, 4>,
+    line: &str,
+    told: &str,
+    left: u32,
+) -> Result<bool, Fail> {
+    let command = read(line)?;
+    let mut sink = Breaking::new(alloc, left);
+    let answer = session.command(command, &mut sink);
+    let cut = answer == Err(DebugFault::Device);
+    assert!(rt; cut || answer == Ok(Flow::Go), "at {line}");
+    check_sink(rt, &sink, cut, told, line);
+    Ok(cut)
+}
+
+/// A command in a session of a program: what is typed before it, the command, and what is typed after it; what these two tell.
+#[derive(Clone, Copy)]
+struct Case<'a> {
+    text: &'a [u32],
+    harts: u32,
+    before: &'a str,
+    line: &'a str,
+    then: &'a str,
+    told: &'a str,
+    shown: &'a str,
+}
+
+/// Whether the command was cut in a session, of whose puts so many are taken. What is typed after it is done all the same.
+fn is_cut_then_done(
+    rt: &(impl Abort + AllocGlobal),
+    session: &mut Session<16, 4>,
+    case: &Case<'_>,
+    left: u32,
+) -> Result<bool, Fail> {
+    let cut = is_cut(rt, rt.alloc(), session, case.line, case.told, left)?;
+    check_done(rt, rt.alloc(), session, case.then, case.shown)?;
+    Ok(cut)
+}
+
+/// Whether the command is cut where so many puts are taken.
+fn is_cut_by(rt: &(impl Abort + AllocGlobal), case: &Case<'_>, left: u32) -> Result<bool, Fail> {
+    let mut session = after(rt, rt.alloc(), case.text, case.harts, case.before)?;
+    is_cut_then_done(rt, &mut session, case, left)
+}
+
+/// That a session tells the whole of the command, and of what is typed after it.
+fn check_both(
+    rt: &(impl Abort + AllocGlobal),
+    session: &mut Session<16, 4>,
+    case: &Case<'_>,
+) -> Result<(), Fail> {
+    check_done(rt, rt.alloc(), session, case.line, case.told)?;
+    check_done(rt, rt.alloc(), session, case.then, case.shown)
+}
+
+/// That each put of the command is refused in turn, until so many are taken that none is.
+fn check_cuts(rt: &(impl Abort + AllocGlobal), case: &Case<'_>) -> Result<(), Fail> {
+    let line = case.line;
+    let mut whole = false;
+    for left in 0..20 {
+        whole = !is_cut_by(rt, case, left)?;
+        assert!(rt; left > 0 || !whole, "at {line}");
+    }
+    assert!(rt; whole, "at {line}");
+    Ok(())
+}
+
+/// A command in a session: what is typed before it, the command, and what is typed after it; what these two tell. Each put of the command is
+/// refused in turn, and it is done all the same. For `rt try --test --fail-alloc N`: if memory runs out, it is done again.
+fn check(
+    rt: &(impl Abort + AllocGlobal),
+    text: &[u32],
+    harts: u32,
+    typed: [&str; 3],
+    told: &str,
+    shown: &str,
+) -> Result<(), Fail> {
+    let [before, line, then] = typed;
+    let case = Case {
+        text,
+        harts,
+        before,
+        line,
+        then,
+        told,
+        shown,
+    };
+    check_cuts(rt, &case)?;
+    let mut session = after(rt, rt.alloc(), text, harts, before)?;
+    check_both(rt, &mut session, &case)
+}
+
+#[test]
+fn a_command_that_is_cut_is_done(rt: HostRuntime) -> Result<(), Fail> {
+    check(
+        &rt,
+        &EXIT,
+        1,
+        ["#", "step", "step"],
+        "0 0x00001000 05d00893 addi a7, zero, 93 | a7=0x0000005d\n",
+        "0 0x00001004 00000513 addi a0, zero, 0 | a0=0x00000000\n",
+    )?;
+    check(
+        &rt,
+        &EXIT,
+        1,
+        ["#", "run", "harts"],
+        "stopped\n",
+        "0 pc=0x0000100c exit 0\n",
+    )?;
+    check(
+        &rt,
+        &EXIT,
+        1,
+        ["break 0x1008", "run", "harts"],
+        "break hart 0 at 0x00001008\n",
+        "0 pc=0x00001008 running\n",
+    )?;
+    check(
+        &rt,
+        &EXIT,
+        1,
+        ["#", "break 0x1008", "run 2"],
+        "break set 0x00001008\n",
+        "break hart 0 at 0x00001008\n",
+    )?;
+    check(
+        &rt,
+        &EXIT,
+        1,
+        ["break 0x1008", "break 0x1008", "run"],
+        "break cleared 0x00001008\n",
+        "stopped\n",
+    )?;
+    Ok(())
+}
+
+#[test]
+fn a_step_by_hand_that_is_cut_is_done(rt: HostRuntime) -> Result<(), Fail> {
+    check(
+        &rt,
+        &LOADS_AND_STORES,
+        1,
+        ["core 0", "core 0", "messages"],
+        "sent get 0 0x00002000 read stamp -\n",
+        "get 0 0x00002000 read stamp -\n",
+    )?;
+    check(
+        &rt,
+        &LOADS_AND_STORES,
+        1,
+        ["run 2", "core 0", "messages"],
+        "nothing\n",
+        "get 0 0x00002000 read stamp -\n",
+    )?;
+    // The turns are lui of each hart, hart 0's request with its three messages, its load, and hart 1's request.
+    check(
+        &rt,
+        &LOADS_AND_STORES,
+        2,
+        ["run 8", "deliver get 1 0x2000", "dir 0x2000"],
+        "sent grant 1 0x00002000 S expect 0 content 0x00000000\nsent forward 0 0x00002000 read for 1 stamp -\n",
+        "owned 0 sharers - busy 1 S\n",
+    )?;
+    check(
+        &rt,
+        &LOADS_AND_STORES,
+        1,
+        ["run 4", "deliver done 0 0x2000", "dirs"],
+        "done\n",
+        "0x00002000 owned 0 sharers - busy -\n",
+    )?;
+    check(
+        &rt,
+        &LOADS_AND_STORES,
+        1,
+        ["run 6", "evict 0 0x2000", "line 0 0x2000"],
+        "sent put 0 0x00002000 unmarked content 0x00000000\n",
+        "none\n",
+    )?;
+    check(
+        &rt,
+        &COMMITS,
+        1,
+        ["run 8", "evict 0 0x2000", "tx 0"],
+        "0 spills block 0x00002000\n",
+        "depth 1 records 1 stamp 0.0 overflow\n",
+    )?;
+    check(
+        &rt,
+        &COMMITS,
+        1,
+        ["run 8", "log 0x1f000", "dis 0x1004"],
+        "0x0001f000 = 0x00002000\n",
+        "0x00001004: 000022b7  lui t0, 0x2\n",
+    )?;
+    Ok(())
+}
+
+#[test]
+fn what_tells_nothing_meets_no_fault(rt: HostRuntime) -> Result<(), Fail> {
+    let mut session: Session<16, 4> = Session::new(booted_in(rt.alloc(), &EXIT, 1, 131_072)?);
+    let mut sink = Breaking::new(rt.alloc(), 0);
+    assert_eq!(rt; session.command(Command::Quit, &mut sink), Ok(Flow::Quit));
+    assert_eq!(rt; session.command(Command::Comment, &mut sink), Ok(Flow::Go));
+    Ok(())
+}

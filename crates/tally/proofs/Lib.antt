@@ -1,8 +1,0 @@
-mod Capping
-mod Few
-mod Plain
-mod Running
-mod Sending
-mod Tallying
-mod Zeros
-pub mod SameTexts

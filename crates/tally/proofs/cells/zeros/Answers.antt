@@ -1,5 +1,0 @@
-use Rattle.tally.proofs.Zeros.{always_zero}
-use Rattle.tally.proofs.cells.zeros.Goals as goal
-
-pub returns : goal.returns
-returns c = λ p. always_zero 80 p

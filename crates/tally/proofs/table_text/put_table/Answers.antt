@@ -1,9 +1,0 @@
-use Rattle.std.proofs.Common.{ap}
-use Rattle.std.specs.List.{flat_map}
-use Rattle.texts.proofs.Putting.{puts-same}
-use Rattle.tally.specs.Kinds.{count_at}
-use Rattle.tally.specs.CountTexts.{row_text}
-use Rattle.tally.proofs.table_text.put_table.Goals as goal
-
-pub returns : goal.returns
-returns g c = puts-same (ap (flat_map (row_text (count_at c.args.counts.now) c.args.harts)) c.rows.ensures) c.put_rows.ensures

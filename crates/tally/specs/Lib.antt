@@ -1,5 +1,0 @@
-pub mod Kinds
-pub mod Traffic
-pub mod Runs
-pub mod CountTexts
-pub mod MachineTexts

@@ -1,0 +1,18 @@
+use Rattle.std.proofs.Common.{Ok, ap}
+use Rattle.texts.proofs.Putting.{puts-nothing, puts-same, puts-cut_first, puts-one_first}
+use Rattle.watch.specs.Kinds.{count_at}
+use Rattle.watch.specs.CountTexts.{cell}
+use Rattle.watch.proofs.table_text.put_cells.Goals as goal
+
+pub loop-number-init : goal.loop-number-init
+loop-number-init g c = puts-nothing _ _
+
+pub returns-in_err-put_cell : goal.returns-in_err-put_cell
+returns-in_err-put_cell g c =
+    let text = cell (count_at c.args.counts.now) c.args.row in
+    puts-cut_first text c.loop-number-test.true c.loop-number.invariant c.in_err-put_cell.was (puts-same (ap text c.new.ensures) c.put_cell.ensures) c.from_residual.ensures.0
+
+pub loop-number-preserved : goal.loop-number-preserved
+loop-number-preserved g c =
+    let text = cell (count_at c.args.counts.now) c.args.row in
+    puts-one_first text c.loop-number.invariant (puts-same {r = Ok tt} (ap text c.new.ensures) c.in_ok-put_cell.ensures)

@@ -1,0 +1,85 @@
+-- What the steps of a run and its messages count as, and how much was in flight and in use.
+use Rattle.std.specs.Prelude.{ℕ, ◌+◌, ◌==◌, ◌&&◌, min, max, nat_le, Bool, false, List, [], ◌∷◌, length, count_by, is_some, Option, Some, None, get_or}
+use Rattle.words.specs.declared.entry.Step.{Step}
+use Rattle.words.specs.declared.entry.Step.TheVariants.{Core, Evict, Deliver}
+use Rattle.network.specs.declared.net.Flight.{Flight}
+use Rattle.protocol.specs.Messages.{Message, shown}
+use Rattle.schedule.specs.declared.choices.Sort.TheVariants.{Get, Put, Done, Grant, Forward, PutAck, Ack, Nack}
+use Rattle.schedule.specs.Steps.{name_of}
+use Rattle.watch.specs.Moments.{Moment}
+use Rattle.watch.specs.Kinds.{one_if}
+use Rattle.watch.specs.declared.figures.Sum.{Sum}
+use Rattle.watch.specs.declared.figures.Figure.{Figure}
+use Rattle.watch.specs.declared.figures.Sum.TheVariants.{Cores, Evictions, Deliveries, Sent}
+use Rattle.watch.specs.declared.figures.Figure.TheVariants as figure
+use Rattle.watch.specs.declared.traffic.Traffic.{Traffic}
+
+-- the place of a sum
+abbrev pub place_of : Sum → ℕ
+place_of Cores = 0
+place_of Evictions = 1
+place_of Deliveries = 2
+place_of (Sent Get) = 3
+place_of (Sent Put) = 4
+place_of (Sent Done) = 5
+place_of (Sent Grant) = 6
+place_of (Sent Forward) = 7
+place_of (Sent PutAck) = 8
+place_of (Sent Ack) = 9
+place_of (Sent Nack) = 10
+
+abbrev pub is_same : Sum → Sum → Bool
+is_same s t = place_of s == place_of t
+
+-- what a step counts as, enabled or not; and a message
+abbrev pub sum_of_step : Step → Sum
+sum_of_step (Core i) = Cores
+sum_of_step (Evict i b) = Evictions
+sum_of_step (Deliver key) = Deliveries
+
+abbrev pub sum_of_message : Message → Sum
+sum_of_message m = Sent (name_of m).sort
+
+-- whether a message that counts as this was sent when so many had been before: it is in flight, with a number that none had then
+abbrev pub was_sent : ℕ → Sum → Option Flight → Bool
+was_sent before s None = false
+was_sent before s (Some flight) = nat_le before flight.number && is_same s (sum_of_message (shown flight.message))
+
+-- how often a moment counts as this: its step, and the messages that were sent in it
+abbrev pub number_at : Sum → Moment → ℕ
+number_at s m = one_if (is_same s (sum_of_step m.step)) + count_by (was_sent m.sent s) m.after.flights
+
+abbrev pub total : Sum → List Moment → ℕ
+total s [] = 0
+total s (m ∷ ms) = number_at s m + total s ms
+
+-- how many messages were in flight behind a step, and how many entries of the directory in use
+abbrev pub in_flight : Moment → ℕ
+in_flight m = count_by is_some m.after.flights
+
+abbrev pub in_use : Moment → ℕ
+in_use m = length m.after.directory.kept
+
+-- the greatest of some moments
+abbrev pub most : (Moment → ℕ) → List Moment → ℕ
+most level [] = 0
+most level (m ∷ ms) = max (level m) (most level ms)
+
+-- a number, up to the greatest u64
+abbrev pub capped : ℕ → ℕ
+capped n = min n 18446744073709551615
+
+-- what is told of some moments
+abbrev pub figure_of : List Moment → Figure → ℕ
+figure_of ms (figure.Sum s) = capped (total s ms)
+figure_of ms figure.MostInFlight = most in_flight ms
+figure_of ms figure.MostInUse = most in_use ms
+
+-- a sum, of those that stand by their places; and what is told in all
+abbrev pub sum_at : Traffic → Sum → ℕ
+sum_at t s = get_or t.sums (place_of s) 0
+
+abbrev pub figure_at : Traffic → Figure → ℕ
+figure_at t (figure.Sum s) = sum_at t s
+figure_at t figure.MostInFlight = t.most_in_flight
+figure_at t figure.MostInUse = t.most_in_use

@@ -1,0 +1,77 @@
+ghost use Rattle.std.specs.Prelude.{◌≡◌, ◌<◌, ◌≤◌, ◌+◌, ◌*◌, ℕ, get_or, slice_index};
+ghost use Rattle.words.specs.Limits.{most_harts};
+ghost use Rattle.watch.specs.Kinds.{place_of, count_at, is_count, one_if};
+ghost use Rattle.watch.specs.Traffic.{capped};
+ghost use Rattle.watch.specs.declared.kinds.Kind.{Kind};
+ghost use Rattle.watch.specs.declared.kinds.Kind.TheVariants.{Retired};
+
+use crate::kinds::Kind;
+use std::marker::Model;
+use words::{HARTS, HartId};
+
+/// How many kinds there are.
+const KINDS: usize = 10;
+
+/// The counts of all harts.
+#[derive(Clone, Copy)]
+pub struct Counts {
+    counts: [u64; HARTS * KINDS],
+}
+
+impl Model for Counts {
+    ghost use Rattle.std.specs.Prelude.{ℕ, List};
+
+    ghost Value = { List ℕ };
+
+    ghost view = { λ c. c.counts };
+
+    ghost inverse = { λ xs. record { counts = xs } };
+}
+
+fn place(hart: HartId, kind: Kind) -> usize
+    ensures value { result ≡ place_of hart kind }
+    ensures bound { result < 80 }
+{
+    KINDS * hart.index() + kind.index()
+}
+
+fn zeros() -> [u64; HARTS * KINDS]
+    ensures { (p : ℕ) → get_or result p 0 ≡ 0 }
+{
+    [0; HARTS * KINDS]
+}
+
+impl Counts {
+    /// All counts are 0.
+    pub fn new() -> Self
+        ensures { (h : ℕ) (k : Kind) → count_at result h k ≡ 0 }
+    {
+        Counts { counts: zeros() }
+    }
+
+    /// A hart's count of a kind.
+    pub fn count(&self, hart: HartId, kind: Kind) -> u64
+        ensures { result ≡ count_at self.now hart kind }
+    {
+        self.counts[place(hart, kind)]
+    }
+
+    /// Counts so many more of a kind, up to the greatest u64.
+    pub(crate) fn add(&mut self, hart: HartId, kind: Kind, number: u64)
+        ensures { (h : ℕ) (k : Kind) → count_at self.old h k ≤ 18446744073709551615 →
+            count_at self.new h k ≡ capped (count_at self.old h k + number * one_if (is_count h k (hart, kind))) }
+    {
+        let place = place(hart, kind);
+        self.counts[place] = self.counts[place].saturating_add(number);
+    }
+
+    /// Counts the words that each hart retired.
+    pub(crate) fn add_retired(&mut self, retired: &[u32; HARTS])
+        ensures { (h : ℕ) (k : Kind) → count_at self.old h k ≤ 18446744073709551615 →
+            count_at self.new h k ≡ capped (count_at self.old h k + slice_index retired.now h * one_if (is_count h k (h, Retired))) }
+    {
+        for i in 0..HARTS {
+            self.add(HartId::new(i as u8), Kind::Retired, u64::from(retired[i]));
+        }
+    }
+}

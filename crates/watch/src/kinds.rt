@@ -1,0 +1,62 @@
+ghost use Rattle.std.specs.Prelude.{◌≡◌, ◌<◌};
+ghost use Rattle.watch.specs.Kinds.{index_of, kind_of};
+
+use words::AbortCause;
+
+/// What is counted of a hart.
+#[derive(Clone, Copy, Debug, PartialEq, Eq)]
+pub enum Kind {
+    /// Words retired.
+    Retired,
+    /// TBEGIN retired, nested ones too.
+    Begun,
+    /// TCOMMIT retired, nested ones too.
+    Committed,
+    /// Aborts by TABORT.
+    Asked,
+    /// Aborts for a conflict.
+    Conflicted,
+    /// Aborts for a full undo log.
+    LogFull,
+    /// Aborts by a trap.
+    Trapped,
+    /// Requests of others that the hart refused.
+    Refused,
+    /// Requests of the hart that others refused.
+    WasRefused,
+    /// Spills.
+    Spilled,
+}
+
+impl Kind {
+    /// Its number, from 0.
+    pub(crate) fn index(self) -> usize
+        ensures value { result ≡ index_of self }
+        ensures bound { result < 10 }
+    {
+        match self {
+            Kind::Retired => 0,
+            Kind::Begun => 1,
+            Kind::Committed => 2,
+            Kind::Asked => 3,
+            Kind::Conflicted => 4,
+            Kind::LogFull => 5,
+            Kind::Trapped => 6,
+            Kind::Refused => 7,
+            Kind::WasRefused => 8,
+            Kind::Spilled => 9,
+        }
+    }
+
+    /// What an abort counts as.
+    pub(crate) fn of_abort(cause: AbortCause) -> Kind
+        ensures { result ≡ kind_of cause }
+    {
+        match cause {
+            AbortCause::Asked => Kind::Asked,
+            AbortCause::Conflict => Kind::Conflicted,
+            AbortCause::LogFull => Kind::LogFull,
+            AbortCause::Trapped(..) => Kind::Trapped,
+        }
+    }
+}

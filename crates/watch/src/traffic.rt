@@ -1,0 +1,120 @@
+ghost use Rattle.std.specs.Prelude.{◌≡◌, ◌≤◌, ◌<◌, ◌+◌, ◌*◌, ℕ, length, get_or, max, count_by, is_some};
+ghost use Rattle.watch.specs.Kinds.{one_if};
+ghost use Rattle.watch.specs.Traffic.{capped, figure_at, is_same, sum_at, sum_of_step, was_sent};
+ghost use Rattle.watch.specs.declared.figures.Figure.{Figure as FigureValue};
+ghost use Rattle.watch.specs.declared.figures.Sum.{Sum as SumValue};
+ghost use Rattle.watch.specs.declared.figures.Sum.TheVariants.{Cores};
+
+use crate::figures::{Figure, Sum};
+use machine::Machine;
+use words::Step;
+
+/// How many sums there are.
+const SUMS: usize = 11;
+
+/// What is told of the machine of a run.
+#[derive(Clone, Copy)]
+pub struct Traffic {
+    sums: [u64; SUMS],
+    most_in_flight: usize,
+    most_in_use: usize,
+}
+
+impl Traffic {
+    /// Nothing has happened.
+    pub fn new() -> Self
+        ensures { (f : FigureValue) → figure_at result f ≡ 0 }
+    {
+        Traffic {
+            sums: zeros(),
+            most_in_flight: 0,
+            most_in_use: 0,
+        }
+    }
+
+    /// What is told of the machine.
+    pub fn figure(&self, figure: Figure) -> u64
+        ensures { result ≡ figure_at self.now figure }
+    {
+        match figure {
+            Figure::Sum(sum) => self.sums[sum.place()],
+            Figure::MostInFlight => self.most_in_flight as u64,
+            Figure::MostInUse => self.most_in_use as u64,
+        }
+    }
+
+    /// Counts so many more, up to the greatest u64.
+    fn add(&mut self, sum: Sum, number: u64)
+        ensures added { (s : SumValue) → sum_at self.new s ≡ capped (sum_at self.old s + number * one_if (is_same s sum)) }
+        ensures rest { self.new ≡ record self.old { sums = self.new.sums } }
+    {
+        let place = sum.place();
+        self.sums[place] = self.sums[place].saturating_add(number);
+    }
+
+    /// Counts the messages that were sent after so many had been, and answers how many are in flight.
+    fn add_sent<const SETS: usize, const WAYS: usize>(
+        &mut self,
+        sent: u64,
+        machine: &Machine<SETS, WAYS>,
+    ) -> usize
+        ensures added { (s : SumValue) → sum_at self.old s ≤ 18446744073709551615 → sum_at self.new s ≡ capped (sum_at self.old s + count_by (was_sent sent s) machine.now.flights) }
+        ensures rest { self.new ≡ record self.old { sums = self.new.sums } }
+        ensures flying { result ≡ count_by is_some machine.now.flights }
+    {
+        let flying = machine.in_flight();
+        // Where nothing was sent, each has a lower number.
+        machine.are_numbered();
+        if machine.sent() == sent && sent < u64::MAX {
+            return flying;
+        }
+        let keys = machine.keys();
+        let mut left = flying;
+        let mut key = 0;
+        while left > 0 {
+            // One that was not met yet lies under a higher key.
+            prove!(key < keys);
+            if let Some(flight) = machine.peek_flight(key) {
+                left -= 1;
+                if flight.number >= sent {
+                    self.add(Sum::of_message(&flight.message), 1);
+                }
+            }
+            key += 1;
+        }
+        flying
+    }
+
+    /// Counts what a step did, before which so many messages had been sent.
+    pub(crate) fn note<const SETS: usize, const WAYS: usize>(
+        &mut self,
+        sent: u64,
+        step: &Step,
+        machine: &Machine<SETS, WAYS>,
+    )
+        ensures sums { (s : SumValue) → sum_at self.old s ≤ 18446744073709551615 → sum_at self.new s ≡ capped (sum_at self.old s + (one_if (is_same s (sum_of_step step.now)) + count_by (was_sent sent s) machine.now.flights)) }
+        ensures most_in_flight { self.new.most_in_flight ≡ max self.old.most_in_flight (count_by is_some machine.now.flights) }
+        ensures most_in_use { self.new.most_in_use ≡ max self.old.most_in_use (length machine.now.directory.kept) }
+    {
+        self.add(Sum::of_step(step), 1);
+        let flying = self.add_sent(sent, machine);
+        self.most_in_flight = self.most_in_flight.max(flying);
+        self.most_in_use = self.most_in_use.max(machine.used());
+    }
+
+    /// Counts so many steps of cores that sent nothing while nothing was in flight, with so many entries of the directory in use behind each.
+    pub(crate) fn note_plain(&mut self, turns: u32, used: usize)
+        ensures sums { (s : SumValue) → sum_at self.new s ≡ capped (sum_at self.old s + turns * one_if (is_same s Cores)) }
+        ensures most_in_flight { self.new.most_in_flight ≡ self.old.most_in_flight }
+        ensures most_in_use { self.new.most_in_use ≡ max self.old.most_in_use used }
+    {
+        self.add(Sum::Cores, u64::from(turns));
+        self.most_in_use = self.most_in_use.max(used);
+    }
+}
+
+fn zeros() -> [u64; SUMS]
+    ensures { (p : ℕ) → get_or result p 0 ≡ 0 }
+{
+    [0; SUMS]
+}
