@@ -30,6 +30,21 @@ pub trait Desk {
     fn settle(&mut self, lease: &Self::Lease) -> Result<(), Refusal>;
 
     fn visit(&mut self, id: HartId) -> Result<bool, AllocError>;
+
+    /// The end of a turn: the lease is settled, or let go if it is stale; the hart is visited; and it is lent again for the next turn, if there is one
+    /// and it runs. The answer is whether it runs.
+    fn finish_turn(
+        &mut self,
+        id: HartId,
+        lease: &mut Self::Lease,
+        is_last: bool,
+    ) -> Result<bool, AllocError> {
+        if let Err(Refusal::NoMemory) = self.settle(lease) {
+            return Err(AllocError);
+        }
+        let runs = self.visit(id)?;
+        Ok(runs && (is_last || self.lend_again(id, lease)))
+    }
 }
 
 impl<'p, const SETS: usize, const WAYS: usize, A: Allocator + Copy> Desk
@@ -67,7 +82,8 @@ impl<'p, const SETS: usize, const WAYS: usize, A: Allocator + Copy> Desk
     }
 }
 
-/// A desk that stands apart from the lock that holds it: those who look for the lock don't slow down the one who has it.
+/// A desk that stands apart from the lock that holds it: those who look for the lock don't slow down the one who has it. Where the desk is, is written
+/// beside the lock, so a turn's end looks there once.
 impl<D: Desk> Desk for Box<D> {
     type Lease = D::Lease;
 
@@ -85,5 +101,14 @@ impl<D: Desk> Desk for Box<D> {
 
     fn visit(&mut self, id: HartId) -> Result<bool, AllocError> {
         D::visit(&mut **self, id)
+    }
+
+    fn finish_turn(
+        &mut self,
+        id: HartId,
+        lease: &mut D::Lease,
+        is_last: bool,
+    ) -> Result<bool, AllocError> {
+        D::finish_turn(&mut **self, id, lease, is_last)
     }
 }

@@ -4,7 +4,6 @@ ghost use Rattle.words.specs.Limits.{most_harts};
 
 use crate::desk::{Desk, Gate};
 use crate::end::End;
-use crate::refusal::Refusal;
 use arrayvec::ArrayVec;
 use std::alloc::AllocError;
 use std::sync::{Mutex, MutexGuard, Wait};
@@ -44,21 +43,6 @@ fn locked<'d, D, R: Wait>(rt: &R, desk: &'d Mutex<D>) -> MutexGuard<'d, D> {
     desk.lock(rt)
 }
 
-/// The end of a turn, all under the lock: the lease is settled, or let go if it is stale; the hart is visited; and it is lent again for the
-/// next turn, if there is one and it runs. The answer is whether it runs.
-fn finish_turn<D: Desk>(
-    desk: &mut D,
-    id: HartId,
-    lease: &mut D::Lease,
-    is_last: bool,
-) -> Result<bool, AllocError> {
-    if let Err(Refusal::NoMemory) = desk.settle(lease) {
-        return Err(AllocError);
-    }
-    let runs = desk.visit(id)?;
-    Ok(runs && (is_last || desk.lend_again(id, lease)))
-}
-
 /// Turns of one hart: it is lent, the gate runs the lease, it is settled and the hart visited. A stale lease is let go, and the hart visited all
 /// the same. One lease serves all turns: from the second on the hart is lent in its place, under the lock of the turn before.
 pub fn work<D: Desk, G: Gate<D::Lease>, R: Wait>(
@@ -81,7 +65,7 @@ pub fn work<D: Desk, G: Gate<D::Lease>, R: Wait>(
         }
         let is_last = turn + 1 == turns;
         let mut held = locked(rt, desk);
-        let runs = finish_turn(&mut *held, id, &mut lease, is_last)?;
+        let runs = held.finish_turn(id, &mut lease, is_last)?;
         drop(held);
         gate.settled(id, turn);
         if !runs {
