@@ -1,3 +1,4 @@
 pub mod Replays
 pub mod Locals
 mod Payments
+mod Boxed

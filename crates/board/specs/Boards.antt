@@ -1,5 +1,5 @@
 -- What contracts see of a board: a machine, and the steps that have led to it.
-use Rattle.std.specs.Prelude.{ℕ, ◌≡◌, List, [], ◌∷◌, ◌++◌, length, replicate, option_to_list, Option, Some, None}
+use Rattle.std.specs.Prelude.{ℕ, ◌≡◌, List, [], ◌∷◌, ◌++◌, length, replicate, option_to_list, Option, Some, None, Bool, true, false, Result, Ok, Err}
 use Rattle.words.specs.declared.cause.Status.TheVariants.{Running}
 use Rattle.words.specs.declared.entry.Entry.{Entry}
 use Rattle.words.specs.declared.entry.Step.{Step}
@@ -70,6 +70,16 @@ settled b l = record b {
 abbrev pub IsRefusedFor : Recorded → Lent → Refusal → Type 0
 IsRefusedFor b l Stale = Fits b l → ⊥
 IsRefusedFor b l NoMemory = Fits b l
+
+-- a lease that fits is settled, and another is refused
+abbrev pub Settles : Recorded → Lent → Result Unit Refusal → Recorded → Type 0
+Settles b l (Ok u) c = Fits b l × (c ≡ settled b l)
+Settles b l (Err why) c = IsRefusedFor b l why × (c ≡ b)
+
+-- hart i is lent in place of a lease if it runs, and else the lease stays
+abbrev pub LendsAgain : ℕ → Recorded → Lent → Bool → Lent → Type 0
+LendsAgain i b l true m = IsLent b i m
+LendsAgain i b l false m = (IsRunning b.machine i → ⊥) × (m ≡ l)
 
 -- Steps
 

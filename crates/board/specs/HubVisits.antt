@@ -1,9 +1,11 @@
 -- A visit to a hart: a step of its core, and then what is owed, step by step.
-use Rattle.std.specs.Prelude.{ℕ, ◌≡◌, ◌<◌, ◌⊎◌, List, [], ◌∷◌, length, Bool, true, false, Option, Some, None}
+use Rattle.std.specs.Prelude.{ℕ, ◌≡◌, ◌<◌, ◌⊎◌, ◌↔◌, List, [], ◌∷◌, length, Bool, true, false, Option, Some, None, Result, Ok, Err, IsTrue}
+use Rattle.std.specs.declared.alloc.AllocError.{AllocError}
 use Rattle.words.specs.declared.entry.Entry.{Entry}
 use Rattle.words.specs.declared.entry.Step.{Step}
 use Rattle.words.specs.declared.entry.Step.TheVariants.{Core}
 use Rattle.protocol.specs.Caches.{Geometry}
+use Rattle.board.specs.Boards.{IsRunning}
 use Rattle.board.specs.Visits.{Owes}
 use Rattle.schedule.specs.declared.choices.Choice.{Choice}
 use Rattle.schedule.specs.Follows.{Makes}
@@ -41,6 +43,11 @@ module _ {J : Type 0} where
   -- the beginning of a visit, which wants memory for its next step
   abbrev pub BeginsVisit : Geometry → (J → List Choice → Type 0) → ℕ → Held J → Held J → Type 0
   BeginsVisit g tells i h k = IsAsBefore tells h k ⊎ ((n : ℕ) × (m : Held J) × (n < 63) × IsVisitOf g tells i n h m × IsAsBefore tells m k)
+
+  -- a visit, and whether the hart runs then; or the beginning of one
+  abbrev pub Visits : Geometry → (J → List Choice → Type 0) → ℕ → Held J → Result Bool AllocError → Held J → Type 0
+  Visits g tells i h (Ok runs) k = IsVisit g tells i h k × (IsTrue runs ↔ IsRunning k.machine i)
+  Visits g tells i h (Err e) k = BeginsVisit g tells i h k
 
   -- a step that is owed was made; or none is owed, and nothing changed
   abbrev pub PaysOne : Geometry → (J → List Choice → Type 0) → ℕ → Bool → Held J → Held J → Type 0

@@ -1,5 +1,5 @@
 -- What contracts see of a hub: a machine, and a journal of the choices that have led to it.
-use Rattle.std.specs.Prelude.{ℕ, ◌≡◌, ◌<◌, ◌-◌, ◌++◌, All, List, length, replicate, Some, None}
+use Rattle.std.specs.Prelude.{ℕ, ◌≡◌, ◌<◌, ◌-◌, ◌++◌, All, List, length, replicate, Some, None, Bool, true, false, Result, Ok, Err}
 use Rattle.words.specs.Limits.{most_harts}
 use Rattle.words.specs.declared.entry.Entry.{Entry}
 use Rattle.words.specs.declared.entry.Step.{Step}
@@ -14,7 +14,7 @@ use Rattle.isolation.specs.Belongs.{Belongs}
 use Rattle.machine.specs.States.{State, setting_of, shown}
 use Rattle.machine.specs.Lent.{with_hart}
 use Rattle.board.specs.Loans.{Loaned, IsLentFrom, FitsIn}
-use Rattle.board.specs.Boards.{first_flat}
+use Rattle.board.specs.Boards.{first_flat, IsRunning}
 use Rattle.board.specs.declared.refusal.Refusal.{Refusal}
 use Rattle.board.specs.declared.refusal.Refusal.TheVariants.{Stale, NoMemory}
 use Rattle.schedule.specs.declared.choices.Name.{Name}
@@ -115,3 +115,13 @@ module _ {J : Type 0} where
   abbrev pub IsRefusedFor : Held J → Loaned → Refusal → Type 0
   IsRefusedFor h l Stale = Fits h l → ⊥
   IsRefusedFor h l NoMemory = Fits h l
+
+  -- a loan that fits is settled, and another is refused
+  abbrev pub Settles : (J → List Choice → Type 0) → Held J → Loaned → Result Unit Refusal → Held J → Type 0
+  Settles tells h l (Ok u) k = Fits h l × IsSettled tells h l k
+  Settles tells h l (Err why) k = IsRefusedFor h l why × IsAsBefore tells h k
+
+  -- hart i is lent in place of a loan if it runs, and else the loan stays
+  abbrev pub LendsAgain : ℕ → Held J → Loaned → Bool → Loaned → Type 0
+  LendsAgain i h l true m = IsLent h i m
+  LendsAgain i h l false m = (IsRunning h.machine i → ⊥) × (m ≡ l)

@@ -1,12 +1,13 @@
 -- A visit to a hart: a step of its core, and then what is owed, step by step.
-use Rattle.std.specs.Prelude.{ℕ, ◌≡◌, ◌<◌, ◌⊎◌, List, [], ◌∷◌, length, Bool, true, false, Option, Some, None}
+use Rattle.std.specs.Prelude.{ℕ, ◌≡◌, ◌<◌, ◌⊎◌, ◌↔◌, List, [], ◌∷◌, length, Bool, true, false, Option, Some, None, Result, Ok, Err, IsTrue}
+use Rattle.std.specs.declared.alloc.AllocError.{AllocError}
 use Rattle.words.specs.declared.entry.Entry.{Entry}
 use Rattle.words.specs.declared.entry.Step.{Step}
 use Rattle.words.specs.declared.entry.Step.TheVariants.{Core}
 use Rattle.protocol.specs.Caches.{Geometry}
 use Rattle.machine.specs.States.{State, shown}
 use Rattle.machine.specs.Turns.{IsOwed}
-use Rattle.board.specs.Boards.{Recorded, IsTurn}
+use Rattle.board.specs.Boards.{Recorded, IsRunning, IsTurn}
 
 -- a step is owed on a visit to hart i; or none is
 abbrev pub Owes : Geometry → ℕ → State → Option Step → Type 0
@@ -35,6 +36,11 @@ pub record IsVisit (g : Geometry) (i : ℕ) (b c : Recorded) : Type 0 where
 -- the beginning of a visit, which wants memory for its next step
 abbrev pub BeginsVisit : Geometry → ℕ → Recorded → Recorded → Type 0
 BeginsVisit g i b c = (c ≡ b) ⊎ ((n : ℕ) × (n < 63) × IsVisitOf g i n b c)
+
+-- a visit, and whether the hart runs then; or the beginning of one
+abbrev pub Visits : Geometry → ℕ → Recorded → Result Bool AllocError → Recorded → Type 0
+Visits g i b (Ok runs) c = IsVisit g i b c × (IsTrue runs ↔ IsRunning c.machine i)
+Visits g i b (Err e) c = BeginsVisit g i b c
 
 -- a step that is owed was made; or none is owed, and nothing changed
 abbrev pub PaysOne : Geometry → ℕ → Bool → Recorded → Recorded → Type 0

@@ -1,7 +1,10 @@
-ghost use Rattle.std.specs.Prelude.{◌≡◌, ◌↔◌, IsTrue, IsFalse, IfOk, IfErr, IfSome, IfNone, OnOk, OnErr};
+ghost use Rattle.std.specs.Prelude.{ℕ, Bool, Result, IfSome, IfNone, box_value};
+ghost use Rattle.std.specs.declared.alloc.AllocError.{AllocError as AllocErrorValue};
 ghost use Rattle.machine.specs.States.{geometry};
-ghost use Rattle.board.specs.Boards.{IsRunning, IsLent, Fits, settled, IsRefusedFor};
-ghost use Rattle.board.specs.Visits.{IsVisit, BeginsVisit};
+ghost use Rattle.board.specs.declared.refusal.Refusal.{Refusal as RefusalValue};
+ghost use Rattle.board.specs.Boards.{IsRunning, IsLent, Settles, LendsAgain};
+ghost use Rattle.board.specs.Visits.{Visits};
+ghost use Rattle.board.specs.Ends.{IsTurnsEnd};
 
 use crate::board::Board;
 use crate::lease::Lease;
@@ -22,14 +25,26 @@ pub trait Gate<L> {
 pub trait Desk {
     type Lease: Drop;
 
+    /// What comes of settling this lease, or of refusing it.
+    ghost settles: { Self → Self.Lease → Result Unit RefusalValue → Self → Type 0 };
+
+    /// What comes of a visit to this hart.
+    ghost visits: { ℕ → Self → Result Bool AllocErrorValue → Self → Type 0 };
+
+    /// What comes of lending this hart in place of a lease.
+    ghost lends_again: { ℕ → Self → Self.Lease → Bool → Self.Lease → Type 0 };
+
     fn lend(&self, id: HartId) -> Option<Self::Lease>;
 
     /// Lends a hart in place of a lease that isn't needed any more, and answers whether the hart runs.
-    fn lend_again(&self, id: HartId, lease: &mut Self::Lease) -> bool;
+    fn lend_again(&self, id: HartId, lease: &mut Self::Lease) -> bool
+        ensures { lends_again id self.now lease.old result lease.new };
 
-    fn settle(&mut self, lease: &Self::Lease) -> Result<(), Refusal>;
+    fn settle(&mut self, lease: &Self::Lease) -> Result<(), Refusal>
+        ensures { settles self.old lease.now result self.new };
 
-    fn visit(&mut self, id: HartId) -> Result<bool, AllocError>;
+    fn visit(&mut self, id: HartId) -> Result<bool, AllocError>
+        ensures { visits id self.old result self.new };
 
     /// The end of a turn: the lease is settled, or let go if it is stale; the hart is visited; and it is lent again for the next turn, if there is one
     /// and it runs. The answer is whether it runs.
@@ -38,7 +53,9 @@ pub trait Desk {
         id: HartId,
         lease: &mut Self::Lease,
         is_last: bool,
-    ) -> Result<bool, AllocError> {
+    ) -> Result<bool, AllocError>
+        ensures { IsTurnsEnd settles (visits id) (lends_again id) is_last self.old lease.old result self.new lease.new }
+    {
         if let Err(Refusal::NoMemory) = self.settle(lease) {
             return Err(AllocError);
         }
@@ -51,6 +68,12 @@ impl<'p, const SETS: usize, const WAYS: usize, A: Allocator + Copy> Desk
     for Board<'p, SETS, WAYS, A> {
     type Lease = Lease<'p, SETS, WAYS>;
 
+    ghost settles = { Settles };
+
+    ghost visits = { Visits (geometry SETS WAYS) };
+
+    ghost lends_again = { LendsAgain };
+
     fn lend(&self, id: HartId) -> Option<Lease<'p, SETS, WAYS>>
         ensures some { IfSome result (IsLent self.now id) }
         ensures none { IfNone result (IsRunning self.now.machine id → ⊥) }
@@ -58,26 +81,15 @@ impl<'p, const SETS: usize, const WAYS: usize, A: Allocator + Copy> Desk
         Board::lend(self, id)
     }
 
-    fn lend_again(&self, id: HartId, lease: &mut Lease<'p, SETS, WAYS>) -> bool
-        ensures lent { IsTrue result → IsLent self.now id lease.new }
-        ensures not_lent { IsFalse result → (IsRunning self.now.machine id → ⊥) × (lease.new ≡ lease.old) }
-    {
+    fn lend_again(&self, id: HartId, lease: &mut Lease<'p, SETS, WAYS>) -> bool {
         Board::lend_again(self, id, lease)
     }
 
-    fn settle(&mut self, lease: &Lease<'p, SETS, WAYS>) -> Result<(), Refusal>
-        ensures ok { OnOk result (Fits self.old lease.now × (self.new ≡ settled self.old lease.now)) }
-        ensures unchanged { OnErr result (self.new ≡ self.old) }
-        ensures refused { IfErr result (IsRefusedFor self.old lease.now) }
-    {
+    fn settle(&mut self, lease: &Lease<'p, SETS, WAYS>) -> Result<(), Refusal> {
         Board::settle(self, lease)
     }
 
-    fn visit(&mut self, id: HartId) -> Result<bool, AllocError>
-        ensures runs { IfOk result (λ runs. IsTrue runs ↔ IsRunning self.new.machine id) }
-        ensures ok { OnOk result (IsVisit (geometry SETS WAYS) id self.old self.new) }
-        ensures err { OnErr result (BeginsVisit (geometry SETS WAYS) id self.old self.new) }
-    {
+    fn visit(&mut self, id: HartId) -> Result<bool, AllocError> {
         Board::visit(self, id)
     }
 }
@@ -86,6 +98,12 @@ impl<'p, const SETS: usize, const WAYS: usize, A: Allocator + Copy> Desk
 /// beside the lock, so a turn's end looks there once.
 impl<D: Desk> Desk for Box<D> {
     type Lease = D::Lease;
+
+    ghost settles = { λ b l r c. D.settles (box_value b) l r (box_value c) };
+
+    ghost visits = { λ id b r c. D.visits id (box_value b) r (box_value c) };
+
+    ghost lends_again = { λ id b. D.lends_again id (box_value b) };
 
     fn lend(&self, id: HartId) -> Option<D::Lease> {
         D::lend(&**self, id)

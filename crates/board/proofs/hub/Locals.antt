@@ -1,5 +1,5 @@
 -- The words that a lent hart has retired are choices of its core.
-use Rattle.std.proofs.Common.{◌≡◌, ◌<◌, ℕ, zero, suc, Some, List, [], ◌∷◌, ◌+◌, ◌++◌, length, replicate, length-append, refl, sym, ap, subst, ◌∙◌, arith, inl}
+use Rattle.std.proofs.Common.{◌≡◌, ◌<◌, ℕ, zero, suc, Some, List, [], ◌∷◌, length, replicate, refl, sym, ap, subst, ◌∙◌, arith, inl}
 use Rattle.std.specs.Prelude.{slice_get, slice_set}
 use Rattle.words.specs.declared.entry.Entry.{Entry}
 use Rattle.words.specs.declared.entry.Step.TheVariants as step
@@ -7,7 +7,7 @@ use Rattle.table.specs.Program.{Segment}
 use Rattle.hart.specs.Parts.{Parts}
 use Rattle.machine.specs.Mail.{NumbersOn}
 use Rattle.machine.specs.States.{Seat, State, geometry, IsSound}
-use Rattle.machine.specs.Lent.{hart_if, with_hart, RetiresAlone, RunsAlone}
+use Rattle.machine.specs.Lent.{hart_if, with_hart, RunsAlone}
 use Rattle.machine.proofs.Returning.{is_within, seated, with, with_hart_is, retires, seat_of}
 use Rattle.board.specs.Loans.{Loaned, RunsFor}
 use Rattle.schedule.specs.declared.choices.Choice.TheVariants.{Core}

@@ -41,6 +41,12 @@ impl<'p> Noted<'p> {
 impl<'p> Desk for Noted<'p> {
     type Lease = Loan<'p>;
 
+    ghost settles = { λ _ _ _ _. Unit };
+
+    ghost visits = { λ _ _ _ _. Unit };
+
+    ghost lends_again = { λ _ _ _ _ _. Unit };
+
     fn lend(&self, id: HartId) -> Option<Loan<'p>> {
         self.note(Call::Lend(id));
         self.board.lend(id)
