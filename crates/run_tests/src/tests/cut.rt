@@ -9,8 +9,8 @@ use std::test::Fail;
 use words::Taken;
 
 /// What a line spells.
-fn read(line: &str) -> Result<Command, Fail> {
-    Ok(command_of(line).ok_or("a command")?)
+fn read(rt: &impl Abort, line: &str) -> Command {
+    command_of(line).expect(rt, "a command")
 }
 
 /// Does a command, and once more where memory ran out.
@@ -19,14 +19,13 @@ fn do_command(
     session: &mut Session<16, 4>,
     command: Command,
     sink: &mut Taken,
-    line: &str,
-) {
-    let mut answer = session.command(command, sink);
-    if answer == Err(DebugFault::NoMemory) {
-        assert!(rt; sink.bytes.is_empty(), "at {line}");
-        answer = session.command(command, sink);
+) -> Result<Flow, DebugFault> {
+    let answer = session.command(command, sink);
+    if answer != Err(DebugFault::NoMemory) {
+        return answer;
     }
-    assert_eq!(rt; answer, Ok(Flow::Go), "at {line}");
+    assert!(rt; sink.bytes.is_empty());
+    session.command(command, sink)
 }
 
 /// That a command, done once more where memory ran out, tells these lines.
@@ -37,12 +36,13 @@ fn check_done(
     line: &str,
     told: &str,
 ) -> Result<(), Fail> {
-    let command = read(line)?;
+    let command = read(rt, line);
     let mut sink = Taken {
         bytes: Vec::with_capacity(alloc, 256)?,
         failed: 0,
     };
-    do_command(rt, session, command, &mut sink, line);
+    let answer = do_command(rt, session, command, &mut sink);
+    assert_eq!(rt; answer, Ok(Flow::Go), "at {line}");
     assert_eq!(rt; sink.bytes.as_slice(), told.as_bytes(), "at {line}");
     Ok(())
 }
@@ -54,7 +54,7 @@ fn go(
     session: &mut Session<16, 4>,
     line: &str,
 ) -> Result<(), Fail> {
-    let command = read(line)?;
+    let command = read(rt, line);
     let mut sink = Breaking::new(alloc, 20);
     let answer = session.command(command, &mut sink);
     if answer == Err(DebugFault::NoMemory) {
@@ -83,9 +83,10 @@ fn after(
 /// That a sink has failed once if its command was cut, and then has a beginning of what the whole tells.
 fn check_sink(rt: &impl Abort, sink: &Breaking, cut: bool, told: &str, line: &str) {
     let bytes = sink.bytes.as_slice();
-    assert_eq!(rt; sink.failed == 1, cut, "at {line}");
-    assert!(rt; told.as_bytes().starts_with(bytes), "at {line}");
-    assert_eq!(rt; bytes.len() < told.len(), cut, "at {line}");
+    let has_begun = told.as_bytes().starts_with(bytes);
+    let is_whole = bytes.len() == told.len();
+    assert!(rt; has_begun && is_whole != cut, "at {line}");
+    assert_eq!(rt; sink.failed, u64::from(cut), "at {line}");
 }
 
 /// Whether a put failed, the last of so many that the sink takes: then the fault is told, and a beginning was taken.
@@ -97,7 +98,7 @@ fn is_cut(
     told: &str,
     left: u32,
 ) -> Result<bool, Fail> {
-    let command = read(line)?;
+    let command = read(rt, line);
     let mut sink = Breaking::new(alloc, left);
     let answer = session.command(command, &mut sink);
     let cut = answer == Err(DebugFault::Device);
@@ -158,135 +159,142 @@ fn check_cuts(rt: &(impl Abort + AllocGlobal), case: &Case<'_>) -> Result<(), Fa
     Ok(())
 }
 
-/// A command in a session: what is typed before it, the command, and what is typed after it; what these two tell. Each put of the command is
-/// refused in turn, and it is done all the same. For `rt try --test --fail-alloc N`: if memory runs out, it is done again.
-fn check(
-    rt: &(impl Abort + AllocGlobal),
-    text: &[u32],
-    harts: u32,
-    typed: [&str; 3],
-    told: &str,
-    shown: &str,
-) -> Result<(), Fail> {
-    let [before, line, then] = typed;
-    let case = Case {
-        text,
-        harts,
-        before,
-        line,
-        then,
-        told,
-        shown,
-    };
-    check_cuts(rt, &case)?;
-    let mut session = after(rt, rt.alloc(), text, harts, before)?;
-    check_both(rt, &mut session, &case)
+/// That each put of the command is refused in turn, and that it is done all the same. For `rt try --test --fail-alloc N`: if memory runs out, it is
+/// done again.
+fn check(rt: &(impl Abort + AllocGlobal), case: &Case<'_>) -> Result<(), Fail> {
+    check_cuts(rt, case)?;
+    let mut session = after(rt, rt.alloc(), case.text, case.harts, case.before)?;
+    check_both(rt, &mut session, case)
 }
+
+static COMMANDS: [Case<'static>; 5] = [
+    Case {
+        text: &EXIT,
+        harts: 1,
+        before: "#",
+        line: "step",
+        then: "step",
+        told: "0 0x00001000 05d00893 addi a7, zero, 93 | a7=0x0000005d\n",
+        shown: "0 0x00001004 00000513 addi a0, zero, 0 | a0=0x00000000\n",
+    },
+    Case {
+        text: &EXIT,
+        harts: 1,
+        before: "#",
+        line: "run",
+        then: "harts",
+        told: "stopped\n",
+        shown: "0 pc=0x0000100c exit 0\n",
+    },
+    Case {
+        text: &EXIT,
+        harts: 1,
+        before: "break 0x1008",
+        line: "run",
+        then: "harts",
+        told: "break hart 0 at 0x00001008\n",
+        shown: "0 pc=0x00001008 running\n",
+    },
+    Case {
+        text: &EXIT,
+        harts: 1,
+        before: "#",
+        line: "break 0x1008",
+        then: "run 2",
+        told: "break set 0x00001008\n",
+        shown: "break hart 0 at 0x00001008\n",
+    },
+    Case {
+        text: &EXIT,
+        harts: 1,
+        before: "break 0x1008",
+        line: "break 0x1008",
+        then: "run",
+        told: "break cleared 0x00001008\n",
+        shown: "stopped\n",
+    },
+];
+
+static BY_HAND: [Case<'static>; 7] = [
+    Case {
+        text: &LOADS_AND_STORES,
+        harts: 1,
+        before: "core 0",
+        line: "core 0",
+        then: "messages",
+        told: "sent get 0 0x00002000 read stamp -\n",
+        shown: "get 0 0x00002000 read stamp -\n",
+    },
+    Case {
+        text: &LOADS_AND_STORES,
+        harts: 1,
+        before: "run 2",
+        line: "core 0",
+        then: "messages",
+        told: "nothing\n",
+        shown: "get 0 0x00002000 read stamp -\n",
+    },
+    // The turns are lui of each hart, hart 0's request with its three messages, its load, and hart 1's request.
+    Case {
+        text: &LOADS_AND_STORES,
+        harts: 2,
+        before: "run 8",
+        line: "deliver get 1 0x2000",
+        then: "dir 0x2000",
+        told: "sent grant 1 0x00002000 S expect 0 content 0x00000000\nsent forward 0 0x00002000 read for 1 stamp -\n",
+        shown: "owned 0 sharers - busy 1 S\n",
+    },
+    Case {
+        text: &LOADS_AND_STORES,
+        harts: 1,
+        before: "run 4",
+        line: "deliver done 0 0x2000",
+        then: "dirs",
+        told: "done\n",
+        shown: "0x00002000 owned 0 sharers - busy -\n",
+    },
+    Case {
+        text: &LOADS_AND_STORES,
+        harts: 1,
+        before: "run 6",
+        line: "evict 0 0x2000",
+        then: "line 0 0x2000",
+        told: "sent put 0 0x00002000 unmarked content 0x00000000\n",
+        shown: "none\n",
+    },
+    Case {
+        text: &COMMITS,
+        harts: 1,
+        before: "run 8",
+        line: "evict 0 0x2000",
+        then: "tx 0",
+        told: "0 spills block 0x00002000\n",
+        shown: "depth 1 records 1 stamp 0.0 overflow\n",
+    },
+    Case {
+        text: &COMMITS,
+        harts: 1,
+        before: "run 8",
+        line: "log 0x1f000",
+        then: "dis 0x1004",
+        told: "0x0001f000 = 0x00002000\n",
+        shown: "0x00001004: 000022b7  lui t0, 0x2\n",
+    },
+];
 
 #[test]
 fn a_command_that_is_cut_is_done(rt: HostRuntime) -> Result<(), Fail> {
-    check(
-        &rt,
-        &EXIT,
-        1,
-        ["#", "step", "step"],
-        "0 0x00001000 05d00893 addi a7, zero, 93 | a7=0x0000005d\n",
-        "0 0x00001004 00000513 addi a0, zero, 0 | a0=0x00000000\n",
-    )?;
-    check(
-        &rt,
-        &EXIT,
-        1,
-        ["#", "run", "harts"],
-        "stopped\n",
-        "0 pc=0x0000100c exit 0\n",
-    )?;
-    check(
-        &rt,
-        &EXIT,
-        1,
-        ["break 0x1008", "run", "harts"],
-        "break hart 0 at 0x00001008\n",
-        "0 pc=0x00001008 running\n",
-    )?;
-    check(
-        &rt,
-        &EXIT,
-        1,
-        ["#", "break 0x1008", "run 2"],
-        "break set 0x00001008\n",
-        "break hart 0 at 0x00001008\n",
-    )?;
-    check(
-        &rt,
-        &EXIT,
-        1,
-        ["break 0x1008", "break 0x1008", "run"],
-        "break cleared 0x00001008\n",
-        "stopped\n",
-    )?;
+    for case in &COMMANDS {
+        check(&rt, case)?;
+    }
     Ok(())
 }
 
 #[test]
 fn a_step_by_hand_that_is_cut_is_done(rt: HostRuntime) -> Result<(), Fail> {
-    check(
-        &rt,
-        &LOADS_AND_STORES,
-        1,
-        ["core 0", "core 0", "messages"],
-        "sent get 0 0x00002000 read stamp -\n",
-        "get 0 0x00002000 read stamp -\n",
-    )?;
-    check(
-        &rt,
-        &LOADS_AND_STORES,
-        1,
-        ["run 2", "core 0", "messages"],
-        "nothing\n",
-        "get 0 0x00002000 read stamp -\n",
-    )?;
-    // The turns are lui of each hart, hart 0's request with its three messages, its load, and hart 1's request.
-    check(
-        &rt,
-        &LOADS_AND_STORES,
-        2,
-        ["run 8", "deliver get 1 0x2000", "dir 0x2000"],
-        "sent grant 1 0x00002000 S expect 0 content 0x00000000\nsent forward 0 0x00002000 read for 1 stamp -\n",
-        "owned 0 sharers - busy 1 S\n",
-    )?;
-    check(
-        &rt,
-        &LOADS_AND_STORES,
-        1,
-        ["run 4", "deliver done 0 0x2000", "dirs"],
-        "done\n",
-        "0x00002000 owned 0 sharers - busy -\n",
-    )?;
-    check(
-        &rt,
-        &LOADS_AND_STORES,
-        1,
-        ["run 6", "evict 0 0x2000", "line 0 0x2000"],
-        "sent put 0 0x00002000 unmarked content 0x00000000\n",
-        "none\n",
-    )?;
-    check(
-        &rt,
-        &COMMITS,
-        1,
-        ["run 8", "evict 0 0x2000", "tx 0"],
-        "0 spills block 0x00002000\n",
-        "depth 1 records 1 stamp 0.0 overflow\n",
-    )?;
-    check(
-        &rt,
-        &COMMITS,
-        1,
-        ["run 8", "log 0x1f000", "dis 0x1004"],
-        "0x0001f000 = 0x00002000\n",
-        "0x00001004: 000022b7  lui t0, 0x2\n",
-    )?;
+    for case in &BY_HAND {
+        check(&rt, case)?;
+    }
     Ok(())
 }
 
