@@ -4,7 +4,7 @@ use Rattle.std.specs.Box.{with_value}
 use Rattle.std.specs.declared.alloc.AllocError.{AllocError}
 use Rattle.board.specs.declared.refusal.Refusal.{Refusal}
 use Rattle.board.specs.declared.refusal.Refusal.TheVariants.{Stale, NoMemory}
-use Rattle.board.specs.Ends.{LendsAgain, GoesOn, Finishes, IsTurnsEnd}
+use Rattle.board.specs.Ends.{LendsUnlessLast, GoesOn, Finishes, IsTurnsEnd}
 
 module _ {D L : Type 0} (Settles : D → L → Result Unit Refusal → D → Type 0) (Visits : D → Result Bool AllocError → D → Type 0) (Lends : D → L → Bool → L → Type 0) where
   abbrev SettlesBoxed : Box D Global → L → Result Unit Refusal → Box D Global → Type 0
@@ -17,7 +17,7 @@ module _ {D L : Type 0} (Settles : D → L → Result Unit Refusal → D → Typ
   LendsBoxed b l runs m = Lends (box_value b) l runs m
 
   lends_boxed : (is_last : Bool) (b : Box D Global) (d : D) (l : L) (runs : Bool) (m : L) →
-      LendsAgain Settles Visits Lends is_last d l runs m → LendsAgain SettlesBoxed VisitsBoxed LendsBoxed is_last (with_value b d) l runs m
+      LendsUnlessLast Settles Visits Lends is_last d l runs m → LendsUnlessLast SettlesBoxed VisitsBoxed LendsBoxed is_last (with_value b d) l runs m
   lends_boxed true b d l runs m it = it
   lends_boxed false b d l runs m it = it
 

@@ -71,10 +71,15 @@ abbrev pub IsRefusedFor : Recorded → Lent → Refusal → Type 0
 IsRefusedFor b l Stale = Fits b l → ⊥
 IsRefusedFor b l NoMemory = Fits b l
 
--- a lease that fits is settled, and another is refused
+-- a lease that is settled fitted; one that is refused leaves the board as it was
 abbrev pub Settles : Recorded → Lent → Result Unit Refusal → Recorded → Type 0
 Settles b l (Ok u) c = Fits b l × (c ≡ settled b l)
 Settles b l (Err why) c = IsRefusedFor b l why × (c ≡ b)
+
+-- hart i is lent just if it runs
+abbrev pub Lends : ℕ → Recorded → Option Lent → Type 0
+Lends i b (Some l) = IsLent b i l
+Lends i b None = IsRunning b.machine i → ⊥
 
 -- hart i is lent in place of a lease if it runs, and else the lease stays
 abbrev pub LendsAgain : ℕ → Recorded → Lent → Bool → Lent → Type 0

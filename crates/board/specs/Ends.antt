@@ -6,13 +6,13 @@ use Rattle.board.specs.declared.refusal.Refusal.TheVariants.{NoMemory}
 
 module _ {D L : Type 0} (Settles : D → L → Result Unit Refusal → D → Type 0) (Visits : D → Result Bool AllocError → D → Type 0) (Lends : D → L → Bool → L → Type 0) where
   -- a hart that runs is lent again, unless the turn was the last
-  abbrev pub LendsAgain : Bool → D → L → Bool → L → Type 0
-  LendsAgain true d l runs m = (runs ≡ true) × (m ≡ l)
-  LendsAgain false d l runs m = Lends d l runs m
+  abbrev pub LendsUnlessLast : Bool → D → L → Bool → L → Type 0
+  LendsUnlessLast true d l runs m = (runs ≡ true) × (m ≡ l)
+  LendsUnlessLast false d l runs m = Lends d l runs m
 
   -- behind a visit with this answer
   abbrev pub GoesOn : Bool → D → L → Result Bool AllocError → Result Bool AllocError → L → Type 0
-  GoesOn is_last d l (Ok true) r m = (runs : Bool) × LendsAgain is_last d l runs m × (r ≡ Ok runs)
+  GoesOn is_last d l (Ok true) r m = (runs : Bool) × LendsUnlessLast is_last d l runs m × (r ≡ Ok runs)
   GoesOn is_last d l answer r m = (r ≡ answer) × (m ≡ l)
 
   -- behind this answer to the lease: without memory for it the turn ends, and else the hart is visited, whether the lease was settled or is stale

@@ -1,5 +1,5 @@
 -- What contracts see of a hub: a machine, and a journal of the choices that have led to it.
-use Rattle.std.specs.Prelude.{ℕ, ◌≡◌, ◌<◌, ◌-◌, ◌++◌, All, List, length, replicate, Some, None, Bool, true, false, Result, Ok, Err}
+use Rattle.std.specs.Prelude.{ℕ, ◌≡◌, ◌<◌, ◌-◌, ◌++◌, All, List, length, replicate, Option, Some, None, Bool, true, false, Result, Ok, Err}
 use Rattle.words.specs.Limits.{most_harts}
 use Rattle.words.specs.declared.entry.Entry.{Entry}
 use Rattle.words.specs.declared.entry.Step.{Step}
@@ -116,10 +116,15 @@ module _ {J : Type 0} where
   IsRefusedFor h l Stale = Fits h l → ⊥
   IsRefusedFor h l NoMemory = Fits h l
 
-  -- a loan that fits is settled, and another is refused
+  -- a loan that is settled fitted; one that is refused leaves the hub as it was, though its journal may have got room
   abbrev pub Settles : (J → List Choice → Type 0) → Held J → Loaned → Result Unit Refusal → Held J → Type 0
   Settles tells h l (Ok u) k = Fits h l × IsSettled tells h l k
   Settles tells h l (Err why) k = IsRefusedFor h l why × IsAsBefore tells h k
+
+  -- hart i is lent just if it runs
+  abbrev pub Lends : ℕ → Held J → Option Loaned → Type 0
+  Lends i h (Some l) = IsLent h i l
+  Lends i h None = IsRunning h.machine i → ⊥
 
   -- hart i is lent in place of a loan if it runs, and else the loan stays
   abbrev pub LendsAgain : ℕ → Held J → Loaned → Bool → Loaned → Type 0

@@ -1,8 +1,8 @@
-ghost use Rattle.std.specs.Prelude.{ℕ, Bool, Result, IfSome, IfNone, box_value};
+ghost use Rattle.std.specs.Prelude.{ℕ, Bool, Option, Result, box_value};
 ghost use Rattle.std.specs.declared.alloc.AllocError.{AllocError as AllocErrorValue};
 ghost use Rattle.machine.specs.States.{geometry};
 ghost use Rattle.board.specs.declared.refusal.Refusal.{Refusal as RefusalValue};
-ghost use Rattle.board.specs.Boards.{IsRunning, IsLent, Settles, LendsAgain};
+ghost use Rattle.board.specs.Boards.{Settles, Lends, LendsAgain};
 ghost use Rattle.board.specs.Visits.{Visits};
 ghost use Rattle.board.specs.Ends.{IsTurnsEnd};
 
@@ -31,10 +31,15 @@ pub trait Desk {
     /// What comes of a visit to this hart.
     ghost visits: { ℕ → Self → Result Bool AllocErrorValue → Self → Type 0 };
 
-    /// What comes of lending this hart in place of a lease.
+    /// What comes of lending this hart.
+    ghost lends: { ℕ → Self → Option Self.Lease → Type 0 };
+
+    /// What comes of lending it in place of a lease.
     ghost lends_again: { ℕ → Self → Self.Lease → Bool → Self.Lease → Type 0 };
 
-    fn lend(&self, id: HartId) -> Option<Self::Lease>;
+    /// Lends a hart, if it runs.
+    fn lend(&self, id: HartId) -> Option<Self::Lease>
+        ensures { lends id self.now result };
 
     /// Lends a hart in place of a lease that isn't needed any more, and answers whether the hart runs.
     fn lend_again(&self, id: HartId, lease: &mut Self::Lease) -> bool
@@ -72,12 +77,11 @@ impl<'p, const SETS: usize, const WAYS: usize, A: Allocator + Copy> Desk
 
     ghost visits = { Visits (geometry SETS WAYS) };
 
+    ghost lends = { Lends };
+
     ghost lends_again = { LendsAgain };
 
-    fn lend(&self, id: HartId) -> Option<Lease<'p, SETS, WAYS>>
-        ensures some { IfSome result (IsLent self.now id) }
-        ensures none { IfNone result (IsRunning self.now.machine id → ⊥) }
-    {
+    fn lend(&self, id: HartId) -> Option<Lease<'p, SETS, WAYS>> {
         Board::lend(self, id)
     }
 
@@ -102,6 +106,8 @@ impl<D: Desk> Desk for Box<D> {
     ghost settles = { λ b l r c. D.settles (box_value b) l r (box_value c) };
 
     ghost visits = { λ id b r c. D.visits id (box_value b) r (box_value c) };
+
+    ghost lends = { λ id b. D.lends id (box_value b) };
 
     ghost lends_again = { λ id b. D.lends_again id (box_value b) };
 

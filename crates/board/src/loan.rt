@@ -225,7 +225,10 @@ fn retire<const SETS: usize, const WAYS: usize>(
     ensures made { IsTrue result → (e : Entry) × RetiresAlone SETS text.now.segments.now hart.old e hart.new }
     ensures none { IsFalse result → FollowsAlone SETS (setting_of text.now.segments.now hart.old) hart.old hart.new NeedsHub }
 {
-    hart.advance::<LENT>(text) || retire_any(hart, text)
+    match hart.advance::<LENT>(text) {
+        Some(_) => true,
+        None => retire_any(hart, text),
+    }
 }
 
 /// Retires any word that the hart retires by itself. The answer is whether there was one.

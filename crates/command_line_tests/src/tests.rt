@@ -2,7 +2,6 @@
 use command_line::{Cache, Debug, Order, OrderFault, Request, Run, Target, View, parse};
 use numerals::number;
 use std::alloc::Global;
-use std::test::Fail;
 
 #[test]
 fn reads_numbers(rt: HostRuntime) {
@@ -33,19 +32,16 @@ fn reads_numbers(rt: HostRuntime) {
 }
 
 // The run that the words ask for.
-fn run_of(
-    alloc: Global,
-    words: &'static [&'static str],
-) -> Result<Option<Run<'static>>, OrderFault<'static>> {
-    match parse(alloc, words)? {
-        Request::Order(Order::Run(run)) => Ok(Some(run)),
-        _ => Ok(None),
+fn run_of(alloc: Global, words: &'static [&'static str]) -> Option<Run<'static>> {
+    match parse(alloc, words) {
+        Ok(Request::Order(Order::Run(run))) => Some(run),
+        _ => None,
     }
 }
 
 #[test]
-fn reads_a_run(rt: HostRuntime) -> Result<(), Fail> {
-    let run = run_of(rt.alloc(), &["logtm", "run", "first.elf"])?.ok_or("a run")?;
+fn reads_a_run(rt: HostRuntime) {
+    let run = run_of(rt.alloc(), &["logtm", "run", "first.elf"]).expect(&rt, "a run");
     assert_eq!(rt; run.file, "first.elf");
     assert_eq!(rt;
         (run.harts, run.memory, run.steps),
@@ -53,7 +49,6 @@ fn reads_a_run(rt: HostRuntime) -> Result<(), Fail> {
     );
     assert_eq!(rt; run.cache, Cache::Normal);
     assert_eq!(rt; run.words.len(), 0);
-    Ok(())
 }
 
 static LONG: [&str; 13] = [
@@ -73,21 +68,21 @@ static LONG: [&str; 13] = [
 ];
 
 #[test]
-fn reads_options_and_words(rt: HostRuntime) -> Result<(), Fail> {
-    let run = run_of(rt.alloc(), LONG.as_slice())?.ok_or("a run")?;
+fn reads_options_and_words(rt: HostRuntime) {
+    let run = run_of(rt.alloc(), LONG.as_slice()).expect(&rt, "a run");
     assert_eq!(rt; run.file, "first.elf");
     assert_eq!(rt; (run.harts, run.memory, run.steps), (2, 2_141_133, 7));
     assert_eq!(rt; run.cache, Cache::Small);
-    let words = run.words;
-    assert_eq!(rt; words.len(), 3);
-    assert_eq!(rt; (words[0].text, words[0].addr), ("0x2000", 8192));
-    assert_eq!(rt; (words[1].text, words[1].addr), ("8196", 8196));
-    assert_eq!(rt; (words[2].text, words[2].addr), ("0", 0));
-    Ok(())
+    let expected = [("0x2000", 8192), ("8196", 8196), ("0", 0)];
+    assert_eq!(rt; run.words.len(), expected.len());
+    for (word, (text, addr)) in run.words.iter().zip(expected) {
+        assert_eq!(rt; word.text, text);
+        assert_eq!(rt; word.addr, addr);
+    }
 }
 
 #[test]
-fn reads_the_name_of_a_cache(rt: HostRuntime) -> Result<(), Fail> {
+fn reads_the_name_of_a_cache(rt: HostRuntime) {
     let cases: [(&[&str], Cache); 4] = [
         (&["logtm", "run", "f"], Cache::Normal),
         (&["logtm", "run", "f", "--cache", "normal"], Cache::Normal),
@@ -95,10 +90,9 @@ fn reads_the_name_of_a_cache(rt: HostRuntime) -> Result<(), Fail> {
         (&["logtm", "run", "f", "--cache=small"], Cache::Small),
     ];
     for (words, cache) in cases {
-        let run = run_of(rt.alloc(), words)?.ok_or("a run")?;
+        let run = run_of(rt.alloc(), words).expect(&rt, "a run");
         assert_eq!(rt; run.cache, cache);
     }
-    Ok(())
 }
 
 // The paths that an order to list or to assemble names.
@@ -133,7 +127,7 @@ fn refusal(alloc: Global, words: &'static [&'static str]) -> Option<String> {
 }
 
 #[test]
-fn refuses_as_clap_does(rt: HostRuntime) -> Result<(), Fail> {
+fn refuses_as_clap_does(rt: HostRuntime) {
     let cases: [(&[&str], &str); 34] = [
         (&["logtm", "debug"], "<FILE>"),
         (
@@ -228,10 +222,9 @@ fn refuses_as_clap_does(rt: HostRuntime) -> Result<(), Fail> {
         (&["logtm", "run", "--harts", "x"], "<FILE>"),
     ];
     for (words, part) in cases {
-        let text = refusal(rt.alloc(), words).ok_or("a refusal")?;
+        let text = refusal(rt.alloc(), words).expect(&rt, "a refusal");
         assert!(rt; text.contains(part), "{text}");
     }
-    Ok(())
 }
 
 // The malformed value.
@@ -299,7 +292,7 @@ fn debug_of(alloc: Global, words: &'static [&'static str]) -> Option<Debug<'stat
 }
 
 #[test]
-fn reads_what_is_played_by_hand(rt: HostRuntime) -> Result<(), Fail> {
+fn reads_what_is_played_by_hand(rt: HostRuntime) {
     let cases: [(&[&str], (u32, u32), Cache); 6] = [
         (&["logtm", "debug", "f"], (1, 1_048_576), Cache::Normal),
         (
@@ -336,12 +329,11 @@ fn reads_what_is_played_by_hand(rt: HostRuntime) -> Result<(), Fail> {
         ),
     ];
     for (words, sizes, cache) in cases {
-        let debug = debug_of(rt.alloc(), words).ok_or("a debug")?;
+        let debug = debug_of(rt.alloc(), words).expect(&rt, "a debug");
         assert_eq!(rt; debug.file, "f");
         assert_eq!(rt; (debug.harts, debug.memory), sizes);
         assert_eq!(rt; debug.cache, cache);
     }
-    Ok(())
 }
 
 // Where the trace of a run of `f` goes: to standard output as a dash.

@@ -12,8 +12,8 @@ use Rattle.words.specs.Marks.{is_marked}
 use Rattle.protocol.specs.Messages.{Block, Message, Granted, Put, Done, Ack}
 use Rattle.flat.specs.Bytes.{put_at}
 use Rattle.protocol.specs.Lines.{Line, refuses, byte_in, owned_content, line_given, line_undone, line_cleared, line_used}
-use Rattle.protocol.specs.Hart.{Hart, Transaction, LogRecord, Request, overflow_of, with_line}
-use Rattle.protocol.specs.Requests.{have_answered, granted_so_far, refused_row, granted_row, answer_row, line_granted, content_back}
+use Rattle.protocol.specs.Hart.{Hart, Transaction, LogRecord, Request, sends, overflow_of, with_line}
+use Rattle.protocol.specs.Requests.{have_answered, granted_so_far, refused_row, granted_row, answer_row}
 use Rattle.protocol.specs.Evict.{evict_row, evict_by, drop_row, write_back_row, without_line, spill_of}
 use Rattle.protocol.specs.Core.{Makes, Lacks, start_abort_row, undo_row, undo_move, abort_move, fetch_row, move_row, commit_row, retire_row, no_memory, is_log_due, tx_used, access_row}
 use Rattle.words.specs.Limits.{log_records}
@@ -81,9 +81,9 @@ written_back i b l h k m e hart marked entry = λ j. record {
   stamped = false;
 }
 
-pub granted : (i : ℕ) (r : Request) (g : Granted) (h k : Hart) (m : Message) → k ≡ with_line r.block (Some (line_granted r g h)) h → m ≡ Done i r.block true (content_back g.give r.content)
-    → granted_row i r g h ≡ record { hart = record k { request = None; fresh = true }; sent = Some m; entry = None; stamped = false }
-granted i r g h k m hart sent = λ j. record { hart = record (sym hart j) { request = None; fresh = true }; sent = Some (sym sent j); entry = None; stamped = false }
+pub granted : (i b : ℕ) (l : Line) (back : Option Block) (h k : Hart) (m : Message) → k ≡ with_line b (Some l) h → m ≡ Done i b true back
+    → sends (Done i b true back) (with_line b (Some l) (record h { request = None; fresh = true })) ≡ record { hart = record k { request = None; fresh = true }; sent = Some m; entry = None; stamped = false }
+granted i b l back h k m hart sent = λ j. record { hart = record (sym hart j) { request = None; fresh = true }; sent = Some (sym sent j); entry = None; stamped = false }
 
 pub acknowledged : (i b : ℕ) (kind : Kind) (r : ℕ) (h k : Hart) (content : Option Block) → k ≡ with_line b (line_given kind (h.lines b)) h → content ≡ content_held b h
     → acknowledge_row i b kind r h ≡ record { hart = k; sent = Some (Ack i r b content); entry = None; stamped = false }

@@ -1,17 +1,15 @@
-ghost use Rattle.std.specs.Prelude.{◌≡◌, ℕ, List, Option, Some, None, IsSomeAnd, IfSome, false};
+ghost use Rattle.std.specs.Prelude.{◌≡◌, ℕ, List, Option, Some, None, IsSomeAnd, IfSome, true, false};
 ghost use Rattle.std.specs.Option.{option_map};
 ghost use Rattle.cache.specs.Sets.{line_at};
 ghost use Rattle.protocol.specs.Messages.{shown, Done};
 ghost use Rattle.protocol.specs.Lines.{refuses, line_given, line_filled, state_given};
-ghost use Rattle.protocol.specs.Hart.{Request as ProtocolRequest, quiet, with_line, overflow_of};
-ghost use Rattle.protocol.specs.Requests.{granted_so_far, granted_row, refused_row, grant_row, ack_row, nack_row};
+ghost use Rattle.protocol.specs.Hart.{Request as ProtocolRequest, quiet, sends, with_line, overflow_of};
+ghost use Rattle.protocol.specs.Requests.{granted_so_far, gives_way, grant_row, ack_row, nack_row};
 ghost use Rattle.protocol.specs.HartMessages.{message_row, forward_row, refuse_row, acknowledge_row, put_ack_row, content_held};
 
 use crate::hart::Hart;
 use crate::reply::Reply;
-use crate::request::{
-    Granted, Request, content_back, have_answered, keep_ack, keep_grant, keep_nack,
-};
+use crate::request::{Granted, content_back, have_answered, keep_ack, keep_grant, keep_nack};
 use crate::transactions::{give_way, note_refusal};
 use cache::Line;
 use conflict::{earlier, refuses};
@@ -19,7 +17,7 @@ use words::{Block, BlockNo, Entry, HartId, Kind, LineState, Message, Stamp};
 
 impl<const SETS: usize, const WAYS: usize> Hart<SETS, WAYS> {
     ghost use Rattle.hart.specs.Parts.{StaysPut};
-    ghost use Rattle.hart.specs.Shown.{shown_line, shown_tx, shown_hart, shown_granted, shown_request, lines_of};
+    ghost use Rattle.hart.specs.Shown.{shown_line, shown_tx, shown_hart, shown_granted, lines_of};
     ghost use Rattle.hart.specs.Rows.{replied};
 
     /// Does what the protocol's row for the message says. A message that the hart doesn't await, or that is for the directory,
@@ -226,54 +224,63 @@ impl<const SETS: usize, const WAYS: usize> Hart<SETS, WAYS> {
         if !have_answered(&granted.expect, &request.answered, self.harts) {
             return Reply::none();
         }
-        let (request, granted) = (*request, *granted);
+        let block = request.block;
         if request.refused {
-            self.end_refused(&request)
-        } else {
-            self.end_granted(&request, &granted)
+            let earlier = request.earlier;
+            return self.end_refused(block, earlier);
         }
+        let give = granted.give;
+        let content = request.content.unwrap_or(granted.content);
+        let back = content_back(give, request.content);
+        self.end_granted(block, give, &content, back)
     }
 
-    /// The request ends refused, and the hart is free to ask again, unless its transaction aborts now.
-    fn end_refused(&mut self, request: &Request) -> Reply
-        ensures row { (output : List ℕ) → refused_row self.old.index (shown_request request.now) (shown_hart SETS output self.old)
+    /// The request for a block ends refused, by an earlier transaction or not: the hart is free to ask again, unless its transaction aborts now.
+    fn end_refused(&mut self, block: BlockNo, earlier: bool) -> Reply
+        ensures row { (output : List ℕ) → let h = shown_hart SETS output self.old in
+            sends (Done self.old.index block false None) (record h { request = None; tx = option_map (gives_way earlier) h.tx })
             ≡ replied SETS output self.new result }
         ensures stays { StaysPut self.old self.new }
     {
         self.request = None;
-        give_way(&mut self.tx, request.earlier);
+        give_way(&mut self.tx, earlier);
         Reply {
-            message: Some(self.done(request, false, None)),
+            message: Some(self.done(block, false, None)),
             entry: None,
         }
     }
 
-    /// The request ends granted, and the hart is fresh.
-    fn end_granted(&mut self, request: &Request, granted: &Granted) -> Reply
-        requires { IsSomeAnd self.old.request (λ old. request.now.block ≡ old.block) }
-        ensures row { (output : List ℕ) →
-            granted_row self.old.index (shown_request request.now) (shown_granted granted.now) (shown_hart SETS output self.old)
+    /// The request for a block ends granted, and the hart is fresh: the block's line gets this content, and the directory is told what memory lacks.
+    fn end_granted(
+        &mut self,
+        block: BlockNo,
+        give: LineState,
+        content: &Block,
+        back: Option<Block>,
+    ) -> Reply
+        requires { IsSomeAnd self.old.request (λ old. block ≡ old.block) }
+        ensures row { (output : List ℕ) → let h = shown_hart SETS output self.old in
+            sends (Done self.old.index block true back)
+            (with_line block (Some (line_filled give (overflow_of h.tx) content.now (h.lines block))) (record h { request = None; fresh = true }))
             ≡ replied SETS output self.new result }
         ensures stays { StaysPut self.old self.new }
     {
-        let content = request.content.unwrap_or(granted.content);
-        self.receive(request.block, granted.give, content);
+        self.receive(block, give, *content);
         self.request = None;
         self.fresh = true;
-        let back = content_back(granted.give, request.content);
         Reply {
-            message: Some(self.done(request, true, back)),
+            message: Some(self.done(block, true, back)),
             entry: None,
         }
     }
 
     /// What tells the directory that a request is over.
-    fn done(&self, request: &Request, ok: bool, content: Option<Block>) -> Message
-        ensures { shown result ≡ Done self.now.index request.now.block ok content }
+    fn done(&self, block: BlockNo, ok: bool, content: Option<Block>) -> Message
+        ensures { shown result ≡ Done self.now.index block ok content }
     {
         Message::Done {
             from: self.index,
-            block: request.block,
+            block,
             ok,
             content,
         }

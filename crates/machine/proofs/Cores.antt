@@ -1,6 +1,6 @@
 -- A core step of a hart is a step of the protocol's machine.
 use Rattle.std.proofs.Common.{◌≡◌, ◌<◌, ◌≤◌, ℕ, List, [], length, Option, Some, None, refl, sym, ap, subst, ◌∙◌}
-use Rattle.std.specs.Prelude.{option_to_list, IsSome, IfSome, IfNone, Bool, false}
+use Rattle.std.specs.Prelude.{option_to_list, IsSome, IfSome, IfNone, false}
 use Rattle.std.specs.Option.{option_map, option_map_or}
 use Rattle.std.proofs.lemmas.Option.{slice_get_past}
 use Rattle.flat.specs.State.{idle}
@@ -9,7 +9,6 @@ use Rattle.protocol.specs.Start.{first_hart}
 use Rattle.words.specs.declared.entry.Step.TheVariants.{Core}
 use Rattle.table.specs.Program.{Segment}
 use Rattle.protocol.specs.Messages.{shown as shown_message}
-use Rattle.words.specs.declared.entry.Entry.{Entry}
 use Rattle.protocol.specs.Hart.{Hart, HartResult, gives}
 use Rattle.protocol.specs.Caches.{Geometry, HasRoom, MayName}
 use Rattle.protocol.specs.Core.{Move, Rests, Makes, Lacks, core_move, core_row}
@@ -21,6 +20,7 @@ use Rattle.hart.specs.Locals.{FollowsAlone, RetiresPlain}
 use Rattle.hart.specs.Shown.{shown_hart, lines_of}
 use Rattle.hart.specs.Rows.{setting_of as hart_setting, victim_of}
 use Rattle.machine.specs.Mail.{in_flight}
+use Rattle.machine.specs.declared.seat.Plain.{Plain}
 use Rattle.machine.specs.Rows.{stepped}
 use Rattle.machine.specs.States.{Seat, State, shown, geometry, hart_at, setting_of, IsSeated, IsSound}
 use Rattle.machine.proofs.Acting.{Acts, seat_before, hart_before, rests_still}
@@ -74,15 +74,16 @@ module _ (sets ways i : ℕ) (v w : State) (old new : Seat) (sound : IsSound set
   pub core_rests : Names sets ways old → MakesOf sets v.program.segments v.stamps old new None → Steps (geometry sets ways) (shown sets v) (Core i) None (shown sets v)
   core_rests names does = (victim_of sets old.hart.cache, named names, row_rests sets i _ v (row_of None does) a.number)
 
-  -- or the hart went on by itself, and its entry isn't told
-  pub advances : (r : Option Bool) → Names sets ways old → IfSome r (λ fresh. (e : Entry) × FollowsAlone sets (hart_setting v.program.segments old.hart) old.hart new.hart (Retired e) × RetiresPlain old.hart.index e) → IfNone r (new ≡ old)
+  -- or the hart went on by itself
+  pub advances : (r : Option Plain) → Names sets ways old → IfSome r (λ made. FollowsAlone sets (hart_setting v.program.segments old.hart) old.hart new.hart (Retired made.entry) × RetiresPlain old.hart.index made.entry) → IfNone r (new ≡ old)
       → new.output ≡ old.output → w.flights ≡ v.flights → w.sent ≡ v.sent → w.stamps ≡ v.stamps
-      → IfSome r (λ fresh. (e : Entry) × Steps (geometry sets ways) (shown sets v) (Core i) (Some e) (shown sets w) × RetiresPlain i e) × IsSound sets ways w
-  advances (Some fresh) names (e, does, plain) declined output flights sent stamps =
+      → IfSome r (λ made. Steps (geometry sets ways) (shown sets v) (Core i) (Some made.entry) (shown sets w) × RetiresPlain i made.entry) × IsSound sets ways w
+  advances (Some told) names (does, plain) declined output flights sent stamps =
+      let e = told.entry in
       let made : CoreStep = record { message = None; entry = Some e; stamped = false; output = None } in
       let row : MakesOf sets v.program.segments v.stamps old new (Some made) = (does old.output v.stamps (victim_of sets old.hart.cache)).row ∙ ap (λ o. Some (gives e (shown_hart sets o new.hart))) (sym output) in
       let all = core_makes made names row stamps (ap in_flight flights) in
-      ((e, all.0, subst (λ n. RetiresPlain n e) seated.index plain), all.1)
+      ((all.0, subst (λ n. RetiresPlain n e) seated.index plain), all.1)
   advances None names does declined output flights sent stamps =
       (tt {0}, subst (IsSound sets ways) (sym (rests_still i v w old new a declined flights sent stamps)) sound)
 

@@ -139,7 +139,10 @@ impl<const SETS: usize, const WAYS: usize> Machine<SETS, WAYS> {
         ensures err { OnErr result (self.new ≡ self.old) }
     {
         match step {
-            Step::Core(id) => self.core(id),
+            Step::Core(id) => match self.retire_plain(id) {
+                Some(entry) => Ok(Some(entry)),
+                None => self.core(id),
+            },
             Step::Evict(id, block) => self.evict(id, block),
             Step::Deliver(key) => self.deliver(key),
         }

@@ -1,7 +1,5 @@
-ghost use Rattle.std.specs.Prelude.{IfSome, IfNone};
 ghost use Rattle.machine.specs.States.{geometry};
-ghost use Rattle.board.specs.Boards.{IsRunning};
-ghost use Rattle.board.specs.Hubs.{IsLent, Settles, LendsAgain};
+ghost use Rattle.board.specs.Hubs.{Settles, Lends, LendsAgain};
 ghost use Rattle.board.specs.HubVisits.{Visits};
 
 use crate::hub::Hub;
@@ -17,12 +15,11 @@ impl<'p, const SETS: usize, const WAYS: usize, J: Journal> Desk for Hub<'p, SETS
 
     ghost visits = { Visits (geometry SETS WAYS) J.tells };
 
+    ghost lends = { Lends };
+
     ghost lends_again = { LendsAgain };
 
-    fn lend(&self, id: HartId) -> Option<Loan<'p, SETS, WAYS>>
-        ensures some { IfSome result (IsLent self.now id) }
-        ensures none { IfNone result (IsRunning self.now.machine id → ⊥) }
-    {
+    fn lend(&self, id: HartId) -> Option<Loan<'p, SETS, WAYS>> {
         Hub::lend(self, id)
     }
 

@@ -45,6 +45,8 @@ impl<'p> Desk for Noted<'p> {
 
     ghost visits = { λ _ _ _ _. Unit };
 
+    ghost lends = { λ _ _ _. Unit };
+
     ghost lends_again = { λ _ _ _ _ _. Unit };
 
     fn lend(&self, id: HartId) -> Option<Loan<'p>> {
