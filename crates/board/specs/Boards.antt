@@ -76,7 +76,7 @@ abbrev pub Settles : Recorded → Lent → Result Unit Refusal → Recorded → 
 Settles b l (Ok u) c = Fits b l × (c ≡ settled b l)
 Settles b l (Err why) c = IsRefusedFor b l why × (c ≡ b)
 
--- hart i is lent just if it runs
+-- hart i is lent if and only if it runs
 abbrev pub Lends : ℕ → Recorded → Option Lent → Type 0
 Lends i b (Some l) = IsLent b i l
 Lends i b None = IsRunning b.machine i → ⊥

@@ -121,7 +121,7 @@ module _ {J : Type 0} where
   Settles tells h l (Ok u) k = Fits h l × IsSettled tells h l k
   Settles tells h l (Err why) k = IsRefusedFor h l why × IsAsBefore tells h k
 
-  -- hart i is lent just if it runs
+  -- hart i is lent if and only if it runs
   abbrev pub Lends : ℕ → Held J → Option Loaned → Type 0
   Lends i h (Some l) = IsLent h i l
   Lends i h None = IsRunning h.machine i → ⊥

@@ -74,10 +74,5 @@ fn is_empty(set: &HartSet, harts: usize) -> bool
     requires { harts ≤ most_harts }
     ensures { IsTrue result ↔ ((h : ℕ) → h < harts → names set.now h ≡ false) }
 {
-    for h in 0..harts {
-        if set.contains(HartId::new(h as u8)) {
-            return false;
-        }
-    }
-    true
+    set.first(harts).is_empty()
 }

@@ -17,12 +17,9 @@ fn is_alone(sharers: &HartSet, hart: HartId, harts: usize) -> bool
     requires { harts ≤ most_harts }
     ensures { result ≡ is_alone harts hart (names sharers.now) }
 {
-    let mut alone = true;
-    for h in 0..harts {
-        let other = HartId::new(h as u8);
-        alone = alone && (h == hart.index() || !sharers.contains(other));
-    }
-    alone
+    let mut others = sharers.first(harts);
+    others.remove(hart);
+    others.is_empty()
 }
 
 /// S for a read and M for a write.
@@ -121,11 +118,11 @@ pub(crate) fn forward(sends: &mut Sends, expect: &HartSet, request: &Request, ha
     ensures { messages_of sends.new ≡ messages_of sends.old
         ++ forwards harts (names expect.now) request.now.block request.now.kind request.now.requester request.now.stamp }
 {
-    for h in 0..harts {
-        let to = HartId::new(h as u8);
-        if expect.contains(to) {
-            push(sends, &forward_to(to, request));
-        }
+    let asked = expect.first(harts);
+    let mut from = 0;
+    while let Some(to) = asked.next(from) {
+        push(sends, &forward_to(to, request));
+        from = to.index() + 1;
     }
 }
 

@@ -1,28 +1,42 @@
--- Whether the harts that are expected have answered.
-use Rattle.std.proofs.Common.{◌≡◌, ◌<◌, ◌&&◌, ◌||◌, ◌∙◌, ℕ, zero, suc, Bool, true, false, not, nat_lt, refl, sym, ap, arith}
-use Rattle.std.proofs.lemmas.Bool.{ltb-true}
-use Rattle.std.proofs.lemmas.Bool.Decides.{nat_tests}
+-- Whether the harts that are expected have answered, by sets of harts.
+use Rattle.std.proofs.Common.{◌≡◌, ◌<◌, ◌&&◌, ◌||◌, ◌↔◌, ◌∙◌, ℕ, zero, suc, Bool, true, false, not, nat_lt, inl, inr, refl, sym, arith}
+use Rattle.std.proofs.lemmas.Bool.{and_parts, cases_eq, ltb-true}
+use Rattle.std.proofs.lemmas.Bool.Decides.{nat_tests, same_from_decides}
+use Rattle.std.specs.Prelude.{IsTrue}
 use Rattle.protocol.specs.Requests.{have_answered}
 
-and-false : (p q : Bool) → q ≡ false → p && q ≡ false
-and-false true q is = is
-and-false false q is = refl
+module _ (expect answered : ℕ → Bool) where
+  -- each hart below n that is expected has answered
+  abbrev EachAnswered : ℕ → Type 0
+  EachAnswered n = (h : ℕ) → h < n → expect h ≡ true → answered h ≡ true
 
--- whether a hart has answered, or needn't
-abbrev answers : (ℕ → Bool) → (ℕ → Bool) → ℕ → Bool
-answers expect answered h = not (expect h) || answered h
+  each : (n : ℕ) → have_answered n expect answered ≡ true → EachAnswered n
+  each zero all h low asked = absurd (omega arith)
+  each (suc n) all h low asked =
+      let parts = and_parts (have_answered n expect answered) (not (expect n) || answered n) all in
+      elim (cases_eq h n) [
+        | inl same ↦ rw same (let last : expect n ≡ true = rw same at asked in grind (arith, parts.1, last))
+        | inr below ↦ each n parts.0 h (omega arith) asked
+      ]
 
--- the hart who lacks is the last one, or is among those before
-lacks-last : (t : Bool) (n h : ℕ) (expect answered : ℕ → Bool) → nat_lt h n ≡ t → h < suc n → answers expect answered h ≡ false →
-    (h < n → have_answered n expect answered ≡ false) → have_answered (suc n) expect answered ≡ false
-lacks-last true n h expect answered is within lack before =
-    ap (λ (all : Bool). all && answers expect answered n) (before (ltb-true h n is))
-lacks-last false n h expect answered is within lack before =
-    let last : h ≡ n = grind (arith, nat_tests) in
-    and-false (have_answered n expect answered) (answers expect answered n) (ap (answers expect answered) (sym last) ∙ lack)
+  -- the last one needn't answer, or has
+  last_answers : (e a : Bool) → (e ≡ true → a ≡ true) → not e || a ≡ true
+  last_answers true a has = has refl
+  last_answers false a has = refl
 
--- where one hart lacks, not all have answered
-pub lacks : (n h : ℕ) (expect answered : ℕ → Bool) → h < n → expect h ≡ true → answered h ≡ false → have_answered n expect answered ≡ false
-lacks zero h expect answered within asked lack = absurd (omega arith)
-lacks (suc n) h expect answered within asked lack =
-    lacks-last (nat_lt h n) n h expect answered refl within (rw (asked, lack) refl) (λ below. lacks n h expect answered below asked lack)
+  all_of : (n : ℕ) → EachAnswered n → have_answered n expect answered ≡ true
+  all_of zero all = refl
+  all_of (suc n) all =
+      let before : have_answered n expect answered ≡ true = all_of n (λ h low. all h (omega arith)) in
+      let last : not (expect n) || answered n ≡ true = last_answers (expect n) (answered n) (all n (omega arith)) in
+      rw before last
+
+  -- the test whether the harts below n that are expected are a subset of those that have answered
+  pub have_answered-subset : (n : ℕ) (asked : ℕ → Bool) (subset : Bool) → ((h : ℕ) → asked h ≡ expect h && nat_lt h n)
+      → (IsTrue subset ↔ ((h : ℕ) → asked h ≡ true → answered h ≡ true)) → subset ≡ have_answered n expect answered
+  have_answered-subset n asked subset first test =
+      let some : IsTrue subset → EachAnswered n = λ is h low named. test.0 is h (grind (arith, nat_tests, first h)) in
+      let all : EachAnswered n → IsTrue subset = λ each. test.1 (λ h named.
+      let parts = and_parts (expect h) (nat_lt h n) (sym (first h) ∙ named) in
+      each h (ltb-true h n parts.1) parts.0) in
+      same_from_decides subset (have_answered n expect answered) (some, all) (each n, all_of n)

@@ -26,7 +26,7 @@ decides_granted a b =
     Decides-like _ (λ h. search rules) (λ e. search rules)
     (Decides-and _ _ (decides_state a.give b.give)
     (Decides-and _ _ (pointwise_decides Decides-eqb a.content b.content)
-    (pointwise_decides booleans_Decides a.expect b.expect)))
+    (Decides-eqb a.expect b.expect)))
 
 pub decides_request : (a b : Request) → Decides ((request.ghosts).eq a b) (a ≡ b)
 decides_request a b =
@@ -34,7 +34,7 @@ decides_request a b =
     (Decides-and _ _ (Decides-eqb a.block b.block)
     (Decides-and _ _ (decides_kind a.kind b.kind)
     (Decides-and _ _ (decides_option decides_granted a.grant b.grant)
-    (Decides-and _ _ (pointwise_decides booleans_Decides a.answered b.answered)
+    (Decides-and _ _ (Decides-eqb a.answered b.answered)
     (Decides-and _ _ (booleans_Decides a.refused b.refused)
     (Decides-and _ _ (decides_option (pointwise_decides Decides-eqb) a.content b.content)
     (booleans_Decides a.earlier b.earlier)))))))

@@ -17,7 +17,7 @@ use words::{Block, BlockNo, Entry, HartId, Kind, LineState, Message, Stamp};
 
 impl<const SETS: usize, const WAYS: usize> Hart<SETS, WAYS> {
     ghost use Rattle.hart.specs.Parts.{StaysPut};
-    ghost use Rattle.hart.specs.Shown.{shown_line, shown_tx, shown_hart, shown_granted, lines_of};
+    ghost use Rattle.hart.specs.Shown.{shown_line, shown_tx, shown_hart, shown_granted};
     ghost use Rattle.hart.specs.Rows.{replied};
 
     /// Does what the protocol's row for the message says. A message that the hart doesn't await, or that is for the directory,
@@ -82,11 +82,12 @@ impl<const SETS: usize, const WAYS: usize> Hart<SETS, WAYS> {
             ≡ replied SETS output self.new result }
         ensures stays { StaysPut self.old self.new }
     {
-        if self.refuses(block, kind) {
+        let line = self.line(block);
+        if self.refuses(&line, kind) {
             return self.refuse(block, requester, stamp);
         }
-        let content = self.content_held(block);
-        self.give(block, kind);
+        let content = self.content_held(block, &line);
+        self.give(block, &line, kind);
         Reply {
             message: Some(Message::Ack {
                 from: self.index,
@@ -99,11 +100,11 @@ impl<const SETS: usize, const WAYS: usize> Hart<SETS, WAYS> {
     }
 
     /// Whether the hart keeps a block from others: by the marks of its line, or without a line if it has overflowed.
-    fn refuses(&self, block: BlockNo, kind: Kind) -> bool
-        ensures { result ≡ refuses (lines_of SETS self.now.cache block) (overflow_of (shown_tx self.now.tx)) kind }
+    fn refuses(&self, line: &Option<Line>, kind: Kind) -> bool
+        ensures { result ≡ refuses (option_map shown_line line.now) (overflow_of (shown_tx self.now.tx)) kind }
     {
         let overflow = self.overflow();
-        match self.line(block) {
+        match line {
             Some(line) => refuses(Some(line.marks), overflow, kind),
             None => refuses(None, overflow, kind),
         }
@@ -132,29 +133,34 @@ impl<const SETS: usize, const WAYS: usize> Hart<SETS, WAYS> {
         }
     }
 
-    /// The content that memory may lack: of an E or M line, or of the Put that isn't over.
-    fn content_held(&self, block: BlockNo) -> Option<Block>
+    /// The content of a block that memory may lack: of its line, if that is E or M, else of the Put that isn't over.
+    fn content_held(&self, block: BlockNo, line: &Option<Line>) -> Option<Block>
+        requires { line.now ≡ line_at SETS self.now.cache block }
         ensures { (output : List ℕ) → result ≡ content_held block (shown_hart SETS output self.now) }
     {
-        self.owned_content(block).or(self.put_content(block))
+        match line {
+            Some(line) if line.state.is_owned() => Some(line.content),
+            _ => self.put_content(block),
+        }
     }
 
-    /// Shares a block's line, or gives it up.
-    fn give(&mut self, block: BlockNo, kind: Kind)
-        requires { refuses (lines_of SETS self.old.cache block) (overflow_of (shown_tx self.old.tx)) kind ≡ false }
+    /// Shares a block's line, or gives it up. Without a line there is nothing to do.
+    fn give(&mut self, block: BlockNo, line: &Option<Line>, kind: Kind)
+        requires line { line.now ≡ line_at SETS self.old.cache block }
+        requires block { IfSome line.now (λ line. line.block ≡ block) }
+        requires meets { refuses (option_map shown_line line.now) (overflow_of (shown_tx self.old.tx)) kind ≡ false }
         ensures hart { (output : List ℕ) → let h = shown_hart SETS output self.old in
             shown_hart SETS output self.new ≡ with_line block (line_given kind (h.lines block)) h }
         ensures stays { StaysPut self.old self.new }
     {
+        let Some(line) = line else {
+            return;
+        };
         match kind {
-            Kind::Read => {
-                if let Some(line) = self.line(block) {
-                    self.cache.replace(Line {
-                        state: LineState::Shared,
-                        ..line
-                    });
-                }
-            }
+            Kind::Read => self.cache.replace(Line {
+                state: LineState::Shared,
+                ..*line
+            }),
             Kind::Write => self.cache.invalidate(block),
         }
     }
@@ -210,6 +216,7 @@ impl<const SETS: usize, const WAYS: usize> Hart<SETS, WAYS> {
     }
 
     /// Ends the request that is out, which has got another answer, if that was the last one; else waits on.
+    #[inline(always)]
     fn settle(&mut self) -> Reply
         ensures row { (output : List ℕ) (r : ProtocolRequest) → let h = shown_hart SETS output self.old in
             h.request ≡ Some r → granted_so_far self.old.harts self.old.index r r.grant h ≡ replied SETS output self.new result }

@@ -141,13 +141,7 @@ pub(crate) fn have_answered(expect: &HartSet, answered: &HartSet, harts: usize) 
     requires { harts ≤ most_harts }
     ensures { result ≡ have_answered harts (names expect.now) (names answered.now) }
 {
-    for h in 0..harts {
-        let hart = HartId::new(h as u8);
-        if expect.contains(hart) && !answered.contains(hart) {
-            return false;
-        }
-    }
-    true
+    expect.first(harts).is_subset(answered)
 }
 
 /// What a requester tells the directory of the content that it was given: memory needs it only where the block is shared from now

@@ -16,11 +16,11 @@ use Rattle.protocol.specs.Network.{Sends}
 use Rattle.protocol.specs.Machine.{Steps, MayLack, MayNameIn, stamps_after}
 use Rattle.hart.specs.declared.reply.CoreStep.{CoreStep}
 use Rattle.hart.specs.declared.reply.Local.TheVariants.{Retired}
+use Rattle.words.specs.declared.entry.Entry.{Entry}
 use Rattle.hart.specs.Locals.{FollowsAlone, RetiresPlain}
 use Rattle.hart.specs.Shown.{shown_hart, lines_of}
 use Rattle.hart.specs.Rows.{setting_of as hart_setting, victim_of}
 use Rattle.machine.specs.Mail.{in_flight}
-use Rattle.machine.specs.declared.seat.Plain.{Plain}
 use Rattle.machine.specs.Rows.{stepped}
 use Rattle.machine.specs.States.{Seat, State, shown, geometry, hart_at, setting_of, IsSeated, IsSound}
 use Rattle.machine.proofs.Acting.{Acts, seat_before, hart_before, rests_still}
@@ -75,11 +75,10 @@ module _ (sets ways i : ℕ) (v w : State) (old new : Seat) (sound : IsSound set
   core_rests names does = (victim_of sets old.hart.cache, named names, row_rests sets i _ v (row_of None does) a.number)
 
   -- or the hart went on by itself
-  pub advances : (r : Option Plain) → Names sets ways old → IfSome r (λ made. FollowsAlone sets (hart_setting v.program.segments old.hart) old.hart new.hart (Retired made.entry) × RetiresPlain old.hart.index made.entry) → IfNone r (new ≡ old)
+  pub advances : (r : Option Entry) → Names sets ways old → IfSome r (λ e. FollowsAlone sets (hart_setting v.program.segments old.hart) old.hart new.hart (Retired e) × RetiresPlain old.hart.index e) → IfNone r (new ≡ old)
       → new.output ≡ old.output → w.flights ≡ v.flights → w.sent ≡ v.sent → w.stamps ≡ v.stamps
-      → IfSome r (λ made. Steps (geometry sets ways) (shown sets v) (Core i) (Some made.entry) (shown sets w) × RetiresPlain i made.entry) × IsSound sets ways w
-  advances (Some told) names (does, plain) declined output flights sent stamps =
-      let e = told.entry in
+      → IfSome r (λ e. Steps (geometry sets ways) (shown sets v) (Core i) (Some e) (shown sets w) × RetiresPlain i e) × IsSound sets ways w
+  advances (Some e) names (does, plain) declined output flights sent stamps =
       let made : CoreStep = record { message = None; entry = Some e; stamped = false; output = None } in
       let row : MakesOf sets v.program.segments v.stamps old new (Some made) = (does old.output v.stamps (victim_of sets old.hart.cache)).row ∙ ap (λ o. Some (gives e (shown_hart sets o new.hart))) (sym output) in
       let all = core_makes made names row stamps (ap in_flight flights) in

@@ -27,6 +27,7 @@ pub fn receiver(message: &Message) -> Option<HartId>
 }
 
 /// Takes the message under a key, where there is one, out of flight.
+#[inline(always)]
 pub fn take(net: &mut Net, key: usize)
     requires { IsSome (in_flight net.old.slots key) }
     ensures flight { in_flight net.new.slots ≡ taken key (in_flight net.old.slots) }
@@ -37,6 +38,7 @@ pub fn take(net: &mut Net, key: usize)
 }
 
 /// Sends a message, if there is one.
+#[inline(always)]
 pub fn send(net: &mut Net, message: Option<Message>)
     requires { 0 < net.old.room }
     ensures sends { Sends (in_flight net.old.slots) (option_to_list (option_map shown message)) (in_flight net.new.slots) }
@@ -48,6 +50,7 @@ pub fn send(net: &mut Net, message: Option<Message>)
 }
 
 /// Sends what the directory answers to a message.
+#[inline(always)]
 pub fn send_answer(net: &mut Net, answer: &Answer, harts: usize)
     requires harts { harts ≤ most_harts }
     requires room { most_harts < net.old.room }
@@ -90,6 +93,7 @@ pub fn send_answer(net: &mut Net, answer: &Answer, harts: usize)
 }
 
 /// Forwards a request to each hart of a set, by rising number.
+#[inline(always)]
 fn forward(net: &mut Net, request: &Request, expect: &HartSet, harts: usize)
     requires harts { harts ≤ most_harts }
     requires room { harts ≤ net.old.room }
@@ -98,16 +102,16 @@ fn forward(net: &mut Net, request: &Request, expect: &HartSet, harts: usize)
         (in_flight net.new.slots) }
     ensures numbers { NumbersOn net.old.slots net.old.next net.new.slots net.new.next }
 {
-    for h in 0..harts {
-        let to = HartId::new(h as u8);
-        if expect.contains(to) {
-            net.send(Message::Forward {
-                to,
-                block: request.block,
-                kind: request.kind,
-                requester: request.requester,
-                stamp: request.stamp,
-            });
-        }
+    let asked = expect.first(harts);
+    let mut from = 0;
+    while let Some(to) = asked.next(from) {
+        net.send(Message::Forward {
+            to,
+            block: request.block,
+            kind: request.kind,
+            requester: request.requester,
+            stamp: request.stamp,
+        });
+        from = to.index() + 1;
     }
 }

@@ -1,10 +1,10 @@
-ghost use Rattle.std.specs.Prelude.{◌≡◌, ℕ, Option, None, is_some, count_by, IfOk, IfSome, IfNone, OnErr, MatchBool};
+ghost use Rattle.std.specs.Prelude.{◌≡◌, ◌<◌, ℕ, Option, None, is_some, count_by, IfOk, IfSome, IfNone, OnErr, MatchBool};
 ghost use Rattle.std.specs.List.{slice_index_or};
 ghost use Rattle.std.specs.Option.{option_map};
 ghost use Rattle.words.specs.declared.entry.Step.{Step as StepValue};
 ghost use Rattle.words.specs.declared.entry.Step.TheVariants.{Core, Evict};
 ghost use Rattle.flat.specs.State.{Flat};
-ghost use Rattle.network.specs.Flights.{AreNumbered};
+ghost use Rattle.network.specs.Flights.{AreNumbered, IsNewest, HasNewestArrived};
 ghost use Rattle.isolation.specs.Belongs.{Belongs};
 ghost use Rattle.machine.specs.Turns.{IsNextTurn, TakesTurn, hart_after};
 ghost use Rattle.machine.specs.Watch.{IsOver, IsEnabled};
@@ -72,6 +72,15 @@ impl<const SETS: usize, const WAYS: usize> Machine<SETS, WAYS> {
         ensures { option_map (λ flight. flight.now) result ≡ slice_index_or self.now.flights key None }
     {
         self.net.peek_flight(key)
+    }
+
+    /// The key of the message that was sent last, if it is in flight. It isn't said once the numbers have come to their end.
+    #[inline(always)]
+    pub fn newest(&self) -> Option<usize>
+        ensures some { self.now.sent < 18446744073709551615 → IfSome result (IsNewest self.now.flights self.now.sent) }
+        ensures none { self.now.sent < 18446744073709551615 → IfNone result (HasNewestArrived self.now.flights self.now.sent) }
+    {
+        self.net.newest()
     }
 
     /// Whether a hart's core has a step to make.

@@ -1,5 +1,5 @@
 -- The messages in flight, as a map from keys.
-use Rattle.std.specs.Prelude.{ℕ, ◌≡◌, ◌<◌, ◌≤◌, ◌+◌, ◌⊎◌, min, Bool, true, false, ◌||◌, ◌&&◌, ◌==◌, List, Option, Some, None, cond, nat_le, nat_lt}
+use Rattle.std.specs.Prelude.{ℕ, ◌≡◌, ◌≢◌, ◌<◌, ◌≤◌, ◌+◌, ◌%◌, ◌⊎◌, min, slice_index, Bool, true, false, ◌||◌, ◌&&◌, ◌==◌, List, Option, Some, None, cond, nat_le, nat_lt}
 use Rattle.std.specs.Option.{option_map}
 use Rattle.std.specs.List.{slice_index_or}
 use Rattle.words.specs.declared.message.Message.{Message}
@@ -22,6 +22,13 @@ message_at net key = option_map (λ f. f.message) (slice_index_or net.slots key 
 abbrev pub AreNumbered : List (Option Flight) → ℕ → Type 0
 AreNumbered slots next = (key : ℕ) (f : Flight) → slice_index_or slots key None ≡ Some f → min (f.number + 1) 18446744073709551615 ≤ next
 
+-- no message in flight has a number below the first, and the last 64 numbers have their keys, each where its remainder says, while their messages are in flight
+pub record AreInOrder (slots : List (Option Flight)) (next first : ℕ) (keys : List ℕ) : Type 0 where
+  pub before : first ≤ next
+  pub range : next ≤ 18446744073709551615
+  pub above : (key : ℕ) (f : Flight) → slice_index_or slots key None ≡ Some f → first ≤ f.number
+  pub recent : (key : ℕ) (f : Flight) → slice_index_or slots key None ≡ Some f → next < 18446744073709551615 → next ≤ f.number + 64 → slice_index keys (f.number % 64) ≡ key
+
 -- no message in flight passes a test
 abbrev pub NonePasses : (Message → Bool → Type 0) → Flights → Type 0
 NonePasses answers net = (key : ℕ) (f : Flight) → flight_at net key ≡ Some f → answers f.message false
@@ -36,6 +43,17 @@ pub record IsOldest (answers : Message → Bool → Type 0) (net : Flights) (key
   pub here : flight_at net key ≡ Some flight
   pub passes : answers flight.message true
   pub first : (other : ℕ) (g : Flight) → flight_at net other ≡ Some g → answers g.message false ⊎ IsSentBefore flight key g other
+
+-- the message under the key is the last that was sent, and every other in flight was sent before
+pub record IsNewest (slots : List (Option Flight)) (next key : ℕ) : Type 0 where
+  pub flight : Flight
+  pub here : slice_index_or slots key None ≡ Some flight
+  pub last : flight.number + 1 ≡ next
+  pub others : (other : ℕ) (g : Flight) → other ≢ key → slice_index_or slots other None ≡ Some g → g.number < flight.number
+
+-- the last message that was sent has arrived
+abbrev pub HasNewestArrived : List (Option Flight) → ℕ → Type 0
+HasNewestArrived slots next = (key : ℕ) (f : Flight) → slice_index_or slots key None ≡ Some f → f.number + 1 < next
 
 -- a flight under a key comes after the one under the last key: by its number, at one number by its key. Without a last key, and where
 -- nothing is under it, every flight does

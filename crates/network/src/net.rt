@@ -1,7 +1,7 @@
-ghost use Rattle.std.specs.Prelude.{◌≡◌, ◌≢◌, ◌+◌, ◌<◌, ◌≤◌, ◌↔◌, ℕ, Some, None, min, IsTrue, OnOk, OnErr, IsSome, IfSome, IfNone, is_some, count_by};
+ghost use Rattle.std.specs.Prelude.{◌≡◌, ◌≢◌, ◌+◌, ◌%◌, ◌<◌, ◌≤◌, ◌↔◌, ℕ, Some, None, min, IsTrue, OnOk, OnErr, IsSome, IsSomeAnd, IfSome, IfNone, is_some, count_by, slice_index};
 ghost use Rattle.std.specs.Fn.{FnReturnsAt};
 ghost use Rattle.std.specs.Option.{option_map};
-ghost use Rattle.network.specs.Flights.{message_at, flight_at, AreNumbered, IsOldest, NonePasses, IsNext, NoneAfter, position_of, is_after, is_earlier, first_of};
+ghost use Rattle.network.specs.Flights.{message_at, flight_at, AreNumbered, AreInOrder, IsOldest, IsNewest, HasNewestArrived, NonePasses, IsNext, NoneAfter, position_of, is_after, is_earlier, first_of};
 ghost use Rattle.slab.specs.Slab.{HasRoomFor, Updates, get, slab_len};
 
 use slab::Slab;
@@ -16,23 +16,30 @@ pub struct Flight {
     pub number: u64,
 }
 
+/// How many messages back a net knows the order of sending.
+const RECENT: u64 = 64;
+
 /// The messages in flight, each under a key.
 #[derive(Drop)]
 pub struct Net {
     slab: Slab<Flight>,
     next: u64,
+    /// No message in flight has a lower number.
+    first: u64,
+    /// The keys under which the last messages were sent, each where its number's remainder says.
+    keys: [usize; RECENT as usize],
 }
 
 impl Model for Net {
     ghost use Rattle.std.specs.Prelude.{◌-◌, ◌≤◌};
     ghost use Rattle.slab.specs.Slab.{slab_len};
-    ghost use Rattle.network.specs.Flights.{Flights, AreNumbered};
+    ghost use Rattle.network.specs.Flights.{Flights, AreNumbered, AreInOrder};
 
     ghost Value = { Flights };
 
     ghost view = { λ n. record { slots = n.slab.slots; next = n.next; room = n.slab.capacity - slab_len n.slab } };
 
-    ghost invariant = { λ n. (slab_len n.slab ≤ n.slab.capacity) × AreNumbered n.slab.slots n.next };
+    ghost invariant = { λ n. (slab_len n.slab ≤ n.slab.capacity) × AreNumbered n.slab.slots n.next × AreInOrder n.slab.slots n.next n.first n.keys };
 }
 
 impl Net {
@@ -44,6 +51,8 @@ impl Net {
         Net {
             slab: Slab::new(alloc),
             next: 0,
+            first: 0,
+            keys: [0; RECENT as usize],
         }
     }
 
@@ -100,6 +109,7 @@ impl Net {
     }
 
     /// Sends a message under a free key, which it answers.
+    #[inline(always)]
     pub fn send(&mut self, message: Message) -> usize
         requires { 0 < self.old.room }
         ensures free { flight_at self.old result ≡ None }
@@ -110,8 +120,10 @@ impl Net {
         ensures room { self.new.room + 1 ≡ self.old.room }
     {
         let number = self.next;
-        self.next = self.next.saturating_add(1);
-        put(&mut self.slab, Flight { message, number })
+        let key = put(&mut self.slab, Flight { message, number });
+        self.keys[(number % RECENT) as usize] = key;
+        self.next = number.saturating_add(1);
+        key
     }
 
     /// The message under a key.
@@ -154,6 +166,7 @@ impl Net {
     }
 
     /// Takes the message under a key out.
+    #[inline(always)]
     pub fn take(&mut self, key: usize) -> Option<Message>
         ensures value { result ≡ message_at self.old key }
         ensures taken { flight_at self.new key ≡ None }
@@ -163,13 +176,38 @@ impl Net {
         ensures none { result ≡ None → self.new ≡ self.old }
     {
         match self.slab.try_remove(key) {
-            Some(flight) => Some(flight.message),
+            Some(flight) => {
+                self.first = first_from(&self.slab, &self.keys, self.first, self.next);
+                Some(flight.message)
+            }
             None => None,
         }
     }
 
     /// The key of the message that was sent first among those that pass: the lowest number, and at one number the lowest key.
     pub fn oldest<F: Fn(&Message) -> bool>(&self, passes: F) -> Option<usize>
+        requires { F.IsAlwaysCallable passes }
+        ensures none { IfNone result (NonePasses (FnReturnsAt F.Fn passes) self.now) }
+        ensures some { IfSome result (λ key. IsOldest (FnReturnsAt F.Fn passes) self.now key) }
+    {
+        if !is_known(self.first, self.next) {
+            return self.oldest_of_all(passes);
+        }
+        for number in self.first..self.next {
+            if let Some(key) = key_of(&self.slab, &self.keys, number) {
+                if let Some(flight) = self.slab.get(key) {
+                    if passes(&flight.message) {
+                        return Some(key);
+                    }
+                }
+            }
+        }
+        None
+    }
+
+    /// The same, by a look at all messages in flight.
+    #[inline(never)]
+    fn oldest_of_all<F: Fn(&Message) -> bool>(&self, passes: F) -> Option<usize>
         requires { F.IsAlwaysCallable passes }
         ensures none { IfNone result (NonePasses (FnReturnsAt F.Fn passes) self.now) }
         ensures some { IfSome result (λ key. IsOldest (FnReturnsAt F.Fn passes) self.now key) }
@@ -190,6 +228,18 @@ impl Net {
             Some((key, _)) => Some(key),
             None => None,
         }
+    }
+
+    /// The key of the message that was sent last, if it is in flight. It isn't said once the numbers have come to their end.
+    #[inline(always)]
+    pub fn newest(&self) -> Option<usize>
+        ensures some { self.now.next < 18446744073709551615 → IfSome result (IsNewest self.now.slots self.now.next) }
+        ensures none { self.now.next < 18446744073709551615 → IfNone result (HasNewestArrived self.now.slots self.now.next) }
+    {
+        if self.next == 0 {
+            return None;
+        }
+        key_of(&self.slab, &self.keys, self.next - 1)
     }
 
     /// A key, and the number of the message under it.
@@ -221,6 +271,47 @@ impl Net {
             None => None,
         }
     }
+}
+
+/// Whether the order of sending is known from a number on, where this is the next.
+#[inline(always)]
+fn is_known(first: u64, next: u64) -> bool
+    requires { first ≤ next }
+    ensures { IsTrue result ↔ ((next < 18446744073709551615) × (next ≤ first + 64)) }
+{
+    next < u64::MAX && next - first <= RECENT
+}
+
+/// The key of the message with a number, if it is in flight where the last message with the number's remainder was sent.
+#[inline(always)]
+fn key_of(slab: &Slab<Flight>, keys: &[usize; RECENT as usize], number: u64) -> Option<usize>
+    ensures some { IfSome result (λ key. IsSomeAnd (get slab.now key) (λ f. f.number ≡ number)) }
+    ensures none { IfNone result ((f : Flight) → get slab.now (slice_index keys.now (number % 64)) ≡ Some f → f.number ≢ number) }
+{
+    let key = keys[(number % RECENT) as usize];
+    match slab.get(key) {
+        Some(flight) if flight.number == number => Some(key),
+        _ => None,
+    }
+}
+
+/// A number from the first on below which no message is in flight.
+#[inline(always)]
+fn first_from(slab: &Slab<Flight>, keys: &[usize; RECENT as usize], first: u64, next: u64) -> u64
+    requires { first ≤ next }
+    ensures { AreInOrder slab.now.slots next first keys.now → AreInOrder slab.now.slots next result keys.now }
+{
+    if slab.is_empty() {
+        return next;
+    }
+    let mut number = first;
+    while number < next && is_known(number, next) {
+        if key_of(slab, keys, number).is_some() {
+            return number;
+        }
+        number += 1;
+    }
+    number
 }
 
 /// Whether a number under a key comes after the last key with its number.

@@ -1,9 +1,11 @@
 -- Flights that are counted key by key.
-use Rattle.std.proofs.Common.{◌≡◌, ◌≤◌, ◌<◌, ◌+◌, ℕ, zero, suc, Bool, true, false, List, [], ◌∷◌, take, Option, Some, None, cond, refl, sym, ap, ◌∙◌, arith, add-one}
+use Rattle.std.proofs.Common.{◌≡◌, ◌≢◌, ◌≤◌, ◌<◌, ◌+◌, ℕ, zero, suc, Bool, true, false, List, [], ◌∷◌, take, Option, Some, None, cond, refl, sym, ap, ◌∙◌, arith, add-one}
 use Rattle.std.specs.Prelude.{◌&&◌, count_by, is_some, nat_le}
 use Rattle.std.specs.List.{slice_index_or}
 use Rattle.std.proofs.lemmas.Bool.{le-leb, lt-leb}
+use Rattle.std.proofs.lemmas.Option.{same_Some}
 use Rattle.network.specs.declared.net.Flight.{Flight}
+use Rattle.network.specs.Flights.{IsNewest}
 use Rattle.protocol.specs.Messages.{shown}
 use Rattle.watch.specs.Kinds.{one_if}
 use Rattle.watch.specs.declared.figures.Sum.{Sum}
@@ -118,13 +120,40 @@ early : (sent : ℕ) (s : Sum) (x : Option Flight) → ((f : Flight) → x ≡ S
 early sent s None below = refl
 early sent s (Some f) below = ap (λ (b : Bool). b && is_same s (sum_of_message (shown f.message))) (lt-leb sent f.number (below f refl))
 
-pub none_sent : (sent : ℕ) (s : Sum) (flights : List (Option Flight)) → ((key : ℕ) (f : Flight) → slice_index_or flights key None ≡ Some f → f.number < sent) → count_by (was_sent sent s) flights ≡ 0
-none_sent sent s [] below = refl
-none_sent sent s (x ∷ xs) below =
-    let first : count_by (was_sent sent s) (x ∷ xs) ≡ cond (was_sent sent s x) 1 0 + count_by (was_sent sent s) xs = sum_by-cons (λ o. cond (was_sent sent s o) 1 0) x xs in
-    let here : cond (was_sent sent s x) 1 0 ≡ 0 = ap (λ (b : Bool). cond {A = ℕ} b 1 0) (early sent s x (below 0)) in
-    let rest : count_by (was_sent sent s) xs ≡ 0 = none_sent sent s xs (λ key f at. below (suc key) f at) in
+none_of : {T : Type 0} (p : Option T → Bool) (slots : List (Option T)) → ((key : ℕ) → p (slice_index_or slots key None) ≡ false) → count_by p slots ≡ 0
+none_of p [] none = refl
+none_of p (x ∷ xs) none =
+    let first : count_by p (x ∷ xs) ≡ cond (p x) 1 0 + count_by p xs = sum_by-cons (λ o. cond (p o) 1 0) x xs in
+    let here : cond (p x) 1 0 ≡ 0 = ap (λ (b : Bool). cond {A = ℕ} b 1 0) (none 0) in
+    let rest : count_by p xs ≡ 0 = none_of p xs (λ key. none (suc key)) in
     omega (arith, first, here, rest)
+
+pub none_sent : (sent : ℕ) (s : Sum) (flights : List (Option Flight)) → ((key : ℕ) (f : Flight) → slice_index_or flights key None ≡ Some f → f.number < sent) → count_by (was_sent sent s) flights ≡ 0
+none_sent sent s flights below = none_of (was_sent sent s) flights (λ key. early sent s (slice_index_or flights key None) (below key))
+
+-- where each but that under one key was sent before, that one is all that is counted
+pub one_counted : {T : Type 0} (p : Option T → Bool) → p None ≡ false → (slots : List (Option T)) (key : ℕ) → ((other : ℕ) → other ≢ key → p (slice_index_or slots other None) ≡ false)
+    → count_by p slots ≡ one_if (p (slice_index_or slots key None))
+one_counted p none [] key others = sym (ap one_if none)
+one_counted p none (x ∷ xs) zero others =
+    let first : count_by p (x ∷ xs) ≡ cond (p x) 1 0 + count_by p xs = sum_by-cons (λ o. cond (p o) 1 0) x xs in
+    let rest : count_by p xs ≡ 0 = none_of p xs (λ other. others (suc other) (λ e. omega (arith, e))) in
+    omega (arith, first, rest, as_one (p x))
+one_counted p none (x ∷ xs) (suc key) others =
+    let first : count_by p (x ∷ xs) ≡ cond (p x) 1 0 + count_by p xs = sum_by-cons (λ o. cond (p o) 1 0) x xs in
+    let here : cond (p x) 1 0 ≡ 0 = ap (λ (b : Bool). cond {A = ℕ} b 1 0) (others 0 (λ e. omega (arith, e))) in
+    let rest : count_by p xs ≡ one_if (p (slice_index_or xs key None)) = one_counted p none xs key (λ other ne. others (suc other) (λ e. ne (omega (arith, e)))) in
+    omega (arith, first, here, rest)
+
+-- so where one message was sent, it is all that is counted
+pub newest_counted : (sent next : ℕ) (s : Sum) (flights : List (Option Flight)) (key : ℕ) → next ≡ sent + 1 → IsNewest flights next key → (f : Flight) → slice_index_or flights key None ≡ Some f
+    → count_by (was_sent sent s) flights ≡ one_if (is_same s (sum_of_message (shown f.message)))
+newest_counted sent next s flights key one newest f at =
+    let same : newest.flight ≡ f = same_Some newest.flight f (sym newest.here ∙ at) in
+    let last : f.number ≡ sent = omega (arith, one, newest.last, ap (λ (x : Flight). x.number) same) in
+    one_counted (was_sent sent s) refl flights key (λ other ne. early sent s (slice_index_or flights other None) (λ g there. omega (arith, one, newest.last, newest.others other g ne there)))
+    ∙ ap (λ (o : Option Flight). one_if (was_sent sent s o)) at
+    ∙ ap (λ (b : Bool). one_if (b && is_same s (sum_of_message (shown f.message)))) (le-leb sent f.number (omega (arith, last)))
 
 -- how many are in flight
 pub flies : (flights : List (Option Flight)) (key : ℕ) (f : Flight) → slice_index_or flights key None ≡ Some f → count_by is_some (take (key + 1) flights) ≡ count_by is_some (take key flights) + 1

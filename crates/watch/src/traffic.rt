@@ -62,12 +62,52 @@ impl Traffic {
         ensures rest { self.new ≡ record self.old { sums = self.new.sums } }
         ensures flying { result ≡ count_by is_some machine.now.flights }
     {
-        let flying = machine.in_flight();
-        // Where nothing was sent, each has a lower number.
-        machine.are_numbered();
-        if machine.sent() == sent && sent < u64::MAX {
-            return flying;
+        let next = machine.sent();
+        if next < u64::MAX {
+            // Where nothing was sent, each has a lower number.
+            machine.are_numbered();
+            if next == sent {
+                return machine.in_flight();
+            }
+            if next == sent.saturating_add(1) {
+                self.add_newest(sent, machine);
+                return machine.in_flight();
+            }
         }
+        self.add_all(sent, machine)
+    }
+
+    /// The same, where one was sent.
+    #[inline(always)]
+    fn add_newest<const SETS: usize, const WAYS: usize>(
+        &mut self,
+        sent: u64,
+        machine: &Machine<SETS, WAYS>,
+    )
+        requires range { machine.now.sent < 18446744073709551615 }
+        requires one { machine.now.sent ≡ sent + 1 }
+        ensures added { (s : SumValue) → sum_at self.old s ≤ 18446744073709551615 → sum_at self.new s ≡ capped (sum_at self.old s + count_by (was_sent sent s) machine.now.flights) }
+        ensures rest { self.new ≡ record self.old { sums = self.new.sums } }
+    {
+        if let Some(key) = machine.newest() {
+            if let Some(flight) = machine.peek_flight(key) {
+                self.add(Sum::of_message(&flight.message), 1);
+            }
+        }
+    }
+
+    /// The same, by a look at all messages in flight.
+    #[inline(never)]
+    fn add_all<const SETS: usize, const WAYS: usize>(
+        &mut self,
+        sent: u64,
+        machine: &Machine<SETS, WAYS>,
+    ) -> usize
+        ensures added { (s : SumValue) → sum_at self.old s ≤ 18446744073709551615 → sum_at self.new s ≡ capped (sum_at self.old s + count_by (was_sent sent s) machine.now.flights) }
+        ensures rest { self.new ≡ record self.old { sums = self.new.sums } }
+        ensures flying { result ≡ count_by is_some machine.now.flights }
+    {
+        let flying = machine.in_flight();
         let keys = machine.keys();
         let mut left = flying;
         let mut key = 0;

@@ -1,30 +1,38 @@
-use Rattle.std.proofs.Common.{◌≡◌, ◌≢◌, ◌∷◌, [], ◌++◌, ◌∙◌, arith, true, false}
-use Rattle.words.specs.Harts.{names}
-use Rattle.protocol.specs.Messages.{shown, Forward}
+use Rattle.std.proofs.Common.{◌≡◌, ◌≢◌, ◌<◌, ◌∷◌, [], ◌++◌, ◌∙◌, arith, true, inl, inr}
+use Rattle.std.proofs.lemmas.Bool.{cases_lt}
+use Rattle.words.specs.Harts.{names, IsNext}
+use Rattle.protocol.specs.Messages.{Forward}
+use Rattle.protocol.specs.Directory.{forwards}
 use Rattle.directory.specs.Sends.{messages_of}
-use Rattle.directory.proofs.Forwards.{messages_of-push, forwards-more, forwards-same, apart_from}
+use Rattle.directory.proofs.Forwards.{messages_of-push, forwards-more, forwards-next, forwards-end, asked-named, asked-below, apart_from}
 use Rattle.directory.proofs.rules.forward.Goals as goal
-use Rattle.directory.proofs.rules.forward.Goals.{then-contains, else-contains}
 
-pub loop-h-preserved : goal.loop-h-preserved
-loop-h-preserved c =
-    let request = c.args.request.now in
-    elim c.if-contains.branch [
-      | then-contains w ↦
-          let named : names c.args.expect.now c.loop-h.h ≡ true = cc in
-          let told : shown w.forward_to.result.message ≡ Forward c.loop-h.h request.block request.kind request.requester request.stamp = cc in
-          let more : messages_of w.push.new.list ≡ messages_of c.loop-h.sends ++ Forward c.loop-h.h request.block request.kind request.requester request.stamp ∷ [] = messages_of-push c.loop-h.sends w.push.new.list w.forward_to.result _ told w.push.ensures.items in
-          let apart : request.requester ≢ c.loop-h.h = apart_from (names c.args.expect.now) _ _ c.requires.others named in
-          rw w.sends-is (
-            more ∙ forwards-more (names c.args.expect.now) request.block request.kind request.requester request.stamp c.loop-h.h _ _ named c.loop-h.invariant.0,
-            omega arith,
-            λ below. omega arith,
-          )
-      | else-contains w ↦
-          let unnamed : names c.args.expect.now c.loop-h.h ≡ false = cc in
-          rw w.sends-is (
-            forwards-same (names c.args.expect.now) request.block request.kind request.requester request.stamp c.loop-h.h _ _ unnamed c.loop-h.invariant.0,
-            omega arith,
-            λ below. omega arith,
-          )
-    ]
+pub loop-to-preserved : goal.loop-to-preserved
+loop-to-preserved c =
+    let q = c.args.request.now in
+    let expect = names c.args.expect.now in
+    let asked = c.first-asked.result in
+    let to = c.in-Some.to in
+    let start = messages_of c.args.sends.now in
+    let next : IsNext asked c.loop-to.from to = c.in-Some.ensures.some in
+    let named : expect to ≡ true = asked-named expect c.args.harts asked c.first-asked.ensures to next.named in
+    let below : to < c.args.harts = asked-below expect c.args.harts asked c.first-asked.ensures to next.named in
+    let skipped : forwards to expect q.block q.kind q.requester q.stamp ≡ forwards c.loop-to.from expect q.block q.kind q.requester q.stamp = forwards-next expect q.block q.kind q.requester q.stamp c.args.harts asked c.first-asked.ensures c.loop-to.from to next in
+    let before : messages_of c.loop-to.sends ≡ start ++ forwards to expect q.block q.kind q.requester q.stamp = rw skipped c.loop-to.invariant.0 in
+    let pushed : messages_of c.push.new.list ≡ messages_of c.loop-to.sends ++ Forward to q.block q.kind q.requester q.stamp ∷ [] = messages_of-push c.loop-to.sends c.push.new.list c.forward_to.result _ c.forward_to.ensures c.push.ensures.items in
+    let apart : q.requester ≢ to = apart_from expect _ _ c.requires.others named in
+    rw c.index-from.ensures.value (
+      pushed ∙ forwards-more expect q.block q.kind q.requester q.stamp to start _ named before,
+      omega (arith, c.push.ensures.len, c.loop-to.invariant.1, next.from),
+      λ above. elim (cases_lt q.requester c.loop-to.from) [
+        | inl before ↦ omega (arith, c.push.ensures.len, c.loop-to.invariant.2 before, next.from)
+        | inr since ↦ omega (arith, c.push.ensures.len, c.loop-to.invariant.1)
+      ],
+      omega arith,
+    )
+
+pub returns : goal.returns
+returns c =
+    let q = c.args.request.now in
+    let expect = names c.args.expect.now in
+    rw (forwards-end expect q.block q.kind q.requester q.stamp c.args.harts c.first-asked.result c.first-asked.ensures c.loop-to.from c.loop-to.invariant.3 c.in_default.ensures.none) c.loop-to.invariant.0

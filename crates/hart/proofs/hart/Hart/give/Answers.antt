@@ -1,7 +1,9 @@
-use Rattle.std.proofs.Common.{◌≡◌, ◌∙◌, Option, Some, None, refl, sym, ap}
+use Rattle.std.proofs.Common.{◌≡◌, ◌∙◌, Option, Some, None, refl, sym, ap, subst}
+use Rattle.std.specs.Prelude.{IfSome}
 use Rattle.std.specs.Option.{option_map}
 use Rattle.words.specs.declared.message.Kind.TheVariants.{Write}
 use Rattle.words.specs.declared.message.LineState.TheVariants.{Shared}
+use Rattle.cache.specs.declared.line.Line.{Line as CachedLine}
 use Rattle.cache.specs.Ways.{holds}
 use Rattle.protocol.specs.Lines.{Line, line_given}
 use Rattle.protocol.specs.Hart.{with_line}
@@ -12,16 +14,17 @@ use Rattle.hart.proofs.hart.Hart.give.Goals as goal
 
 -- the line is shared
 
-pub returns-in-Some-clause-hart : goal.returns-in-Some-clause-hart
-returns-in-Some-clause-hart g c = λ output.
+pub returns-in-Read-clause-hart : goal.returns-in-Read-clause-hart
+returns-in-Read-clause-hart g c = λ output.
     let S = g.row.SETS in
     let old = c.self.inside in
     let line = c.in-Some.line in
-    let held : Some (shown_line line) ≡ lines_of S c.args.self.now.cache c.args.block = ap (option_map shown_line) c.in-Some.ensures.value in
+    let held : Some (shown_line line) ≡ lines_of S c.args.self.now.cache c.args.block = ap (option_map shown_line) (sym c.in-Some.is ∙ c.requires.line) in
     let given : Some (record (shown_line line) { state = Shared }) ≡ line_given c.args.kind (lines_of S c.args.self.now.cache c.args.block) = λ j. line_given (sym c.in-Read.is j) (held j) in
+    let block : line.block ≡ c.args.block = subst (λ (o : Option CachedLine). IfSome o (λ l. l.block ≡ c.args.block)) c.in-Some.is c.requires.block in
     let lines = lines-set (holds line.block) S old.cache c.replace.new.self line.block _ c.replace.ensures.line in
     (λ j. record (shown_hart S output (parts old)) { lines = lines j })
-    ∙ (λ j. with_line (c.in-Some.ensures.block j) (given j) (shown_hart S output (c.self.view_is j)))
+    ∙ (λ j. with_line (block j) (given j) (shown_hart S output (c.self.view_is j)))
 
 -- it is given up
 

@@ -1,19 +1,32 @@
-use Rattle.std.proofs.Common.{◌≡◌, ◌∙◌, ap, sym}
+use Rattle.std.proofs.Common.{◌≡◌, ◌∙◌, ℕ, Option, ap, sym}
+use Rattle.std.specs.Option.{option_map}
+use Rattle.words.specs.declared.message.Kind.{Kind}
+use Rattle.cache.specs.declared.line.Line.{Line as CachedLine}
+use Rattle.cache.specs.Sets.{line_at}
+use Rattle.protocol.specs.Lines.{refuses}
+use Rattle.protocol.specs.Hart.{overflow_of}
 use Rattle.protocol.specs.HartMessages.{acknowledge_row}
 use Rattle.hart.specs.Parts.{Parts}
-use Rattle.hart.specs.Shown.{shown_hart}
+use Rattle.hart.specs.Shown.{shown_line, shown_tx, shown_hart, lines_of}
 use Rattle.hart.proofs.Rows.{forward-refused, forward-met, acknowledged}
 use Rattle.hart.proofs.hart.Hart.on_forward.Goals as goal
 
+-- what the block's line answers, the hart answers
+of_line : (S : ℕ) (p : Parts) (b : ℕ) (kind : Kind) (line : Option CachedLine) → line ≡ line_at S p.cache b → refuses (lines_of S p.cache b) (overflow_of (shown_tx p.tx)) kind ≡ refuses (option_map shown_line line) (overflow_of (shown_tx p.tx)) kind
+of_line S p b kind line is = ap (λ (o : Option CachedLine). refuses (option_map shown_line o) (overflow_of (shown_tx p.tx)) kind) (sym is)
+
 pub returns-then-refuses-clause-row : goal.returns-then-refuses-clause-row
 returns-then-refuses-clause-row g c = λ output.
-    forward-refused _ _ _ _ _ (shown_hart g.row.SETS output c.args.self.now) (sym c.refuses.ensures ∙ c.if-refuses.true) ∙ c.refuse.ensures.row output
+    let a = c.args in
+    forward-refused a.self.now.index a.block a.kind a.requester a.stamp (shown_hart g.row.SETS output a.self.now)
+    (of_line g.row.SETS a.self.now a.block a.kind c.line-line.result c.line-line.ensures.value ∙ sym c.refuses.ensures ∙ c.if-refuses.true) ∙ c.refuse.ensures.row output
 
 pub returns-clause-row : goal.returns-clause-row
 returns-clause-row g c = λ output.
     let a = c.args in
     let h = shown_hart g.row.SETS output a.self.now in
     let index : a.self.now.index ≡ c.self.inside.index = sym (ap (λ (p : Parts). p.index) c.self.view_is ∙ c.give.ensures.stays.index) in
-    forward-met a.self.now.index a.block a.kind a.requester a.stamp h (sym c.refuses.ensures ∙ c.if-refuses.false)
+    forward-met a.self.now.index a.block a.kind a.requester a.stamp h
+    (of_line g.row.SETS a.self.now a.block a.kind c.line-line.result c.line-line.ensures.value ∙ sym c.refuses.ensures ∙ c.if-refuses.false)
     ∙ ap (λ i. acknowledge_row i a.block a.kind a.requester h) index
     ∙ acknowledged c.self.inside.index a.block a.kind a.requester h _ _ (c.give.ensures.hart output) (c.content_held-content.ensures output)

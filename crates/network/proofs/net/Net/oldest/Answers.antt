@@ -1,63 +1,52 @@
-use Rattle.std.proofs.Common.{◌≡◌, ◌≤◌, ◌+◌, ◌∙◌, ℕ, sym, ap, Some, None, get_or, arith, true, false, subst}
-use Rattle.std.specs.Prelude.{is_some, count_by}
-use Rattle.std.proofs.lemmas.List.{get_or_past}
+use Rattle.std.proofs.Common.{◌≡◌, ◌-◌, Option, Some, None, get_or, arith, sym, ap, subst}
+use Rattle.std.specs.Prelude.{IsSomeAnd}
 use Rattle.std.specs.Fn.{FnReturnsAt}
+use Rattle.slab.specs.Slab.{slab_len}
 use Rattle.network.specs.declared.net.Flight.{Flight}
 use Rattle.network.specs.Flights.{Flights}
-use Rattle.network.proofs.Best.{IsBest, IsBest-skip, IsBest-earlier, IsBest-later, IsOldest-best, below_end, told}
-use Rattle.network.proofs.Counted.{count_taken, count_passed, none_left}
-use Rattle.std.proofs.lemmas.Option.{same_Some, none-some}
+use Rattle.network.proofs.Best.{told}
+use Rattle.network.proofs.Order.{known, none_at_first, none_more, fails_more, first_passes, none_passes}
 use Rattle.network.proofs.net.Net.oldest.Goals as goal
-use Rattle.network.proofs.net.Net.oldest.Goals.{in-Some+then-is_earlier+then-passes, in-Some+else-is_earlier, else-is_earlier-via-then-is_earlier+else-passes, else-is_earlier-via-else-is_earlier, in_default, then-loop-key-test+else-left-gt0, else-loop-key-test}
+use Rattle.network.proofs.net.Net.oldest.Goals.{in-Some+in-Some-get+else-passes, in-Some+in_default-get, in_default}
 
-pub loop-key-preserved : goal.loop-key-preserved
-loop-key-preserved g c =
+pub loop-number-init : goal.loop-number-init
+loop-number-init g c =
+    let net = c.self.inside in
+    let is = known net.slab.slots net.next net.first (net.slab.capacity - slab_len net.slab) net.keys c.args.self.now c.self.view_is (c.is_known.ensures.0 c.if-not-is_known.false) c.self.invariant.1 c.self.invariant.2 in
+    none_at_first (FnReturnsAt g.F.Fn c.args.passes) c.args.self.now net.first net.keys is
+
+-- the message with the number doesn't pass, or there is none
+pub loop-number-preserved : goal.loop-number-preserved
+loop-number-preserved g c =
     let answers = FnReturnsAt g.F.Fn c.args.passes in
-    let slots = c.args.self.now.slots in
-    let same : c.self.inside.slab.slots ≡ slots = ap (λ (v : Flights). v.slots) c.self.view_is in
-    elim c.match-get.branch [
-      | in-Some+then-is_earlier+then-passes w ↦
-          let at : get_or slots c.loop-key.key None ≡ Some w.in-Some.flight.now = rw (← same) (sym w.in-Some.ensures) in
-          let counted = count_taken c.loop-key.key slots w.in-Some.flight.now c.loop-key.left c.loop-key.invariant.1 at in
-          (rw w.best-is (IsBest-earlier (λ k f. answers f.message true) (λ k f. answers f.message false) slots c.loop-key.key c.loop-key.best w.in-Some.flight.now c.loop-key.invariant.0 at (sym w.is_earlier.ensures ∙ w.if-is_earlier.true) (told _ _ _ _ _ w.passes.ensures w.if-passes.true)), w.left-is ∙ counted.1)
-      | in-Some+else-is_earlier w ↦
-          let at : get_or slots c.loop-key.key None ≡ Some w.in-Some.flight.now = rw (← same) (sym w.in-Some.ensures) in
-          let counted = count_taken c.loop-key.key slots w.in-Some.flight.now c.loop-key.left c.loop-key.invariant.1 at in
-          let best : IsBest (λ k f. answers f.message true) (λ k f. answers f.message false) slots (c.loop-key.key + 1) c.loop-key.best = elim w.else-is_earlier.branch [
-            | else-is_earlier-via-then-is_earlier+else-passes v ↦ IsBest-skip (λ k f. answers f.message true) (λ k f. answers f.message false) slots c.loop-key.key c.loop-key.best c.loop-key.invariant.0 (λ f here.
-                let P : Flight → Type 0 = λ x. answers x.message false in
-                subst P (same_Some w.in-Some.flight.now f (sym at ∙ here)) (told _ _ _ _ _ v.passes.ensures v.if-passes.false))
-            | else-is_earlier-via-else-is_earlier v ↦ IsBest-later (λ k f. answers f.message true) (λ k f. answers f.message false) slots c.loop-key.key c.loop-key.best w.in-Some.flight.now c.loop-key.invariant.0 at (sym w.is_earlier.ensures ∙ v.if-is_earlier.false)
-          ] in
-          (rw w.best-is best, w.left-is ∙ counted.1)
-      | in_default w ↦
-          let none : get_or slots c.loop-key.key None ≡ None = rw (← same) (sym w.in_default.ensures) in
-          (rw w.best-is (IsBest-skip (λ k f. answers f.message true) (λ k f. answers f.message false) slots c.loop-key.key c.loop-key.best c.loop-key.invariant.0 (λ f here. absurd (none-some f (sym none ∙ here)))), w.left-is ∙ count_passed c.loop-key.key slots c.loop-key.left c.loop-key.invariant.1 none)
+    let net = c.self.inside in
+    let is = known net.slab.slots net.next net.first (net.slab.capacity - slab_len net.slab) net.keys c.args.self.now c.self.view_is (c.is_known.ensures.0 c.if-not-is_known.false) c.self.invariant.1 c.self.invariant.2 in
+    let same : net.slab.slots ≡ c.args.self.now.slots = ap (λ (v : Flights). v.slots) c.self.view_is in
+    elim c.match-key_of.branch [
+      | in-Some+in-Some-get+else-passes w ↦
+          let here : get_or net.slab.slots w.in-Some.key None ≡ Some w.in-Some-get.flight.now = sym w.in-Some-get.ensures in
+          let numbered = subst (λ (o : Option Flight). IsSomeAnd o (λ f. f.number ≡ c.loop-number.number)) here w.in-Some.ensures.some in
+          fails_more answers c.args.self.now net.first net.keys is c.loop-number.number w.in-Some.key w.in-Some-get.flight.now c.loop-number.invariant (rw (← same) here) numbered
+          (told _ _ _ _ _ w.passes.ensures w.if-passes.false)
+      | in-Some+in_default-get w ↦
+          absurd (subst (λ (o : Option Flight). IsSomeAnd o (λ f. f.number ≡ c.loop-number.number)) (sym w.in_default-get.ensures) w.in-Some.ensures.some)
+      | in_default w ↦ none_more answers c.args.self.now net.first net.keys is c.loop-number.number c.loop-number.invariant (rw (← same) w.in_default.ensures.none)
     ]
 
-pub returns-in-Some-best-clause-some : goal.returns-in-Some-best-clause-some
-returns-in-Some-best-clause-some g c =
-    let answers = FnReturnsAt g.F.Fn c.args.passes in
-    let slots = c.args.self.now.slots in
-    let best : IsBest (λ k f. answers f.message true) (λ k f. answers f.message false) slots c.loop-key.key (Some (c.in-Some-best.key, c.in-Some-best.field-0-1)) = rw c.in-Some-best.is at c.loop-key.invariant.0 in
-    let same : c.self.inside.slab.slots ≡ slots = ap (λ (v : Flights). v.slots) c.self.view_is in
-    let rest : (other : ℕ) → c.loop-key.key ≤ other → get_or slots other None ≡ None = elim c.loop-key-test.branch [
-      | then-loop-key-test+else-left-gt0 w ↦ none_left c.loop-key.key slots (sym c.loop-key.invariant.1 ∙ omega (arith, w.if-left-gt0.false))
-      | else-loop-key-test w ↦ λ other le. get_or_past slots other None (rw (← same) (omega (arith, w.loop-key-test.false, le, c.capacity.ensures.slots)))
-    ] in
-    IsOldest-best answers c.args.self.now c.loop-key.key c.in-Some-best.key c.in-Some-best.field-0-1 rest best
+-- the first that passes is the oldest
+pub returns-then-passes-clause-some : goal.returns-then-passes-clause-some
+returns-then-passes-clause-some g c =
+    let net = c.self.inside in
+    let is = known net.slab.slots net.next net.first (net.slab.capacity - slab_len net.slab) net.keys c.args.self.now c.self.view_is (c.is_known.ensures.0 c.if-not-is_known.false) c.self.invariant.1 c.self.invariant.2 in
+    let same : net.slab.slots ≡ c.args.self.now.slots = ap (λ (v : Flights). v.slots) c.self.view_is in
+    let here : get_or net.slab.slots c.in-Some.key None ≡ Some c.in-Some-get.flight.now = sym c.in-Some-get.ensures in
+    let numbered = subst (λ (o : Option Flight). IsSomeAnd o (λ f. f.number ≡ c.loop-number.number)) here c.in-Some.ensures.some in
+    first_passes (FnReturnsAt g.F.Fn c.args.passes) c.args.self.now net.first net.keys is c.loop-number.number c.in-Some.key c.in-Some-get.flight.now c.loop-number.invariant (rw (← same) here) numbered
+    (told _ _ _ _ _ c.passes.ensures c.if-passes.true)
 
 pub returns-clause-none : goal.returns-clause-none
 returns-clause-none g c =
-    let answers = FnReturnsAt g.F.Fn c.args.passes in
-    let slots = c.args.self.now.slots in
-    let best : IsBest (λ k f. answers f.message true) (λ k f. answers f.message false) slots c.loop-key.key None = rw c.in-None.is at c.loop-key.invariant.0 in
-    let same : c.self.inside.slab.slots ≡ slots = ap (λ (v : Flights). v.slots) c.self.view_is in
-    let rest : (other : ℕ) → c.loop-key.key ≤ other → get_or slots other None ≡ None = elim c.loop-key-test.branch [
-      | then-loop-key-test+else-left-gt0 w ↦ none_left c.loop-key.key slots (sym c.loop-key.invariant.1 ∙ omega (arith, w.if-left-gt0.false))
-      | else-loop-key-test w ↦ λ other le. get_or_past slots other None (rw (← same) (omega (arith, w.loop-key-test.false, le, c.capacity.ensures.slots)))
-    ] in
-    λ key f at. best key f (below_end slots c.loop-key.key key f rest at) at
-
-pub loop-key-init : goal.loop-key-init
-loop-key-init g c = (λ other f below at. absurd (omega (arith, below)), c.len-left.ensures ∙ ap (λ (v : Flights). count_by is_some v.slots) c.self.view_is)
+    let net = c.self.inside in
+    let is = known net.slab.slots net.next net.first (net.slab.capacity - slab_len net.slab) net.keys c.args.self.now c.self.view_is (c.is_known.ensures.0 c.if-not-is_known.false) c.self.invariant.1 c.self.invariant.2 in
+    let next : net.next ≡ c.args.self.now.next = ap (λ (v : Flights). v.next) c.self.view_is in
+    none_passes (FnReturnsAt g.F.Fn c.args.passes) c.args.self.now net.first net.keys is (λ k f at lower. c.loop-number.invariant k f at (omega (arith, lower, next, c.loop-number-test.false)))

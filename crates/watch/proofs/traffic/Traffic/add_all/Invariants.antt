@@ -2,7 +2,7 @@ use Rattle.std.proofs.Common.{◌≡◌, ◌≤◌, ◌+◌, ◌-◌, take}
 use Rattle.std.specs.Prelude.{count_by, is_some}
 use Rattle.watch.specs.declared.figures.Sum.{Sum}
 use Rattle.watch.specs.Traffic.{capped, sum_at, was_sent}
-use Rattle.watch.proofs.traffic.Traffic.add_sent.Given as goal
+use Rattle.watch.proofs.traffic.Traffic.add_all.Given as goal
 
 -- what lies under the first keys is counted
 abbrev pub invariant-loop-left : goal.invariant-loop-left

@@ -1,0 +1,8 @@
+use Rattle.words.proofs.Masks.{inserted, inserted_other}
+use Rattle.words.proofs.hart.HartSet.insert.Goals as goal
+
+pub returns-clause-this : goal.returns-clause-this
+returns-clause-this c = rw (← c.hart.view_is) (inserted c.self.inside.mask c.hart.inside.number c.hart.invariant)
+
+pub returns-clause-others : goal.returns-clause-others
+returns-clause-others c = rw (← c.self.view_is, ← c.hart.view_is) (inserted_other c.self.inside.mask c.hart.inside.number c.hart.invariant)
