@@ -1,6 +1,7 @@
 -- Filling, replacing and removing a block's line.
-use Rattle.std.proofs.Common.{◌≡◌, ◌≢◌, ℕ, ◌<◌, ◌%◌, Bool, true, false, is_some, map, IsTrue, Option, Some, None, List, [], length, get_or, set, refl, sym, ◌∙◌, ap, arith, position, get_or-set_same, length-set, subst}
+use Rattle.std.proofs.Common.{◌≡◌, ◌≢◌, ℕ, ◌<◌, ◌≤◌, ◌*◌, ◌^◌, ◌%◌, Bool, true, false, is_some, map, IsTrue, Option, Some, None, List, [], length, get_or, set, refl, sym, ◌∙◌, ap, arith, position, get_or-set_same, length-set, subst}
 use Rattle.std.proofs.lemmas.Bool.Decides.{nat_tests}
+use Rattle.std.proofs.Math.Nat.{le-mul_of_pos_right, mul_comm}
 use Rattle.std.proofs.lemmas.Option.{same_Some}
 use Rattle.std.specs.Option.{option_map}
 use Rattle.cache.specs.declared.line.Line.{Line}
@@ -10,7 +11,7 @@ use Rattle.cache.specs.Sets.{Sets, at, line_at, with_way, CanStand, IsSound, Has
 use Rattle.cache.proofs.Found.{IsFirst, is_first, some-position, held, holds-other, free_is_none, none-holds}
 use Rattle.cache.proofs.OneWay.{line_at-with_way, line_at-with_way_none, line_at-with_way_other}
 use Rattle.cache.proofs.Sound.{alone-holds, IsSound-with_way}
-use Rattle.cache.proofs.Occupied.{put_in, occupied-replaced}
+use Rattle.cache.proofs.Occupancy.{put_in, occupied-replaced}
 use lib.Seq.{map-set}
 
 -- what a write of the way that was found gives
@@ -89,6 +90,24 @@ pub kept-occupied : (count size : ℕ) (sets : Sets) (w b : ℕ) (x : Option Lin
 kept-occupied count size sets w b x sound len found some =
     let old : Stands count sets b w = stands count size sets b w sound len found in
     occupied-replaced sets (b % count) w old.line x old.inside old.here some
+
+-- the ways of a set are few
+pub few_ways : (count size : ℕ) (sets : Sets) → IsSound count size sets → size < 2 ^ 32
+few_ways count size sets sound =
+    let most : size ≤ size * count = le-mul_of_pos_right size sound.some_set in
+    omega (arith, most, sound.fits, mul_comm count size)
+
+-- so that their bytes can be counted
+pub bytes_fit : (size : ℕ) → size < 2 ^ 32 → size * 44 < 9223372036854775808
+bytes_fit size few = omega arith
+
+-- the way that was found is one of them
+pub way_fits : (count size : ℕ) (sets : Sets) (test : Option Line → Bool) (w b : ℕ) → IsSound count size sets → position test (get_or sets (b % count) []) ≡ Some w → w < 2 ^ 32
+way_fits count size sets test w b sound found =
+    let first : IsFirst test (get_or sets (b % count) []) w = is_first test (get_or sets (b % count) []) w found in
+    let some : 0 < count = sound.some_set in
+    let full : length (get_or sets (b % count) []) ≡ size = sound.full (b % count) (omega arith) in
+    omega (arith, first.inside, full, few_ways count size sets sound)
 
 -- a line comes into the way of its block's line
 pub replace-changes : (count size : ℕ) (sets : Sets) (w : ℕ) (l : Line) → IsSound count size sets → length sets ≡ count → position (holds l.block) (get_or sets (l.block % count) []) ≡ Some w → (IsTrue l.marks.written → l.state ≡ Modified) → Changed (holds l.block) count size sets l.block w (Some l)

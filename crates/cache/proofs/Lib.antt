@@ -8,4 +8,5 @@ pub mod Fresh
 pub mod Cleared
 pub mod Equal
 pub mod StoredBytes
-pub mod Occupied
+pub mod Masks
+pub mod Occupancy

@@ -11,18 +11,19 @@ ghost use Rattle.cache.specs.Sets.{line_at, HasRoom, GoesFor, victim_at, SetsLin
 
 use crate::bytes::with_bytes;
 use crate::line::Line;
+use crate::occupied::Occupied;
 use crate::sets::{assign_sets, clear_sets, same_sets};
 use crate::ways::{Victim, free_way, has_line, line_of, mark, put_word, victim_of, way_of};
 use std::array;
 use std::marker::Model;
 use words::{Addr, BLOCK_WORDS, Block, BlockNo, LineState, Marks, Width};
 
-/// A cache of SETS sets of WAYS ways each. The set of a block is its number modulo SETS. It keeps which sets have a line at all, so that
-/// what goes over all lines passes over the other sets.
+/// A cache of SETS sets of WAYS ways each. The set of a block is its number modulo SETS. It keeps which of its first 64 sets have a line at
+/// all, so that what goes over all lines passes over the others.
 #[derive(Clone, Copy, Debug)]
 pub struct Cache<const SETS: usize, const WAYS: usize> {
     sets: [[Option<Line>; WAYS]; SETS],
-    occupied: [bool; SETS],
+    occupied: Occupied,
 }
 
 impl<const SETS: usize, const WAYS: usize> Model for Cache<SETS, WAYS> {
@@ -32,14 +33,15 @@ impl<const SETS: usize, const WAYS: usize> Model for Cache<SETS, WAYS> {
     ghost use Rattle.std.proofs.Common.{sym};
     ghost use Rattle.cache.specs.Ways.{has_line};
     ghost use Rattle.cache.specs.Sets.{IsSound};
+    ghost use Rattle.cache.specs.Occupied.{mask_of};
 
     ghost Value = { List (List (Option Line)) };
 
     ghost view = { λ c. c.sets };
 
-    ghost invariant = { λ c. IsSound SETS WAYS c.sets × (c.occupied ≡ map has_line c.sets) };
+    ghost invariant = { λ c. IsSound SETS WAYS c.sets × (c.occupied ≡ mask_of 64 (map has_line c.sets)) };
 
-    ghost inverse = { λ v. record { sets = v; occupied = map has_line v } };
+    ghost inverse = { λ v. record { sets = v; occupied = mask_of 64 (map has_line v) } };
 
     ghost inverse_ok = { λ c h. λ i. record { sets = c.sets; occupied = sym h.1 i } };
 }
@@ -60,7 +62,7 @@ impl<const SETS: usize, const WAYS: usize> Cache<SETS, WAYS> {
                     ensures { result ≡ replicate WAYS None }
                 { [None; WAYS] },
             ),
-            occupied: [false; SETS],
+            occupied: Occupied::none(),
         }
     }
 
@@ -215,8 +217,7 @@ impl<const SETS: usize, const WAYS: usize> Cache<SETS, WAYS> {
         let ways = &mut sets[set];
         if let Some(way) = free_way(ways) {
             ways[way] = Some(Line::filled(block, content, state, overflowed));
-            let occupied = &mut self.occupied[..];
-            occupied[set] = true;
+            self.occupied.update(set, true);
         }
     }
 
@@ -232,9 +233,8 @@ impl<const SETS: usize, const WAYS: usize> Cache<SETS, WAYS> {
         let ways = &mut sets[set];
         if let Some(way) = way_of(ways, block) {
             ways[way] = None;
-            let occupied = &mut self.occupied[..];
             let sets = &self.sets[..];
-            occupied[set] = has_line(&sets[set]);
+            self.occupied.update(set, has_line(&sets[set]));
         }
     }
 
@@ -269,7 +269,7 @@ impl<const SETS: usize, const WAYS: usize> Cache<SETS, WAYS> {
         ensures ways { self.new ≡ map (map (option_map without_marks)) self.old }
         ensures lines { (b : ℕ) → line_at SETS self.new b ≡ option_map without_marks (line_at SETS self.old b) }
     {
-        clear_sets(&mut self.sets[..], &self.occupied[..]);
+        clear_sets(&mut self.sets[..], &self.occupied);
     }
 
     /// Whether two caches have the same lines in the same ways. Reads only sets that have a line.
@@ -277,19 +277,15 @@ impl<const SETS: usize, const WAYS: usize> Cache<SETS, WAYS> {
         ensures { IsTrue result ↔ (self.now ≡ other.now) }
     {
         self.occupied == other.occupied
-            && same_sets(&self.sets[..], &other.sets[..], &self.occupied[..])
+            && same_sets(&self.sets[..], &other.sets[..], &self.occupied)
     }
 
     /// Becomes a copy of another cache. Copies only sets in which either has a line.
     pub fn assign(&mut self, other: &Self)
         ensures { self.new ≡ other.now }
     {
-        assign_sets(
-            &mut self.sets[..],
-            &self.occupied[..],
-            &other.sets[..],
-            &other.occupied[..],
-        );
+        let either = self.occupied.union(&other.occupied);
+        assign_sets(&mut self.sets[..], &other.sets[..], &either);
         self.occupied = other.occupied;
     }
 }

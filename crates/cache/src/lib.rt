@@ -5,6 +5,7 @@
 mod bytes;
 mod cache;
 mod line;
+mod occupied;
 mod sets;
 mod ways;
 

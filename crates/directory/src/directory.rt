@@ -1,4 +1,4 @@
-ghost use Rattle.std.specs.Prelude.{◌≡◌, ◌≢◌, ◌<◌, ◌≤◌, ◌↔◌, ℕ, [], None, is_some, length, vec_len, Some, OnOk, OnErr, IfOk, IfSome, IsTrue, IsSome};
+ghost use Rattle.std.specs.Prelude.{◌≡◌, ◌≢◌, ◌<◌, ◌≤◌, ◌↔◌, ℕ, [], None, is_some, length, vec_len, Some, OnOk, OnErr, IfOk, IfSome, IsTrue, IsFalse, IsSome};
 ghost use Rattle.words.specs.Limits.{most_harts};
 ghost use Rattle.protocol.specs.Messages.{shown, block_of, Get, Put};
 ghost use Rattle.protocol.specs.Directory.{first_entry, done_of, done_row};
@@ -56,6 +56,7 @@ impl Directory {
     }
 
     /// What the directory knows of a block.
+    #[inline(always)]
     pub fn entry(&self, block: BlockNo) -> DirEntry
         ensures value { shown_entry result ≡ entry_at self.now block }
         ensures named { NamesBelow self.now.harts (shown_entry result) }
@@ -137,6 +138,7 @@ impl Directory {
     }
 
     /// The same, with the messages told in short. `None` where the message has to wait.
+    #[inline(always)]
     pub fn serve(&mut self, message: &Message) -> Result<Option<Answer>, AllocError>
         requires block { block_of (shown message.now) < length self.old.memory }
         requires hart { IfSome (sender_of (shown message.now)) (λ h. h < self.old.harts) }
@@ -180,6 +182,7 @@ impl Directory {
     }
 
     /// A hart asks for a block: the grant comes first.
+    #[inline(always)]
     fn get(&mut self, request: &Request) -> Result<Option<Answer>, AllocError>
         requires block { request.now.block < length self.old.memory }
         requires hart { request.now.requester < self.old.harts }
@@ -209,6 +212,7 @@ impl Directory {
     }
 
     /// Makes a block, whose entry this is, busy with a request.
+    #[inline(always)]
     fn occupy(&mut self, block: BlockNo, entry: DirEntry, busy: Busy) -> Result<(), AllocError>
         requires inside { block < length self.old.memory }
         requires named { NamesBelow self.old.harts (shown_entry (record entry { busy = Some busy })) }
@@ -217,13 +221,18 @@ impl Directory {
         ensures err { OnErr result (self.new ≡ self.old) }
         ensures absent { OnErr result (kept_at self.old block ≡ None) }
     {
-        let busy = Some(busy);
-        self.entries
-            .insert(block.number(), DirEntry { busy, ..entry })?;
+        let occupied = DirEntry {
+            busy: Some(busy),
+            ..entry
+        };
+        if !self.overwrite(block, &occupied) {
+            self.entries.insert(block.number(), occupied)?;
+        }
         Ok(())
     }
 
     /// A hart gives up a block: its content becomes memory's if the hart is the owner.
+    #[inline(always)]
     fn put(&mut self, from: HartId, block: BlockNo, content: &Block, marked: bool) -> Option<Answer>
         requires block { block < length self.old.memory }
         requires hart { from < self.old.harts }
@@ -248,6 +257,7 @@ impl Directory {
     }
 
     /// A request is over: it was granted (`ok`) or refused. A Done from a hart whose request the block isn't busy with changes nothing.
+    #[inline(always)]
     fn done(&mut self, from: HartId, block: BlockNo, ok: bool, content: &Option<Block>)
         requires block { block < length self.old.memory }
         requires hart { from < self.old.harts }
@@ -267,6 +277,7 @@ impl Directory {
     }
 
     /// A request was granted, and its hart has what it was given.
+    #[inline(always)]
     fn settle(&mut self, block: BlockNo, entry: &DirEntry, busy: &Busy, content: Option<Block>)
         requires block { block < length self.old.memory }
         requires present { IsSome (kept_at self.old block) }
@@ -295,11 +306,25 @@ impl Directory {
         requires named { NamesBelow self.old.harts (shown_entry entry) }
         ensures { SetsBlock self.old self.new block (shown_entry entry) (memory_at self.old block) }
     {
-        let number = block.number();
         if entry.is_first(self.harts) {
-            self.entries.remove(&number);
-        } else if let Some(kept) = self.entries.get_mut(&number) {
-            *kept = entry;
+            self.entries.remove(&block.number());
+        } else {
+            self.overwrite(block, &entry);
         }
+    }
+
+    /// Puts an entry, which isn't the first one, in the place of the one that is kept for a block. The answer is whether one is.
+    #[inline(always)]
+    fn overwrite(&mut self, block: BlockNo, entry: &DirEntry) -> bool
+        requires used { shown_entry entry.now ≢ first_entry }
+        requires named { NamesBelow self.old.harts (shown_entry entry.now) }
+        ensures set { IsTrue result → SetsBlock self.old self.new block (shown_entry entry.now) (memory_at self.old block) }
+        ensures none { IsFalse result → (self.new ≡ self.old) × (kept_at self.old block ≡ None) }
+    {
+        let Some(kept) = self.entries.get_mut(&block.number()) else {
+            return false;
+        };
+        *kept = *entry;
+        true
     }
 }

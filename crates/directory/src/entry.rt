@@ -74,5 +74,5 @@ fn is_empty(set: &HartSet, harts: usize) -> bool
     requires { harts ≤ most_harts }
     ensures { IsTrue result ↔ ((h : ℕ) → h < harts → names set.now h ≡ false) }
 {
-    set.first(harts).is_empty()
+    set.below(harts).is_empty()
 }

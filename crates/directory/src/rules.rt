@@ -17,7 +17,7 @@ fn is_alone(sharers: &HartSet, hart: HartId, harts: usize) -> bool
     requires { harts ≤ most_harts }
     ensures { result ≡ is_alone harts hart (names sharers.now) }
 {
-    let mut others = sharers.first(harts);
+    let mut others = sharers.below(harts);
     others.remove(hart);
     others.is_empty()
 }
@@ -118,7 +118,7 @@ pub(crate) fn forward(sends: &mut Sends, expect: &HartSet, request: &Request, ha
     ensures { messages_of sends.new ≡ messages_of sends.old
         ++ forwards harts (names expect.now) request.now.block request.now.kind request.now.requester request.now.stamp }
 {
-    let asked = expect.first(harts);
+    let asked = expect.below(harts);
     let mut from = 0;
     while let Some(to) = asked.next(from) {
         push(sends, &forward_to(to, request));

@@ -22,6 +22,7 @@ impl<const SETS: usize, const WAYS: usize> Hart<SETS, WAYS> {
 
     /// Does what the protocol's row for the message says. A message that the hart doesn't await, or that is for the directory,
     /// changes nothing.
+    #[inline(always)]
     pub fn on_message(&mut self, message: &Message) -> Reply
         ensures row { (output : List ℕ) →
             message_row self.old.harts self.old.index (shown message.now) (shown_hart SETS output self.old)
@@ -71,6 +72,7 @@ impl<const SETS: usize, const WAYS: usize> Hart<SETS, WAYS> {
     }
 
     /// Another hart asks for a block.
+    #[inline(always)]
     fn on_forward(
         &mut self,
         block: BlockNo,
@@ -100,6 +102,7 @@ impl<const SETS: usize, const WAYS: usize> Hart<SETS, WAYS> {
     }
 
     /// Whether the hart keeps a block from others: by the marks of its line, or without a line if it has overflowed.
+    #[inline(always)]
     fn refuses(&self, line: &Option<Line>, kind: Kind) -> bool
         ensures { result ≡ refuses (option_map shown_line line.now) (overflow_of (shown_tx self.now.tx)) kind }
     {
@@ -134,6 +137,7 @@ impl<const SETS: usize, const WAYS: usize> Hart<SETS, WAYS> {
     }
 
     /// The content of a block that memory may lack: of its line, if that is E or M, else of the Put that isn't over.
+    #[inline(always)]
     fn content_held(&self, block: BlockNo, line: &Option<Line>) -> Option<Block>
         requires { line.now ≡ line_at SETS self.now.cache block }
         ensures { (output : List ℕ) → result ≡ content_held block (shown_hart SETS output self.now) }
@@ -145,6 +149,7 @@ impl<const SETS: usize, const WAYS: usize> Hart<SETS, WAYS> {
     }
 
     /// Shares a block's line, or gives it up. Without a line there is nothing to do.
+    #[inline(always)]
     fn give(&mut self, block: BlockNo, line: &Option<Line>, kind: Kind)
         requires line { line.now ≡ line_at SETS self.old.cache block }
         requires block { IfSome line.now (λ line. line.block ≡ block) }
@@ -166,6 +171,7 @@ impl<const SETS: usize, const WAYS: usize> Hart<SETS, WAYS> {
     }
 
     /// The hart's Put of a block is over.
+    #[inline(always)]
     fn on_put_ack(&mut self, block: BlockNo)
         ensures row { (output : List ℕ) → put_ack_row block (shown_hart SETS output self.old)
             ≡ quiet (shown_hart SETS output self.new) }
@@ -178,6 +184,7 @@ impl<const SETS: usize, const WAYS: usize> Hart<SETS, WAYS> {
         }
     }
 
+    #[inline(always)]
     fn on_grant(&mut self, block: BlockNo, granted: &Granted) -> Reply
         ensures row { (output : List ℕ) →
             grant_row self.old.harts self.old.index block (shown_granted granted.now) (shown_hart SETS output self.old)
@@ -190,6 +197,7 @@ impl<const SETS: usize, const WAYS: usize> Hart<SETS, WAYS> {
         self.settle()
     }
 
+    #[inline(always)]
     fn on_ack(&mut self, block: BlockNo, from: HartId, content: &Option<Block>) -> Reply
         ensures row { (output : List ℕ) →
             ack_row self.old.harts self.old.index block from content.now (shown_hart SETS output self.old)
@@ -202,6 +210,7 @@ impl<const SETS: usize, const WAYS: usize> Hart<SETS, WAYS> {
         self.settle()
     }
 
+    #[inline(always)]
     fn on_nack(&mut self, block: BlockNo, from: HartId, stamp: Option<Stamp>) -> Reply
         ensures row { (output : List ℕ) →
             nack_row self.old.harts self.old.index block from stamp (shown_hart SETS output self.old)

@@ -186,8 +186,19 @@ impl<const SETS: usize, const WAYS: usize> Hart<SETS, WAYS> {
             && self.fresh == other.fresh
             && same_request(&self.request, &other.request)
             && same_put(&self.put, &other.put)
-            && self.regs == other.regs
+            && same_regs(&self.regs, &other.regs)
             && self.tx.same(&other.tx)
             && self.cache.same(&other.cache)
     }
+}
+
+/// Whether two harts have the same registers. It looks at all of them, so that a processor can compare several at once.
+fn same_regs(a: &Regs, b: &Regs) -> bool
+    ensures { IsTrue result ↔ (a.now ≡ b.now) }
+{
+    let mut same = true;
+    for number in 0..a.len() {
+        same &= a[number] == b[number];
+    }
+    same
 }

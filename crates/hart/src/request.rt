@@ -85,6 +85,7 @@ impl Request {
 }
 
 /// Keeps a block's grant with the request that is out for it. The answer is whether there is one.
+#[inline(always)]
 pub(crate) fn keep_grant(out: &mut Option<Request>, block: BlockNo, granted: &Granted) -> bool
     ensures kept { IsTrue result → Keeps (with_grant (shown_granted granted.now)) block out.old out.new }
     ensures none { IsFalse result → AwaitsNone block out.old × (out.new ≡ out.old) }
@@ -99,6 +100,7 @@ pub(crate) fn keep_grant(out: &mut Option<Request>, block: BlockNo, granted: &Gr
 }
 
 /// The same of a hart's acknowledgement.
+#[inline(always)]
 pub(crate) fn keep_ack(
     out: &mut Option<Request>,
     block: BlockNo,
@@ -118,6 +120,7 @@ pub(crate) fn keep_ack(
 }
 
 /// The same of a hart's refusal, by a transaction that is earlier or not.
+#[inline(always)]
 pub(crate) fn keep_nack(
     out: &mut Option<Request>,
     block: BlockNo,
@@ -141,7 +144,7 @@ pub(crate) fn have_answered(expect: &HartSet, answered: &HartSet, harts: usize) 
     requires { harts ≤ most_harts }
     ensures { result ≡ have_answered harts (names expect.now) (names answered.now) }
 {
-    expect.first(harts).is_subset(answered)
+    expect.below(harts).is_subset(answered)
 }
 
 /// What a requester tells the directory of the content that it was given: memory needs it only where the block is shared from now

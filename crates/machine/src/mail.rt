@@ -102,7 +102,7 @@ fn forward(net: &mut Net, request: &Request, expect: &HartSet, harts: usize)
         (in_flight net.new.slots) }
     ensures numbers { NumbersOn net.old.slots net.old.next net.new.slots net.new.next }
 {
-    let asked = expect.first(harts);
+    let asked = expect.below(harts);
     let mut from = 0;
     while let Some(to) = asked.next(from) {
         net.send(Message::Forward {

@@ -111,6 +111,7 @@ impl<const SETS: usize, const WAYS: usize> Machine<SETS, WAYS> {
 
     /// The turn after a hart's: the first that there is of the arrival of the oldest message that isn't held, the step of the lowest
     /// running hart that is fresh, and that of the next running hart in the order of the numbers, and round. `None` where there is none.
+    #[inline(always)]
     pub fn next_turn(&self, after: HartId) -> Option<Step>
         ensures { IsNextTurn (shown SETS self.now) self.now.flights after result }
     {

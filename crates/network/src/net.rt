@@ -185,6 +185,7 @@ impl Net {
     }
 
     /// The key of the message that was sent first among those that pass: the lowest number, and at one number the lowest key.
+    #[inline(always)]
     pub fn oldest<F: Fn(&Message) -> bool>(&self, passes: F) -> Option<usize>
         requires { F.IsAlwaysCallable passes }
         ensures none { IfNone result (NonePasses (FnReturnsAt F.Fn passes) self.now) }
@@ -273,7 +274,7 @@ impl Net {
     }
 }
 
-/// Whether the order of sending is known from a number on, where this is the next.
+/// Whether the keys of all numbers from `first` on are kept, where `next` is the number that the next message gets.
 #[inline(always)]
 fn is_known(first: u64, next: u64) -> bool
     requires { first ≤ next }
@@ -325,6 +326,7 @@ fn is_after(last: Option<(usize, u64)>, key: usize, number: u64) -> bool
 }
 
 /// Puts an item under a free key. Generic, since the check can't follow a message through the slab's own method.
+#[inline(always)]
 fn put<T: Copy>(slab: &mut Slab<T>, item: T) -> usize
     requires { HasRoomFor slab.old 1 }
     ensures free { get slab.old result ≡ None }

@@ -1,5 +1,5 @@
 -- What the steps of a run and its messages count as, and how much was in flight and in use.
-use Rattle.std.specs.Prelude.{ℕ, ◌+◌, ◌==◌, ◌&&◌, min, max, nat_le, Bool, false, List, [], ◌∷◌, length, count_by, is_some, Option, Some, None, get_or}
+use Rattle.std.specs.Prelude.{ℕ, ◌≡◌, ◌≤◌, ◌+◌, ◌==◌, ◌&&◌, min, max, nat_le, Bool, false, List, [], ◌∷◌, length, count_by, is_some, Option, Some, None, get_or}
 use Rattle.words.specs.declared.entry.Step.{Step}
 use Rattle.words.specs.declared.entry.Step.TheVariants.{Core, Evict, Deliver}
 use Rattle.network.specs.declared.net.Flight.{Flight}
@@ -83,3 +83,7 @@ abbrev pub figure_at : Traffic → Figure → ℕ
 figure_at t (figure.Sum s) = sum_at t s
 figure_at t figure.MostInFlight = t.most_in_flight
 figure_at t figure.MostInUse = t.most_in_use
+
+-- the messages in flight that were sent when so many had been before are counted, each as what it counts as
+abbrev pub AddsSent : ℕ → List (Option Flight) → Traffic → Traffic → Type 0
+AddsSent before flights old new = (s : Sum) → sum_at old s ≤ 18446744073709551615 → sum_at new s ≡ capped (sum_at old s + count_by (was_sent before s) flights)

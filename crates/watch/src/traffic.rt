@@ -1,6 +1,6 @@
 ghost use Rattle.std.specs.Prelude.{◌≡◌, ◌≤◌, ◌<◌, ◌+◌, ◌*◌, ℕ, length, get_or, max, count_by, is_some};
 ghost use Rattle.watch.specs.Kinds.{one_if};
-ghost use Rattle.watch.specs.Traffic.{capped, figure_at, is_same, sum_at, sum_of_step, was_sent};
+ghost use Rattle.watch.specs.Traffic.{AddsSent, capped, figure_at, is_same, sum_at, sum_of_step, was_sent};
 ghost use Rattle.watch.specs.declared.figures.Figure.{Figure as FigureValue};
 ghost use Rattle.watch.specs.declared.figures.Sum.{Sum as SumValue};
 ghost use Rattle.watch.specs.declared.figures.Sum.TheVariants.{Cores};
@@ -58,7 +58,7 @@ impl Traffic {
         sent: u64,
         machine: &Machine<SETS, WAYS>,
     ) -> usize
-        ensures added { (s : SumValue) → sum_at self.old s ≤ 18446744073709551615 → sum_at self.new s ≡ capped (sum_at self.old s + count_by (was_sent sent s) machine.now.flights) }
+        ensures added { AddsSent sent machine.now.flights self.old self.new }
         ensures rest { self.new ≡ record self.old { sums = self.new.sums } }
         ensures flying { result ≡ count_by is_some machine.now.flights }
     {
@@ -86,7 +86,7 @@ impl Traffic {
     )
         requires range { machine.now.sent < 18446744073709551615 }
         requires one { machine.now.sent ≡ sent + 1 }
-        ensures added { (s : SumValue) → sum_at self.old s ≤ 18446744073709551615 → sum_at self.new s ≡ capped (sum_at self.old s + count_by (was_sent sent s) machine.now.flights) }
+        ensures added { AddsSent sent machine.now.flights self.old self.new }
         ensures rest { self.new ≡ record self.old { sums = self.new.sums } }
     {
         if let Some(key) = machine.newest() {
@@ -103,7 +103,7 @@ impl Traffic {
         sent: u64,
         machine: &Machine<SETS, WAYS>,
     ) -> usize
-        ensures added { (s : SumValue) → sum_at self.old s ≤ 18446744073709551615 → sum_at self.new s ≡ capped (sum_at self.old s + count_by (was_sent sent s) machine.now.flights) }
+        ensures added { AddsSent sent machine.now.flights self.old self.new }
         ensures rest { self.new ≡ record self.old { sums = self.new.sums } }
         ensures flying { result ≡ count_by is_some machine.now.flights }
     {

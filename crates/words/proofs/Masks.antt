@@ -79,8 +79,8 @@ module _ (set r : ℕ) (within : r < 8) where
 
 -- the harts below a count
 module _ (set n : ℕ) where
-  pub first_below : n < 8 → (h : ℕ) → names (bit_and set (1 * 2 ^ n % 256 - 1)) h ≡ names set h && nat_lt h n
-  first_below few h =
+  pub below_count : n < 8 → (h : ℕ) → names (bit_and set (1 * 2 ^ n % 256 - 1)) h ≡ names set h && nat_lt h n
+  below_count few h =
       let ones : 1 * 2 ^ n % 256 ≡ 2 ^ n = one_shl n 8 few in
       let both : bit_at (bit_and set (2 ^ n - 1)) h ≡ min (bit_at set h) (bit_at (2 ^ n - 1) h) = bit_at_and set (2 ^ n - 1) h in
       let small : bit_at set h < 2 = bit_at-lt set h in
@@ -95,8 +95,8 @@ module _ (set n : ℕ) where
             grind (arith, nat_tests, none)
       ])
 
-  pub first_all : set < 256 → 8 ≤ n → (h : ℕ) → names set h ≡ names set h && nat_lt h n
-  first_all small many h = elim (cases_lt h n) [
+  pub below_all : set < 256 → 8 ≤ n → (h : ℕ) → names set h ≡ names set h && nat_lt h n
+  below_all small many h = elim (cases_lt h n) [
     | inl low ↦ grind (arith, nat_tests)
     | inr beyond ↦ let none : names set h ≡ false = names_beyond set small h (omega arith) in grind (arith, nat_tests, none)
   ]

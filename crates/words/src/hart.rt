@@ -116,7 +116,7 @@ impl HartSet {
 
     /// The members with a number below a count.
     #[inline(always)]
-    pub fn first(&self, count: usize) -> Self
+    pub fn below(&self, count: usize) -> Self
         ensures { (h : ℕ) → names result h ≡ (names self.now h && nat_lt h count) }
     {
         if count < HARTS {

@@ -1,7 +1,13 @@
-use Rattle.std.proofs.Common.{◌≡◌, ◌++◌, map, take, drop}
+use Rattle.std.proofs.Common.{◌≡◌, ◌<◌, ◌≤◌, ◌-◌, ℕ, [], get_or, length, map}
 use Rattle.std.specs.Option.{option_map}
 use Rattle.cache.specs.Line.{without_marks}
 use Rattle.cache.proofs.sets.clear_sets.Given as goal
 
 abbrev pub invariant-loop-set : goal.invariant-loop-set
-invariant-loop-set g l = l.sets ≡ map (map (option_map without_marks)) (take l.set l.initial.sets) ++ drop l.set l.initial.sets
+invariant-loop-set g l =
+    (length l.sets ≡ length l.initial.sets)
+    × ((s : ℕ) → s < l.set → get_or l.sets s [] ≡ map (option_map without_marks) (get_or l.initial.sets s []))
+    × ((s : ℕ) → l.set ≤ s → get_or l.sets s [] ≡ get_or l.initial.sets s [])
+
+abbrev pub decreases-loop-set : goal.decreases-loop-set
+decreases-loop-set g l = length l.initial.sets - l.set

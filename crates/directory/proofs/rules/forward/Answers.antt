@@ -11,13 +11,13 @@ pub loop-to-preserved : goal.loop-to-preserved
 loop-to-preserved c =
     let q = c.args.request.now in
     let expect = names c.args.expect.now in
-    let asked = c.first-asked.result in
+    let asked = c.below-asked.result in
     let to = c.in-Some.to in
     let start = messages_of c.args.sends.now in
     let next : IsNext asked c.loop-to.from to = c.in-Some.ensures.some in
-    let named : expect to ≡ true = asked-named expect c.args.harts asked c.first-asked.ensures to next.named in
-    let below : to < c.args.harts = asked-below expect c.args.harts asked c.first-asked.ensures to next.named in
-    let skipped : forwards to expect q.block q.kind q.requester q.stamp ≡ forwards c.loop-to.from expect q.block q.kind q.requester q.stamp = forwards-next expect q.block q.kind q.requester q.stamp c.args.harts asked c.first-asked.ensures c.loop-to.from to next in
+    let named : expect to ≡ true = asked-named expect c.args.harts asked c.below-asked.ensures to next.named in
+    let below : to < c.args.harts = asked-below expect c.args.harts asked c.below-asked.ensures to next.named in
+    let skipped : forwards to expect q.block q.kind q.requester q.stamp ≡ forwards c.loop-to.from expect q.block q.kind q.requester q.stamp = forwards-next expect q.block q.kind q.requester q.stamp c.args.harts asked c.below-asked.ensures c.loop-to.from to next in
     let before : messages_of c.loop-to.sends ≡ start ++ forwards to expect q.block q.kind q.requester q.stamp = rw skipped c.loop-to.invariant.0 in
     let pushed : messages_of c.push.new.list ≡ messages_of c.loop-to.sends ++ Forward to q.block q.kind q.requester q.stamp ∷ [] = messages_of-push c.loop-to.sends c.push.new.list c.forward_to.result _ c.forward_to.ensures c.push.ensures.items in
     let apart : q.requester ≢ to = apart_from expect _ _ c.requires.others named in
@@ -35,4 +35,4 @@ pub returns : goal.returns
 returns c =
     let q = c.args.request.now in
     let expect = names c.args.expect.now in
-    rw (forwards-end expect q.block q.kind q.requester q.stamp c.args.harts c.first-asked.result c.first-asked.ensures c.loop-to.from c.loop-to.invariant.3 c.in_default.ensures.none) c.loop-to.invariant.0
+    rw (forwards-end expect q.block q.kind q.requester q.stamp c.args.harts c.below-asked.result c.below-asked.ensures c.loop-to.from c.loop-to.invariant.3 c.in_default.ensures.none) c.loop-to.invariant.0

@@ -4,7 +4,7 @@ use Rattle.std.specs.Option.{option_map}
 use Rattle.watch.specs.Kinds.{one_if}
 use Rattle.watch.specs.Traffic.{capped, is_same, sum_at, was_sent}
 use Rattle.watch.proofs.Capping.{capped_low}
-use Rattle.watch.proofs.Sending.{counted_all, none_beyond, flies, flies_not, no_one, none_sent, nothing_in, one_sent, one_unsent, rest_of}
+use Rattle.watch.proofs.Sending.{counted_all, none_beyond, flies, flies_not, no_one, nothing_in, one_sent, one_unsent, rest_of}
 use Rattle.watch.proofs.traffic.Traffic.add_all.Goals.{in-Some+then-flight-sent, in-Some+else-flight-sent, in_default}
 use Rattle.watch.proofs.traffic.Traffic.add_all.Goals as goal
 

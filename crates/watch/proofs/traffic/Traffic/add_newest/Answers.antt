@@ -1,8 +1,8 @@
-use Rattle.std.proofs.Common.{◌≡◌, ◌+◌, ◌*◌, ◌<◌, sym, ap, ◌∙◌, arith}
+use Rattle.std.proofs.Common.{◌≡◌, ◌+◌, ◌*◌, sym, ap, ◌∙◌, arith}
 use Rattle.std.specs.Prelude.{count_by}
 use Rattle.std.specs.Option.{option_map}
 use Rattle.watch.specs.Kinds.{one_if}
-use Rattle.watch.specs.Traffic.{capped, is_same, sum_at, sum_of_message, was_sent}
+use Rattle.watch.specs.Traffic.{capped, is_same, sum_at, was_sent}
 use Rattle.watch.proofs.Capping.{capped_low}
 use Rattle.watch.proofs.Sending.{newest_counted, none_sent}
 use Rattle.watch.proofs.traffic.Traffic.add_newest.Goals as goal

@@ -1,14 +1,17 @@
 -- Which sets have a line.
-use Rattle.std.proofs.Common.{◌≡◌, ℕ, zero, suc, ◌<◌, Bool, true, false, is_some, Option, Some, None, List, [], ◌∷◌, length, get_or, set, map, replicate, refl, sym, ◌∙◌, ap, ◌↔◌, inl, inr}
+use Rattle.std.proofs.Common.{◌≡◌, ℕ, zero, suc, ◌<◌, Bool, true, false, is_some, Option, Some, None, List, [], ◌∷◌, length, get_or, set, map, replicate, refl, sym, ◌∙◌, ap, ◌↔◌, ◌||◌, inl, inr, arith}
 use lib.Seq.{map-set, map-set_same, ext_get_or}
 use Rattle.std.specs.List.{position_or_len}
 use Rattle.std.specs.Option.{option_map}
 use Rattle.std.proofs.lemmas.Bool.{cases_lt}
+use Rattle.std.proofs.lemmas.Bool.Decides.{nat_tests}
 use Rattle.std.proofs.lemmas.List.{get_or_past, get_or-map, get_or-set_same, length-map, length-set}
 use Rattle.cache.specs.declared.line.Line.{Line}
 use Rattle.cache.specs.Line.{without_marks}
 use Rattle.cache.specs.Ways.{has_line}
 use Rattle.cache.specs.Sets.{Sets, at, with_way, IsSound}
+use Rattle.cache.specs.Occupied.{may_have, mask_of}
+use Rattle.cache.proofs.Masks.{unoccupied}
 use Rattle.cache.proofs.Found.{some-position, position_is_none}
 use Rattle.cache.proofs.Fresh.{free_ways, fresh, get_or-free_ways}
 
@@ -75,18 +78,13 @@ unmarked-free ways none = both_free (map (option_map without_marks) ways) ways (
 pub occupied_at : (sets : Sets) (s : ℕ) → s < length sets → get_or (map has_line sets) s false ≡ has_line (get_or sets s [])
 occupied_at sets s h = get_or-map has_line sets s [] false h
 
--- a set's ways, by cases
-alike_at : (ways others : List (Option Line)) → length ways ≡ length others → has_line ways ≡ has_line others → (has_line ways ≡ true → ways ≡ others) → (b : Bool) → has_line ways ≡ b → ways ≡ others
-alike_at ways others long same each true is = each is
-alike_at ways others long same each false is = both_free ways others long is (sym same ∙ is)
-
--- sets that are alike where they have a line are alike
-pub alike : (sets others : Sets) → length sets ≡ length others → ((s : ℕ) → length (get_or sets s []) ≡ length (get_or others s [])) → map has_line sets ≡ map has_line others
-    → ((s : ℕ) → get_or (map has_line sets) s false ≡ true → get_or sets s [] ≡ get_or others s []) → sets ≡ others
-alike sets others count long same each =
-    ext_get_or [] sets others count (λ s h.
-    let both : has_line (get_or sets s []) ≡ has_line (get_or others s []) = sym (occupied_at sets s h) ∙ ap (λ (o : List Bool). get_or o s false) same ∙ occupied_at others s (rw (← count) h) in
-    alike_at (get_or sets s []) (get_or others s []) (long s) both (λ line. each s (occupied_at sets s h ∙ line)) (has_line (get_or sets s [])) refl)
+-- a set that may have no line, by the mask of those that have one
+pub free_at : (mask : ℕ) (sets : Sets) → mask ≡ mask_of 64 (map has_line sets) → (s : ℕ) → may_have mask s ≡ false → has_line (get_or sets s []) ≡ false
+free_at mask sets is s not =
+    elim (cases_lt s (length sets)) [
+      | inl h ↦ sym (occupied_at sets s h) ∙ unoccupied mask (map has_line sets) is s not
+      | inr h ↦ ap has_line (get_or_past sets s [] h)
+    ]
 
 -- as many ways in each set of two caches
 pub same_size : (count size : ℕ) (sets others : Sets) → IsSound count size sets → IsSound count size others → length sets ≡ count → length others ≡ count → (s : ℕ) → length (get_or sets s []) ≡ length (get_or others s [])
@@ -96,15 +94,31 @@ same_size count size sets others sound other long other_long s =
       | inr h ↦ rw (get_or_past sets s [] (rw long h), get_or_past others s [] (rw other_long h)) refl
     ]
 
--- whether two caches have the same lines, by their sets that have one
-pub alike_decides : (count size : ℕ) (sets others : Sets) → IsSound count size sets → IsSound count size others → length sets ≡ count → length others ≡ count → map has_line sets ≡ map has_line others
-    → ((s : ℕ) → get_or (map has_line sets) s false ≡ true → get_or sets s [] ≡ get_or others s []) ↔ (sets ≡ others)
-alike_decides count size sets others sound other long other_long same =
-    (λ each. alike sets others (long ∙ sym other_long) (same_size count size sets others sound other long other_long) same each, λ e s line. ap (λ (x : Sets). get_or x s []) e)
+-- sets of two caches, of which one mask says which have a line, are alike where they have one or not
+module _ (count size mask : ℕ) (sets others : Sets) (sound : IsSound count size sets) (other_sound : IsSound count size others) (long : length sets ≡ count) (other_long : length others ≡ count)
+    (is : mask ≡ mask_of 64 (map has_line sets)) (other_is : mask ≡ mask_of 64 (map has_line others)) where
+  alike_at : ((s : ℕ) → may_have mask s ≡ true → get_or sets s [] ≡ get_or others s []) → (s : ℕ) (may : Bool) → may_have mask s ≡ may → get_or sets s [] ≡ get_or others s []
+  alike_at each s true may = each s may
+  alike_at each s false may =
+      both_free (get_or sets s []) (get_or others s []) (same_size count size sets others sound other_sound long other_long s) (free_at mask sets is s may) (free_at mask others other_is s may)
+
+  -- so those that may have a line decide
+  pub alike_decides : ((s : ℕ) → may_have mask s ≡ true → get_or sets s [] ≡ get_or others s []) ↔ (sets ≡ others)
+  alike_decides = (λ each. ext_get_or [] sets others (long ∙ sym other_long) (λ s h. alike_at each s (may_have mask s) refl), λ e s may. ap (λ (x : Sets). get_or x s []) e)
+
+-- a set that neither of two caches says to have a line is the same in both
+pub neither : (count size mask other_mask : ℕ) (sets others : Sets) → IsSound count size sets → IsSound count size others → length sets ≡ count → length others ≡ count → mask ≡ mask_of 64 (map has_line sets) → other_mask ≡ mask_of 64 (map has_line others)
+    → (s : ℕ) → (may_have mask s || may_have other_mask s) ≡ false → get_or sets s [] ≡ get_or others s []
+neither count size mask other_mask sets others sound other_sound long other_long is other_is s not =
+    both_free (get_or sets s []) (get_or others s []) (same_size count size sets others sound other_sound long other_long s)
+    (free_at mask sets is s (grind (arith, nat_tests, not))) (free_at other_mask others other_is s (grind (arith, nat_tests, not)))
+
+-- a set that may have no line has no marks to take away
+pub unmarked_at : (mask : ℕ) (sets : Sets) → mask ≡ mask_of 64 (map has_line sets) → (s : ℕ) → may_have mask s ≡ false → get_or sets s [] ≡ map (option_map without_marks) (get_or sets s [])
+unmarked_at mask sets is s not = sym (unmarked-free (get_or sets s []) (free_at mask sets is s not))
 
 -- whether a set has a line, once it was read
-pub removed-occupied : (sets : Sets) (s : ℕ) (ways read : List (Option Line)) (occupied : List Bool) (b : Bool) → s < length sets → occupied ≡ map has_line sets → read ≡ get_or (set sets s ways) s read → b ≡ has_line read
-    → set occupied s b ≡ map has_line (set sets s ways)
-removed-occupied sets s ways read occupied b within told is line =
+pub removed-occupied : (sets : Sets) (s : ℕ) (ways read : List (Option Line)) (b : Bool) → s < length sets → read ≡ get_or (set sets s ways) s read → b ≡ has_line read → set (map has_line sets) s b ≡ map has_line (set sets s ways)
+removed-occupied sets s ways read b within is line =
     let now : read ≡ ways = is ∙ get_or-set_same sets s ways read within in
-    (λ i. set (told i) s ((line ∙ ap has_line now) i)) ∙ sym (map-set has_line sets s ways)
+    ap (set (map has_line sets) s) (line ∙ ap has_line now) ∙ sym (map-set has_line sets s ways)
