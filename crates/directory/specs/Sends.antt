@@ -16,10 +16,10 @@ messages_of sends = map (λ sent. shown sent.message) sends.items
 abbrev pub messages_in : ℕ → Answer → List Message
 messages_in n Silent = []
 messages_in n (Acknowledged to block) = PutAck to block ∷ []
-messages_in n (Granted to block kind stamp give content expect) =
+messages_in n (Granted to give expect content block kind stamp) =
     Grant to block (record { give = give; content = content; expect = names expect }) ∷ forwards n (names expect) block kind to stamp
 
 -- nobody awaits an answer of its own
 abbrev pub AwaitsOthers : Answer → Type 0
-AwaitsOthers (Granted to block kind stamp give content expect) = names expect to ≡ false
+AwaitsOthers (Granted to give expect content block kind stamp) = names expect to ≡ false
 AwaitsOthers answer = ⊤

@@ -301,6 +301,7 @@ impl Directory {
     }
 
     /// Puts an entry in the place of the one that a block has, and keeps it unless it is the first one again.
+    #[inline(always)]
     fn replace(&mut self, block: BlockNo, entry: DirEntry)
         requires present { IsSome (kept_at self.old block) }
         requires named { NamesBelow self.old.harts (shown_entry entry) }

@@ -41,12 +41,12 @@ pub enum Answer {
     /// number.
     Granted {
         to: HartId,
+        give: LineState,
+        expect: HartSet,
+        content: Block,
         block: BlockNo,
         kind: Kind,
         stamp: Option<Stamp>,
-        give: LineState,
-        content: Block,
-        expect: HartSet,
     },
 }
 

@@ -24,8 +24,8 @@ decides_state a b = search rules
 decides_granted : (a b : Granted) → Decides ((granted.ghosts).eq a b) (a ≡ b)
 decides_granted a b =
     Decides-like _ (λ h. search rules) (λ e. search rules)
-    (Decides-and _ _ (decides_state a.give b.give)
     (Decides-and _ _ (pointwise_decides Decides-eqb a.content b.content)
+    (Decides-and _ _ (decides_state a.give b.give)
     (Decides-eqb a.expect b.expect)))
 
 pub decides_request : (a b : Request) → Decides ((request.ghosts).eq a b) (a ≡ b)

@@ -267,6 +267,7 @@ impl<const SETS: usize, const WAYS: usize> Hart<SETS, WAYS> {
     }
 
     /// The request for a block ends granted, and the hart is fresh: the block's line gets this content, and the directory is told what memory lacks.
+    #[inline(always)]
     fn end_granted(
         &mut self,
         block: BlockNo,
@@ -304,6 +305,7 @@ impl<const SETS: usize, const WAYS: usize> Hart<SETS, WAYS> {
 
     /// The block that the hart waits for is given: an absent line is filled, and one that is there may be written from now on, if
     /// M is given.
+    #[inline(never)]
     fn receive(&mut self, block: BlockNo, give: LineState, content: Block)
         requires { IsSomeAnd self.old.request (λ old. block ≡ old.block) }
         ensures hart { (output : List ℕ) → let h = shown_hart SETS output self.old in

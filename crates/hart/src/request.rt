@@ -11,8 +11,8 @@ use words::{Block, BlockNo, HartId, HartSet, Kind, LineState};
 /// request awaits.
 #[derive(Clone, Copy, Debug, PartialEq, Eq)]
 pub struct Granted {
-    pub give: LineState,
     pub content: Block,
+    pub give: LineState,
     pub expect: HartSet,
 }
 

@@ -126,7 +126,7 @@ impl<const SETS: usize, const WAYS: usize> Hart<SETS, WAYS> {
 
     /// A transaction begins, or goes one deeper. An outermost one takes a new stamp, where so many were taken, unless an abort has
     /// left one.
-    #[inline(never)]
+    #[inline(always)]
     pub(crate) fn begin(
         &mut self,
         word: u32,
@@ -153,7 +153,7 @@ impl<const SETS: usize, const WAYS: usize> Hart<SETS, WAYS> {
     }
 
     /// The innermost transaction ends; the end of the outermost takes all marks away.
-    #[inline(never)]
+    #[inline(always)]
     pub(crate) fn commit(&mut self, word: u32, effect: &Effect) -> CoreStep
         requires act { effect.now.act ≡ act.Commit }
         requires free { self.old.request ≡ None }

@@ -23,3 +23,14 @@ impl Listener for Nobody {
     #[inline(always)]
     fn hear(&mut self, _entry: &Option<Entry>) {}
 }
+
+/// Whoever makes a step is answered its entry, and doesn't listen too.
+#[derive(Clone, Copy, Debug)]
+pub(crate) struct Caller;
+
+impl Listener for Caller {
+    ghost hears = { λ caller _ after. after ≡ caller };
+
+    #[inline(always)]
+    fn hear(&mut self, _entry: &Option<Entry>) {}
+}

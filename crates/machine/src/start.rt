@@ -11,7 +11,7 @@ ghost use Rattle.machine.specs.States.{words_of, Seat as SeatValue};
 
 use crate::loaded::Loaded;
 use crate::machine::Machine;
-use crate::seat::Seat;
+use crate::seat::{HOST_LINE, Seat};
 use boot::{boot_fault, image};
 use directory::Directory;
 use flat::BootFault;
@@ -72,6 +72,7 @@ impl<const SETS: usize, const WAYS: usize> Seat<SETS, WAYS> {
         Seat {
             hart: Hart::new(HartId::new(i as u8), harts, size, entry),
             output: Vec::new(alloc),
+            apart: [0; HOST_LINE],
         }
     }
 }

@@ -8,6 +8,7 @@ ghost use Rattle.protocol.specs.Messages.{shown as shown_message, receiver_of};
 ghost use Rattle.isolation.specs.Belongs.{Belongs};
 ghost use Rattle.machine.specs.Mail.{in_flight, NumbersOn};
 
+use crate::listener::{Caller, Listener};
 use crate::machine::Machine;
 use crate::mail::{receiver, send, send_answer, take};
 use std::alloc::AllocError;
@@ -28,9 +29,9 @@ fn stamps_after(taken: u64, stamped: bool) -> u64
 impl<const SETS: usize, const WAYS: usize> Machine<SETS, WAYS> {
     ghost use Rattle.machine.specs.States.{shown, geometry};
 
-    /// One step of a hart's core.
+    /// One step of a hart's core. It is too large to be inlined at more than one place, so there is one of it for each listener.
     #[inline(always)]
-    pub(crate) fn core(&mut self, id: HartId) -> Result<Option<Entry>, AllocError>
+    pub(crate) fn core<L: Listener>(&mut self, id: HartId) -> Result<Option<Entry>, AllocError>
         ensures steps { IfOk result (λ e. Steps (geometry SETS WAYS) (shown SETS self.old) (Core id) e (shown SETS self.new)) }
         ensures numbers { NumbersOn self.old.flights self.old.sent self.new.flights self.new.sent }
         ensures err { OnErr result (self.new ≡ self.old) }
@@ -141,7 +142,7 @@ impl<const SETS: usize, const WAYS: usize> Machine<SETS, WAYS> {
         match step {
             Step::Core(id) => match self.retire_plain(id) {
                 Some(entry) => Ok(Some(entry)),
-                None => self.core(id),
+                None => self.core::<Caller>(id),
             },
             Step::Evict(id, block) => self.evict(id, block),
             Step::Deliver(key) => self.deliver(key),
