@@ -1,4 +1,8 @@
 pub mod Replays
-pub mod Locals
+mod Courses
+mod Returns
+mod Locals
+mod Names
 mod Payments
+mod Turns
 mod Boxed

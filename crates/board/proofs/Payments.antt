@@ -1,26 +1,34 @@
 -- A visit with one step more.
-use Rattle.std.proofs.Common.{ℕ, ◌+◌, List, [], ◌∷◌, ◌++◌, true, Option, Some, refl, subst, arith, length-append}
+use Rattle.std.proofs.Common.{ℕ, ◌+◌, List, [], ◌∷◌, ◌++◌, true, Option, Some, Result, Ok, Err, refl, subst, arith, length-append}
+use Rattle.std.specs.Prelude.{OnErr}
 use Rattle.words.specs.declared.entry.Entry.{Entry}
 use Rattle.words.specs.declared.entry.Step.{Step}
 use Rattle.words.specs.declared.entry.Step.TheVariants.{Core}
 use Rattle.protocol.specs.Caches.{Geometry}
-use Rattle.board.specs.Boards.{Recorded, IsTurn}
+use Rattle.board.specs.Histories.{Told}
+use Rattle.board.specs.Boards.{Held, IsTurn}
 use Rattle.board.specs.Visits.{Owes, PaysOff, PaysOne, IsVisitOf}
 
-pays_more : (g : Geometry) (i : ℕ) (xs : List Step) (x : Step) (b c d : Recorded) (e : Option Entry) → PaysOff g i xs b c → Owes g i c.machine (Some x) → IsTurn g c x e d → PaysOff g i (xs ++ x ∷ []) b d
-pays_more g i [] x b c d e p owes t =
-    (d, e, subst (λ (r : Recorded). Owes g i r.machine (Some x)) p owes, subst (λ (r : Recorded). IsTurn g r x e d) p t, refl)
-pays_more g i (y ∷ ys) x b c d e p owes t = (p.0, p.1, p.2, p.3, pays_more g i ys x p.0 c d e p.4 owes t)
+module _ {J : Type 0} (g : Geometry) (tells : J → Told → Type 0) (i : ℕ) where
+  pays_more : (xs : List Step) (x : Step) (b c d : Held J) (e : Option Entry) → PaysOff g tells i xs b c → Owes g i c.machine (Some x) → IsTurn g tells c x e d → PaysOff g tells i (xs ++ x ∷ []) b d
+  pays_more [] x b c d e p owes t =
+      (d, e, subst (λ (r : Held J). Owes g i r.machine (Some x)) p owes, subst (λ (r : Held J). IsTurn g tells r x e d) p t, refl)
+  pays_more (y ∷ ys) x b c d e p owes t = (p.0, p.1, p.2, p.3, pays_more ys x p.0 c d e p.4 owes t)
 
-pub visit_first : (g : Geometry) (i : ℕ) (b c : Recorded) (e : Option Entry) → IsTurn g b (Core i) e c → IsVisitOf g i 0 b c
-visit_first g i b c e t = record { steps = []; count = refl; middle = c; entry = e; begins = t; pays = refl }
+  pub visit_first : (b c : Held J) → (e : Option Entry) × IsTurn g tells b (Core i) e c → IsVisitOf g tells i 0 b c
+  visit_first b c t = record { steps = []; count = refl; middle = c; entry = t.0; begins = t.1; pays = refl }
 
-pub visit_more : (g : Geometry) (i n : ℕ) (b c d : Recorded) → IsVisitOf g i n b c → PaysOne g i true c d → IsVisitOf g i (n + 1) b d
-visit_more g i n b c d v o = record {
-  steps = v.steps ++ o.0 ∷ [];
-  count = omega (arith, length-append v.steps (o.0 ∷ []), v.count);
-  middle = v.middle;
-  entry = v.entry;
-  begins = v.begins;
-  pays = pays_more g i v.steps o.0 v.middle c d o.1 v.pays o.2 o.3;
-}
+  pub visit_more : (n : ℕ) (b c d : Held J) → IsVisitOf g tells i n b c → PaysOne g tells i true c d → IsVisitOf g tells i (n + 1) b d
+  visit_more n b c d v o = record {
+    steps = v.steps ++ o.0 ∷ [];
+    count = omega (arith, length-append v.steps (o.0 ∷ []), v.count);
+    middle = v.middle;
+    entry = v.entry;
+    begins = v.begins;
+    pays = pays_more v.steps o.0 v.middle c d o.1 v.pays o.2 o.3;
+  }
+
+-- what holds anyway holds after an error
+pub always_err : {A E : Type 0} (P : Type 0) (r : Result A E) → P → OnErr r P
+always_err P (Ok a) h = tt {0}
+always_err P (Err e) h = h

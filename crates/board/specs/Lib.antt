@@ -1,7 +1,5 @@
-pub mod Loans
 pub mod Leases
-pub mod Ends
+pub mod Histories
 pub mod Boards
 pub mod Visits
-pub mod Hubs
-pub mod HubVisits
+pub mod Ends

@@ -7,9 +7,10 @@ ghost use Rattle.board.specs.Visits.{Visits};
 ghost use Rattle.board.specs.Ends.{IsTurnsEnd};
 
 use crate::board::Board;
+use crate::journal::Journal;
 use crate::lease::Lease;
 use crate::refusal::Refusal;
-use std::alloc::{AllocError, Allocator};
+use std::alloc::AllocError;
 use words::HartId;
 
 /// What a worker does with a lease. Neither is called while a lock is held.
@@ -69,27 +70,27 @@ pub trait Desk {
     }
 }
 
-impl<'p, const SETS: usize, const WAYS: usize, A: Allocator + Copy> Desk
-    for Board<'p, SETS, WAYS, A> {
-    type Lease = Lease<'p, SETS, WAYS>;
+impl<'p, const SETS: usize, const WAYS: usize, J: Journal<SETS, WAYS>> Desk
+    for Board<'p, SETS, WAYS, J> {
+    type Lease = Lease<'p, SETS, WAYS, J::Trace>;
 
-    ghost settles = { Settles };
+    ghost settles = { Settles J.tells J.Trace.traces };
 
-    ghost visits = { Visits (geometry SETS WAYS) };
+    ghost visits = { Visits (geometry SETS WAYS) J.tells };
 
-    ghost lends = { Lends };
+    ghost lends = { Lends J.Trace.traces };
 
-    ghost lends_again = { LendsAgain };
+    ghost lends_again = { LendsAgain J.Trace.traces };
 
-    fn lend(&self, id: HartId) -> Option<Lease<'p, SETS, WAYS>> {
+    fn lend(&self, id: HartId) -> Option<Lease<'p, SETS, WAYS, J::Trace>> {
         Board::lend(self, id)
     }
 
-    fn lend_again(&self, id: HartId, lease: &mut Lease<'p, SETS, WAYS>) -> bool {
+    fn lend_again(&self, id: HartId, lease: &mut Lease<'p, SETS, WAYS, J::Trace>) -> bool {
         Board::lend_again(self, id, lease)
     }
 
-    fn settle(&mut self, lease: &Lease<'p, SETS, WAYS>) -> Result<(), Refusal> {
+    fn settle(&mut self, lease: &Lease<'p, SETS, WAYS, J::Trace>) -> Result<(), Refusal> {
         Board::settle(self, lease)
     }
 

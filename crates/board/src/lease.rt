@@ -1,68 +1,60 @@
-ghost use Rattle.std.specs.Prelude.{◌≡◌, ◌≤◌, ◌+◌, ◌⊎◌, ◌↔◌, ◌++◌, ◌∷◌, [], ℕ, List, length, true, false, IsTrue, IsFalse};
+ghost use Rattle.std.specs.Prelude.{◌≡◌, ◌≤◌, ◌<◌, ◌+◌, ◌*◌, ◌^◌, ◌⊎◌, ◌↔◌, if◌then◌else◌, List, length, IsTrue};
 ghost use Rattle.words.specs.declared.entry.Entry.{Entry};
 ghost use Rattle.hart.specs.declared.reply.Local.TheVariants.{NeedsHub};
 ghost use Rattle.hart.specs.Locals.{FollowsAlone};
 ghost use Rattle.hart.specs.Rows.{setting_of};
-ghost use Rattle.machine.specs.Lent.{RetiresAlone, RunsAlone};
-ghost use Rattle.board.specs.Loans.{most_steps, as_lent};
-ghost use Rattle.board.specs.Leases.{IsSound};
+ghost use Rattle.board.specs.Leases.{most_steps, HasRun, TracesMore, IsNew, FitsIn};
 
 use crate::code::Code;
-use crate::loan::{Loan, STEPS};
-use arrayvec::ArrayVec;
+use crate::status::is_hart;
+use crate::trace::{STEPS, Trace, Traced};
 use hart::Hart;
+use loader::Program;
+use machine::Machine;
 use std::marker::Model;
-use words::{AbortCause, Entry, HartId};
+use table::Text;
+use words::HartId;
 
-/// The entry of a step. `Entry` has no default value, which the places of a list that aren't used yet have to have.
-#[derive(Clone, Copy, Debug, PartialEq, Eq)]
-pub(crate) struct Retired {
-    pub(crate) entry: Entry,
-}
-
-impl Model for Retired {
-    ghost use Rattle.words.specs.declared.entry.Entry.{Entry};
-
-    ghost Value = { Entry };
-
-    ghost view = { λ r. r.entry };
-
-    ghost inverse = { λ e. record { entry = e } };
-}
-
-impl Default for Retired {
-    fn default() -> Self {
-        let nobody = HartId::new(0);
-        Retired {
-            entry: Entry::Abort {
-                hart: nobody,
-                cause: AbortCause::Asked,
-            },
-        }
-    }
-}
-
-/// A loan that keeps the entries of its steps.
+/// A copy of a hart, how many steps it has made by itself since it was lent, and what is kept of their entries. A hart that hasn't begun is what it was
+/// lent as, and is copied only then, so that lending copies it once.
 #[derive(Drop)]
-pub struct Lease<'p, const SETS: usize, const WAYS: usize> {
-    loan: Loan<'p, SETS, WAYS>,
-    entries: ArrayVec<Retired, STEPS>,
+pub struct Lease<'p, const SETS: usize, const WAYS: usize, T: Trace<SETS, WAYS> = Traced> {
+    code: Code<'p>,
+    harts: u32,
+    size: u32,
+    id: HartId,
+    before: Hart<SETS, WAYS>,
+    after: Hart<SETS, WAYS>,
+    begun: bool,
+    steps: usize,
+    trace: T,
 }
 
-impl<'p, const SETS: usize, const WAYS: usize> Model for Lease<'p, SETS, WAYS> {
+impl<'p, const SETS: usize, const WAYS: usize, T: Trace<SETS, WAYS>> Model
+    for Lease<'p, SETS, WAYS, T> {
     ghost use Rattle.board.specs.Leases.{Lent};
 
-    ghost Value = { Lent };
+    ghost Value = { Lent T };
 
-    ghost view = { λ l. record { loan = l.loan; entries = l.entries.items } };
+    ghost use Rattle.std.specs.Prelude.{◌≤◌, if◌then◌else◌};
+    ghost use Rattle.board.specs.Leases.{most_steps, HasRun};
 
-    ghost use Rattle.std.specs.Prelude.{◌≡◌, length};
-    ghost use Rattle.machine.specs.Lent.{RunsAlone};
+    ghost view = { λ l. record {
+      program = l.code.program.now;
+      harts = l.harts;
+      size = l.size;
+      id = l.id;
+      before = l.before;
+      after = if l.begun then l.after else l.before;
+      steps = l.steps;
+      trace = l.trace;
+    } };
 
-    ghost invariant = { λ l. RunsAlone SETS l.loan.program.segments l.loan.before l.entries.items l.loan.after × (length l.entries.items ≡ l.loan.steps) };
+    ghost invariant = { λ l. HasRun SETS (T.traces l.trace) l.code.program.now.segments l.steps l.before (if l.begun then l.after else l.before)
+        × (l.steps ≤ most_steps) };
 }
 
-impl<'p, const SETS: usize, const WAYS: usize> Lease<'p, SETS, WAYS> {
+impl<'p, const SETS: usize, const WAYS: usize, T: Trace<SETS, WAYS>> Lease<'p, SETS, WAYS, T> {
     /// A hart as it is lent.
     pub(crate) fn new(
         code: Code<'p>,
@@ -71,12 +63,18 @@ impl<'p, const SETS: usize, const WAYS: usize> Lease<'p, SETS, WAYS> {
         id: HartId,
         hart: &Hart<SETS, WAYS>,
     ) -> Self
-        ensures loan { result.loan ≡ as_lent code.entry.program.now harts size id hart.now }
-        ensures entries { result.entries ≡ [] }
+        ensures { IsNew T.traces code.entry.program.now harts size id hart.now result }
     {
         Lease {
-            loan: Loan::new(code, harts, size, id, hart),
-            entries: ArrayVec::new(),
+            code,
+            harts,
+            size,
+            id,
+            before: *hart,
+            after: *hart,
+            begun: false,
+            steps: 0,
+            trace: T::new(),
         }
     }
 
@@ -89,81 +87,130 @@ impl<'p, const SETS: usize, const WAYS: usize> Lease<'p, SETS, WAYS> {
         id: HartId,
         hart: &Hart<SETS, WAYS>,
     )
-        ensures loan { self.new.loan ≡ as_lent code.entry.program.now harts size id hart.now }
-        ensures entries { self.new.entries ≡ [] }
+        ensures { IsNew T.traces code.entry.program.now harts size id hart.now self.new }
     {
-        self.loan.renew(code, harts, size, id, hart);
-        self.entries.clear();
+        self.code = code;
+        self.harts = harts;
+        self.size = size;
+        self.id = id;
+        self.before.assign(hart);
+        self.begun = false;
+        self.steps = 0;
+        self.trace.clear();
     }
 
     /// How many steps the hart has made since it was lent.
     pub fn len(&self) -> usize
-        ensures value { result ≡ length self.now.entries }
+        ensures value { result ≡ self.now.steps }
         ensures few { result ≤ most_steps }
+        ensures traced { (es : List Entry) × T.traces self.now.trace es × (length es ≡ result) }
     {
-        self.entries.len()
+        self.steps
     }
 
     /// Whether it has made none.
     pub fn is_empty(&self) -> bool
-        ensures { IsTrue result ↔ (self.now.entries ≡ []) }
+        ensures { IsTrue result ↔ (self.now.steps ≡ 0) }
     {
-        self.entries.is_empty()
+        self.steps == 0
     }
 
     /// The number of the hart.
     pub fn hart(&self) -> HartId
-        ensures { result ≡ self.now.loan.id }
+        ensures { result ≡ self.now.id }
     {
-        self.loan.hart()
+        self.id
     }
 
-    /// The loan.
-    pub(crate) fn loan(&self) -> &Loan<'p, SETS, WAYS>
-        ensures value { result.now ≡ self.now.loan }
-        ensures sound { IsSound SETS self.now }
+    /// The hart as it is now.
+    pub(crate) fn after(&self) -> &Hart<SETS, WAYS>
+        ensures value { result.now ≡ self.now.after }
+        ensures ran { HasRun SETS (T.traces self.now.trace) self.now.program.segments self.now.steps self.now.before self.now.after }
     {
-        &self.loan
+        if self.begun {
+            &self.after
+        } else {
+            &self.before
+        }
     }
 
-    /// The entries of its steps.
-    pub(crate) fn entries(&self) -> &[Retired]
-        ensures { result.now ≡ self.now.entries }
+    /// What is kept of the entries of its steps.
+    pub(crate) fn trace(&self) -> &T
+        ensures { result.now ≡ self.now.trace }
     {
-        self.entries.as_slice()
+        &self.trace
+    }
+
+    /// Whether it is of this program, number of harts and size of memory, and its hart is still in the machine as it was lent.
+    pub(crate) fn fits(
+        &self,
+        program: &Program,
+        harts: u32,
+        size: u32,
+        machine: &Machine<SETS, WAYS>,
+    ) -> bool
+        requires { SETS * WAYS < 2 ^ 32 }
+        ensures { IsTrue result ↔ FitsIn program.now harts size machine.now self.now }
+    {
+        self.harts == harts
+            && self.size == size
+            && is_hart(machine, self.id, &self.before)
+            && self.code.program.same(program)
     }
 
     /// The hart goes on by itself until it has made so many steps more, the lease has 64, or the hart needs its machine. The answer is how many it
     /// has made.
     pub fn run(&mut self, most: usize) -> usize
-        ensures rest { self.new.loan ≡ record self.old.loan { after = self.new.loan.after; steps = self.old.loan.steps + result } }
-        ensures steps { (es : List Entry) × (self.new.entries ≡ self.old.entries ++ es) × (length es ≡ result)
-            × RunsAlone SETS self.old.loan.program.segments self.old.loan.after es self.new.loan.after }
+        ensures rest { self.new ≡ record self.old { after = self.new.after; steps = self.old.steps + result; trace = self.new.trace } }
+        ensures ran { HasRun SETS (λ es. TracesMore T.traces self.old.trace es self.new.trace) self.old.program.segments result self.old.after self.new.after }
         ensures most { result ≤ most }
-        ensures stops { (result ≡ most) ⊎ ((length self.new.entries ≡ most_steps)
-            ⊎ FollowsAlone SETS (setting_of self.new.loan.program.segments self.new.loan.after) self.new.loan.after self.new.loan.after NeedsHub) }
+        ensures stops { (result ≡ most) ⊎ ((self.new.steps ≡ most_steps)
+            ⊎ FollowsAlone SETS (setting_of self.new.program.segments self.new.after) self.new.after self.new.after NeedsHub) }
     {
-        for made in 0..most {
-            if !self.step() {
-                return made;
-            }
-        }
-        most
+        let room = STEPS - self.steps;
+        begin(self.begun, &self.before, &mut self.after);
+        self.begun = true;
+        let made = retire_most(
+            &mut self.after,
+            &mut self.trace,
+            self.code.text(),
+            most.min(room),
+        );
+        self.steps += made;
+        made
     }
+}
 
-    /// One step, if there is room for it and the hart makes it by itself.
-    fn step(&mut self) -> bool
-        ensures rest { self.new.loan ≡ record self.old.loan { after = self.new.loan.after; steps = self.new.loan.steps } }
-        ensures made { IsTrue result → (e : Entry) × (self.new.loan.steps ≡ self.old.loan.steps + 1) × (self.new.entries ≡ self.old.entries ++ e ∷ [])
-            × RetiresAlone SETS self.old.loan.program.segments self.old.loan.after e self.new.loan.after }
-        ensures none { IsFalse result → self.new ≡ self.old }
-        ensures stops { IsFalse result → (length self.new.entries ≡ most_steps)
-            ⊎ FollowsAlone SETS (setting_of self.new.loan.program.segments self.new.loan.after) self.new.loan.after self.new.loan.after NeedsHub }
-    {
-        let Some(entry) = self.loan.step() else {
-            return false;
-        };
-        self.entries.push(Retired { entry });
-        true
+/// Copies a hart as it was lent, if it hasn't begun.
+fn begin<const SETS: usize, const WAYS: usize>(
+    begun: bool,
+    before: &Hart<SETS, WAYS>,
+    after: &mut Hart<SETS, WAYS>,
+)
+    ensures { after.new ≡ (if begun then after.old else before.now) }
+{
+    if !begun {
+        after.assign(before);
     }
+}
+
+/// Has a hart retire words by itself until they are so many, or it needs its machine, and keeps of their entries what the trace keeps. The answer is how
+/// many they are.
+fn retire_most<const SETS: usize, const WAYS: usize, T: Trace<SETS, WAYS>>(
+    hart: &mut Hart<SETS, WAYS>,
+    trace: &mut T,
+    text: &Text<'_>,
+    most: usize,
+) -> usize
+    requires { (es : List Entry) × T.traces trace.old es × (length es + most ≤ most_steps) }
+    ensures ran { HasRun SETS (λ es. TracesMore T.traces trace.old es trace.new) text.now.segments.now result hart.old hart.new }
+    ensures most { result ≤ most }
+    ensures stops { (result ≡ most) ⊎ FollowsAlone SETS (setting_of text.now.segments.now hart.new) hart.new hart.new NeedsHub }
+{
+    for made in 0..most {
+        if !trace.retire(hart, text) {
+            return made;
+        }
+    }
+    most
 }

@@ -1,20 +1,22 @@
-//! A board: a machine with the history of its steps. Harts are lent out, as to threads, make steps by themselves, and come back.
+//! A board: a machine with a journal of the steps that have led to it. Harts are lent out, as to threads, make steps by themselves, and come back.
 //!
 //! Workers are such threads: each has a hart lent, run and settled, turn after turn, under one lock.
 //!
-//! A hub is a machine that harts are lent from in the same way, with a journal of the choices that have led to it. It keeps no history of its own, and no
-//! entries.
+//! What a board's journal keeps is its user's choice: all steps with their entries, the choices that the steps were, or nothing.
 #![tactic(auto)]
 
 mod board;
 mod code;
 mod desk;
 mod end;
-mod hub;
+mod journal;
 mod lease;
-mod loan;
+mod lending;
+mod owed;
 mod refusal;
 mod status;
+mod trace;
+mod turn;
 mod visit;
 mod worker;
 
@@ -22,9 +24,9 @@ pub use board::{Board, Finished};
 pub use code::Code;
 pub use desk::{Desk, Gate};
 pub use end::End;
-pub use hub::{Ended, Hub};
+pub use journal::{Chosen, Journal, Replay, Unkept};
 pub use lease::Lease;
-pub use loan::{Loan, STEPS};
 pub use refusal::Refusal;
 pub use status::{is_hart, is_running, running};
+pub use trace::{STEPS, Trace, Traced, Untraced};
 pub use worker::{serve, work};

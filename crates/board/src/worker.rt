@@ -75,8 +75,8 @@ pub fn work<D: Desk, G: Gate<D::Lease>, R: Wait>(
     Ok(End::Limit)
 }
 
-/// The work of each of so many harts, in threads, and how each ended, in their order. What no thread can be started for, the caller does. It fails
-/// if one of them wanted memory that there wasn't.
+/// The work of each of so many harts, in threads, and how each ended, in their order. The caller itself serves a hart for which no thread could be
+/// started. It fails if memory ran out for one of them.
 pub fn serve<D: Desk + Send, G: Gate<D::Lease> + Sync, R: Threads + Wait + Sync>(
     rt: &R,
     desk: &Mutex<D>,

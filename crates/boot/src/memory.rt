@@ -3,7 +3,7 @@ ghost use Rattle.std.specs.List.{list_all, AllByRecursion};
 ghost use Rattle.loader.specs.Programs.{IsSegment};
 ghost use Rattle.table.specs.Program.{AreBytes, holds, byte_in, image_at};
 ghost use Rattle.flat.specs.Boots.{ends_by};
-ghost use Rattle.overlay.specs.Memory.{mem_of};
+ghost use Rattle.boot.specs.Memory.{mem_of};
 
 use loader::Program;
 use std::alloc::{AllocError, Global};

@@ -5,7 +5,7 @@ use Rattle.std.specs.Option.{IsSome, ok_or, option_map, option_map_or, option_to
 use Rattle.clap.specs.Words.{Row, Text, first_of, first_value, matched_of, raw_values, rows_of}
 use Rattle.clap.specs.declared.parser.matches.Found.{Found}
 use Rattle.clap.proofs.WalkLemmas.{first_value-rows, raw_values-rows}
-use Rattle.numerals.specs.Numbers.{number_of}
+use Rattle.texts.specs.Numbers.{number_of}
 use Rattle.command_line.specs.declared.request.Cache.{Cache}
 use Rattle.command_line.specs.declared.request.Cache.TheVariants.{Normal}
 use Rattle.command_line.specs.declared.request.Stats.{Stats}

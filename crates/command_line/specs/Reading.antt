@@ -4,7 +4,7 @@ use Rattle.std.specs.Option.{option_map, option_map_or, option_to_list}
 use Rattle.std.specs.Str.{bytes_eq}
 use Rattle.clap.specs.Words.{Row, Text, all_of, fault_of, first_of, subcommand_of}
 use Rattle.command_line.specs.Command.{logtm}
-use Rattle.numerals.specs.Numbers.{number_of}
+use Rattle.texts.specs.Numbers.{number_of}
 use Rattle.command_line.specs.declared.fault.OrderFault.{OrderFault}
 use Rattle.command_line.specs.declared.fault.OrderFault.TheVariants.{Refused, Value, TwoViews, LongPicture, ThreadsAlone, NoMemory}
 use Rattle.command_line.specs.declared.request.Cache.{Cache}

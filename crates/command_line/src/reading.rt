@@ -1,6 +1,6 @@
 ghost use Rattle.std.specs.Prelude.{◌≡◌, IfSome, MatchResult, None, Some, codes, map, option_map, true};
 ghost use Rattle.clap.specs.Words.{first_of, found_of, rows_of};
-ghost use Rattle.numerals.specs.Numbers.{number_of};
+ghost use Rattle.texts.specs.Numbers.{number_of};
 ghost use Rattle.command_line.specs.Reading.{HasValue, IsComplete, IsReadingOf, IsReadingOfWords, IsRunOf, IsDebugOf};
 ghost use Rattle.command_line.specs.Reading.{NamesFirstIn, NamesFirstOf, cache_of, given, malformed};
 ghost use Rattle.command_line.specs.Reading.{NamesFirstInRun, IsRequestFor, IsThreadsFault, stands_alone, can_keep, is_given};
@@ -14,8 +14,8 @@ use crate::request::{
     Cache, Debug, MOST_DRAWN, Order, Request, Run, Shown, Stats, Target, Threaded, View, Word,
 };
 use clap::ArgMatches;
-use numerals::number;
 use std::alloc::Global;
+use texts::number;
 
 // What a run has where its option is not given: how many harts, how many bytes of memory, how many
 // steps at most, and which cache.

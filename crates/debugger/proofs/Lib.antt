@@ -4,3 +4,8 @@ mod Looked
 mod Keeping
 mod Ending
 mod Exchanging
+mod Words
+mod Lists
+mod Readable
+mod Sent
+mod Showing

@@ -1,8 +1,9 @@
 -- A machine that is debugged.
 use Rattle.std.specs.Prelude.{ℕ, ◌≡◌, ◌-◌, Bool, true, false, List, [], Option, Result, Ok, Err}
+use Rattle.words.specs.Sinks.{SinkState}
 use Rattle.protocol.specs.Caches.{Geometry}
 use Rattle.machine.specs.States.{State, setting_of}
-use Rattle.commands.specs.declared.fault.DebugFault.{DebugFault}
+use Rattle.debugger.specs.declared.commands.fault.DebugFault.{DebugFault}
 use Rattle.debugger.specs.declared.session.Flow.{Flow}
 use Rattle.debugger.specs.declared.session.Flow.TheVariants.{Go, Quit}
 use Rattle.debugger.specs.Sessions.{Session}
@@ -22,16 +23,16 @@ said (Err fault) = Err fault
 
 -- a debugger's session answers
 abbrev pub answers : Geometry → Answering Session
-answers g s command t before after failed_before failed_after answer =
-    (told : Result Flow DebugFault) × Answers g s command t before after failed_before failed_after told × (answer ≡ said told)
+answers g s command t before after answer =
+    (told : Result Flow DebugFault) × Answers g s command t before after told × (answer ≡ said told)
 
 -- the session that a machine begins with
 abbrev pub begun : State → Session
 begun m = record { machine = m; last = (setting_of m).count - 1; breakpoints = [] }
 
 -- a session of the machine answers the lines of an input, up to the end that this result tells
-abbrev pub IsDebugged : {I : Type 0} → Geometry → Giving I → State → List ℕ → I → I → Option (List ℕ) → Option (List ℕ) → ℕ → ℕ → Option (List ℕ) → Option (List ℕ) → ℕ → ℕ → Result Unit ConsoleFault → Type 0
-IsDebugged g gives m prompt i j told_before told_after untold_before untold_after asked_before asked_after unasked_before unasked_after r =
+abbrev pub IsDebugged : {I : Type 0} → Geometry → Giving I → State → List ℕ → I → I → SinkState → SinkState → SinkState → SinkState → Result Unit ConsoleFault → Type 0
+IsDebugged g gives m prompt i j told_before told_after asked_before asked_after r =
     (last : Session) × IsPlayed (answers g) gives prompt
-    (record { session = begun m; input = i; told = told_before; untold = untold_before; asked = asked_before; unasked = unasked_before })
-    (record { session = last; input = j; told = told_after; untold = untold_after; asked = asked_after; unasked = unasked_after }) r
+    (record { session = begun m; input = i; told = told_before; asked = asked_before })
+    (record { session = last; input = j; told = told_after; asked = asked_after }) r

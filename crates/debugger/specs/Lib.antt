@@ -5,3 +5,9 @@ pub mod Lines
 pub mod LineAnswers
 pub mod Plays
 pub mod Debugging
+pub mod Faults
+pub mod Manual
+pub mod Spelling
+pub mod Refusals
+pub mod LookTexts
+pub mod Looks

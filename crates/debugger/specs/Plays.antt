@@ -1,6 +1,7 @@
 -- Lines that are asked for, read and answered, one after the other.
 use Rattle.std.specs.Prelude.{ℕ, ◌≡◌, ◌⊎◌, zero, suc, Bool, true, false, List, [], ◌∷◌, Option, Result, Ok, Err}
 use Rattle.words.specs.declared.sink.SinkFault.{SinkFault}
+use Rattle.words.specs.Sinks.{SinkState}
 use Rattle.texts.specs.Puts.{Puts}
 use Rattle.debugger.specs.declared.input.Reading.{Reading}
 use Rattle.debugger.specs.declared.input.Reading.TheVariants.{Line, Last, Failed}
@@ -8,18 +9,16 @@ use Rattle.debugger.specs.declared.fault.ConsoleFault.{ConsoleFault}
 use Rattle.debugger.specs.declared.fault.ConsoleFault.TheVariants.{Unreadable, Unwritten}
 use Rattle.debugger.specs.LineAnswers.{Answering, IsAnswered}
 
--- where a talk stands: the session and the input, what was told and how often telling failed, what was asked and how often asking failed
+-- where a talk stands: the session and the input, what was told and what was asked
 pub record Talk (D I : Type 0) : Type 0 where
   pub session : D
   pub input : I
-  pub told : Option (List ℕ)
-  pub untold : ℕ
-  pub asked : Option (List ℕ)
-  pub unasked : ℕ
+  pub told : SinkState
+  pub asked : SinkState
 
 -- nothing was answered
-abbrev pub IsUnanswered : {D : Type 0} → D → D → Option (List ℕ) → Option (List ℕ) → ℕ → ℕ → Type 0
-IsUnanswered s t before after failed_before failed_after = (t ≡ s) × (after ≡ before) × (failed_after ≡ failed_before)
+abbrev pub IsUnanswered : {D : Type 0} → D → D → SinkState → SinkState → Type 0
+IsUnanswered s t before after = (t ≡ s) × (after ≡ before)
 
 -- no more is wanted
 abbrev pub ended : Result Bool ConsoleFault → Result Bool ConsoleFault
@@ -27,16 +26,16 @@ ended (Ok more) = Ok false
 ended (Err fault) = Err fault
 
 -- what stands behind the last line feed is answered, if there is anything
-abbrev pub EndsWith : {D : Type 0} → Answering D → List ℕ → D → D → Option (List ℕ) → Option (List ℕ) → ℕ → ℕ → Result Bool ConsoleFault → Type 0
-EndsWith answers [] s t before after failed_before failed_after r = IsUnanswered s t before after failed_before failed_after × (r ≡ Ok false)
-EndsWith answers (c ∷ cs) s t before after failed_before failed_after r =
-    (told : Result Bool ConsoleFault) × IsAnswered answers (c ∷ cs) s t before after failed_before failed_after told × (r ≡ ended told)
+abbrev pub EndsWith : {D : Type 0} → Answering D → List ℕ → D → D → SinkState → SinkState → Result Bool ConsoleFault → Type 0
+EndsWith answers [] s t before after r = IsUnanswered s t before after × (r ≡ Ok false)
+EndsWith answers (c ∷ cs) s t before after r =
+    (told : Result Bool ConsoleFault) × IsAnswered answers (c ∷ cs) s t before after told × (r ≡ ended told)
 
 -- what was read is answered
-abbrev pub Replies : {D : Type 0} → Answering D → Reading → D → D → Option (List ℕ) → Option (List ℕ) → ℕ → ℕ → Result Bool ConsoleFault → Type 0
-Replies answers (Line l) s t before after failed_before failed_after r = IsAnswered answers l.items s t before after failed_before failed_after r
-Replies answers (Last l) s t before after failed_before failed_after r = EndsWith answers l.items s t before after failed_before failed_after r
-Replies answers Failed s t before after failed_before failed_after r = IsUnanswered s t before after failed_before failed_after × (r ≡ Err Unreadable)
+abbrev pub Replies : {D : Type 0} → Answering D → Reading → D → D → SinkState → SinkState → Result Bool ConsoleFault → Type 0
+Replies answers (Line l) s t before after r = IsAnswered answers l.items s t before after r
+Replies answers (Last l) s t before after r = EndsWith answers l.items s t before after r
+Replies answers Failed s t before after r = IsUnanswered s t before after × (r ≡ Err Unreadable)
 
 -- what an input may give
 abbrev pub Giving : Type 0 → Type 1
@@ -44,12 +43,12 @@ Giving I = I → Reading → I → Type 0
 
 -- once a line was asked for, it is read and answered; where it could not be asked for, nothing was done
 abbrev pub Hears : {D I : Type 0} → Answering D → Giving I → Result Unit SinkFault → Talk D I → Talk D I → Result Bool ConsoleFault → Type 0
-Hears answers gives (Ok u) v w r = (reading : Reading) × gives v.input reading w.input × Replies answers reading v.session w.session v.told w.told v.untold w.untold r
-Hears answers gives (Err f) v w r = (w.input ≡ v.input) × IsUnanswered v.session w.session v.told w.told v.untold w.untold × (r ≡ Err Unwritten)
+Hears answers gives (Ok u) v w r = (reading : Reading) × gives v.input reading w.input × Replies answers reading v.session w.session v.told w.told r
+Hears answers gives (Err f) v w r = (w.input ≡ v.input) × IsUnanswered v.session w.session v.told w.told × (r ≡ Err Unwritten)
 
 -- a line is asked for by the prompt, read and answered
 abbrev pub Exchanges : {D I : Type 0} → Answering D → Giving I → List ℕ → Talk D I → Talk D I → Result Bool ConsoleFault → Type 0
-Exchanges answers gives prompt v w r = (put : Result Unit SinkFault) × Puts v.asked w.asked v.unasked w.unasked prompt put × Hears answers gives put v w r
+Exchanges answers gives prompt v w r = (put : Result Unit SinkFault) × Puts v.asked w.asked prompt put × Hears answers gives put v w r
 
 -- so many lines, after each of which more were wanted
 abbrev pub Plays : {D I : Type 0} → Answering D → Giving I → List ℕ → ℕ → Talk D I → Talk D I → Type 0

@@ -18,11 +18,11 @@ use Rattle.schedule.specs.Spelling.{name}
 use Rattle.schedule.specs.declared.choices.Choice.{Choice}
 use Rattle.schedule.specs.declared.choices.Choice.TheVariants as choice
 use Rattle.schedule.specs.Steps.{IsStepOf}
-use Rattle.commands.specs.declared.command.Command.{Command}
-use Rattle.commands.specs.declared.command.Command.TheVariants.{Step, Run, Break, Core, Evict, Deliver, Look, Comment, Quit}
-use Rattle.commands.specs.declared.fault.DebugFault.{DebugFault}
-use Rattle.commands.specs.declared.fault.DebugFault.TheVariants.{Stopped, Limit, NoMemory}
-use Rattle.commands.specs.Refusals.{hart_fault, word_fault, text_fault}
+use Rattle.debugger.specs.declared.commands.command.Command.{Command}
+use Rattle.debugger.specs.declared.commands.command.Command.TheVariants.{Step, Run, Break, Core, Evict, Deliver, Look, Comment, Quit}
+use Rattle.debugger.specs.declared.commands.fault.DebugFault.{DebugFault}
+use Rattle.debugger.specs.declared.commands.fault.DebugFault.TheVariants.{Stopped, Limit, NoMemory}
+use Rattle.debugger.specs.Refusals.{hart_fault, word_fault, text_fault}
 use Rattle.debugger.specs.declared.report.Report.{Report}
 use Rattle.debugger.specs.declared.report.Report.TheVariants as told
 

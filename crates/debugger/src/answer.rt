@@ -1,13 +1,13 @@
 ghost use Rattle.std.specs.Prelude.{◌≡◌, Err, MatchResult};
 ghost use Rattle.machine.specs.States.{geometry};
-ghost use Rattle.commands.specs.declared.fault.DebugFault.{DebugFault as Fault};
+ghost use Rattle.debugger.specs.declared.commands.fault.DebugFault.{DebugFault as Fault};
 ghost use Rattle.debugger.specs.Answers.{Carries, flow_of};
 ghost use Rattle.debugger.specs.Sessions.{Does, Fails, IsDeedRefused};
 
+use crate::commands::{Command, DebugFault};
 use crate::report::Report;
 use crate::session::{Flow, Session};
 use crate::tell::put_report;
-use commands::{Command, DebugFault};
 use words::Sink;
 
 /// Whether a session goes on after a command.
@@ -44,7 +44,7 @@ impl<const SETS: usize, const WAYS: usize> Session<SETS, WAYS> {
         command: Command,
         sink: &mut S,
     ) -> Result<Flow, DebugFault>
-        ensures carries { Carries (geometry SETS WAYS) self.old command self.new (S.taken sink.old) (S.taken sink.new) (S.failed sink.old) (S.failed sink.new) result }
+        ensures carries { Carries (geometry SETS WAYS) self.old command self.new (S.state sink.old) (S.state sink.new) result }
         ensures refused { (fault : Fault) → IsDeedRefused SETS self.old command fault → result ≡ Err fault }
     {
         let report = self.carry_out(command)?;

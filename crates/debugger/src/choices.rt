@@ -2,15 +2,15 @@ ghost use Rattle.std.specs.Prelude.{◌≡◌, ℕ, ◌≤◌, ◌<◌, ◌/◌,
 ghost use Rattle.flat.specs.Reads.{is_readable};
 ghost use Rattle.machine.specs.States.{geometry, setting_of};
 ghost use Rattle.schedule.specs.declared.choices.Sort.{Sort as SortValue};
-ghost use Rattle.commands.specs.declared.command.Command.TheVariants.{Break, Core, Evict, Deliver};
-ghost use Rattle.commands.specs.declared.fault.DebugFault.{DebugFault as Fault};
-ghost use Rattle.commands.specs.declared.fault.DebugFault.TheVariants.{NoMemory};
+ghost use Rattle.debugger.specs.declared.commands.command.Command.TheVariants.{Break, Core, Evict, Deliver};
+ghost use Rattle.debugger.specs.declared.commands.fault.DebugFault.{DebugFault as Fault};
+ghost use Rattle.debugger.specs.declared.commands.fault.DebugFault.TheVariants.{NoMemory};
 ghost use Rattle.debugger.specs.Sessions.{Chooses, LacksRoom, Does, Fails, IsDeedRefused};
 
+use crate::commands::{DebugFault, hart_of, text_at, word_at};
 use crate::report::Report;
 use crate::session::Session;
 use crate::turns::place_of;
-use commands::{DebugFault, hart_of, text_at, word_at};
 use machine::hart_after;
 use schedule::{Choice, Name, Sort};
 

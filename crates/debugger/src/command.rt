@@ -1,11 +1,11 @@
 ghost use Rattle.std.specs.Prelude.{◌≡◌, Some, Err};
 ghost use Rattle.machine.specs.States.{geometry};
-ghost use Rattle.commands.specs.declared.fault.DebugFault.{DebugFault as Fault};
-ghost use Rattle.commands.specs.Looks.{refusal};
+ghost use Rattle.debugger.specs.declared.commands.fault.DebugFault.{DebugFault as Fault};
+ghost use Rattle.debugger.specs.Looks.{refusal};
 ghost use Rattle.debugger.specs.Answers.{Answers, ShowsLook, IsRefused};
 
+use crate::commands::{Command, DebugFault, Look, look};
 use crate::session::{Flow, Session};
-use commands::{Command, DebugFault, Look, look};
 use machine::Machine;
 use words::Sink;
 
@@ -15,7 +15,7 @@ fn show<const SETS: usize, const WAYS: usize, S: Sink>(
     what: Look,
     sink: &mut S,
 ) -> Result<Flow, DebugFault>
-    ensures shows { ShowsLook SETS machine.now what (S.taken sink.old) (S.taken sink.new) (S.failed sink.old) (S.failed sink.new) result }
+    ensures shows { ShowsLook SETS machine.now what (S.state sink.old) (S.state sink.new) result }
     ensures refused { (fault : Fault) → refusal machine.now what ≡ Some fault → result ≡ Err fault }
 {
     match look(machine, what, sink) {
@@ -30,7 +30,7 @@ impl<const SETS: usize, const WAYS: usize> Session<SETS, WAYS> {
     /// changes nothing and puts nothing. One that comes to a limit, or runs out of memory, has made the turns up to there. A put that failed
     /// leaves the command done.
     pub fn command<S: Sink>(&mut self, command: Command, sink: &mut S) -> Result<Flow, DebugFault>
-        ensures answers { Answers (geometry SETS WAYS) self.old command self.new (S.taken sink.old) (S.taken sink.new) (S.failed sink.old) (S.failed sink.new) result }
+        ensures answers { Answers (geometry SETS WAYS) self.old command self.new (S.state sink.old) (S.state sink.new) result }
         ensures refused { (fault : Fault) → IsRefused SETS self.old command fault → result ≡ Err fault }
     {
         match command {

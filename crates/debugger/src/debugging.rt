@@ -2,12 +2,12 @@ ghost use Rattle.std.specs.Prelude.{◌≡◌};
 ghost use Rattle.machine.specs.States.{geometry};
 ghost use Rattle.debugger.specs.Debugging.{IsDebugged, goes_on};
 
+use crate::commands::{Command, DebugFault};
 use crate::fault::ConsoleFault;
 use crate::input::LineInput;
 use crate::line_answers::Debugged;
 use crate::playing::play;
 use crate::session::{Flow, Session};
-use commands::{Command, DebugFault};
 use machine::Machine;
 use words::Sink;
 
@@ -43,8 +43,8 @@ pub fn debug<const SETS: usize, const WAYS: usize, I: LineInput, P: Sink, S: Sin
     prompts: &mut P,
     out: &mut S,
 ) -> Result<(), ConsoleFault>
-    ensures { IsDebugged (geometry SETS WAYS) I.gives machine.entry prompt.now input.old input.new (S.taken out.old) (S.taken out.new) (S.failed out.old) (S.failed out.new)
-        (P.taken prompts.old) (P.taken prompts.new) (P.failed prompts.old) (P.failed prompts.new) result }
+    ensures { IsDebugged (geometry SETS WAYS) I.gives machine.entry prompt.now input.old input.new (S.state out.old) (S.state out.new)
+        (P.state prompts.old) (P.state prompts.new) result }
 {
     let mut session = Session::new(machine);
     play(&mut session, input, prompt, prompts, out)

@@ -8,6 +8,7 @@
 mod answer;
 mod choices;
 mod command;
+pub mod commands;
 mod debugging;
 mod fault;
 mod input;

@@ -1,13 +1,14 @@
 ghost use Rattle.std.specs.Prelude.{◌≡◌, ℕ, List, Option, Result, Bool, MatchOption};
 ghost use Rattle.std.specs.Option.{option_map};
+ghost use Rattle.words.specs.Sinks.{SinkState};
 ghost use Rattle.texts.specs.Puts.{Puts};
-ghost use Rattle.commands.specs.declared.command.Command.{Command as CommandValue};
-ghost use Rattle.commands.specs.declared.fault.DebugFault.{DebugFault as Fault};
+ghost use Rattle.debugger.specs.declared.commands.command.Command.{Command as CommandValue};
+ghost use Rattle.debugger.specs.declared.commands.fault.DebugFault.{DebugFault as Fault};
 ghost use Rattle.debugger.specs.Lines.{without_return};
 ghost use Rattle.debugger.specs.LineAnswers.{Asks, IsAnswered, Refuses, told_name, refused};
 
+use crate::commands::{Command, DebugFault, command_of};
 use crate::fault::ConsoleFault;
-use commands::{Command, DebugFault, command_of};
 use texts::put_all;
 use words::{Sink, SinkFault};
 
@@ -15,11 +16,11 @@ use words::{Sink, SinkFault};
 pub trait Debugged {
     /// What a command may come to: the state before it and after it, what the sink had taken before and after, how many puts had failed before
     /// and after, and the answer.
-    ghost answers: { Self → CommandValue → Self → Option (List ℕ) → Option (List ℕ) → ℕ → ℕ → Result Bool Fault → Type 0 };
+    ghost answers: { Self → CommandValue → Self → SinkState → SinkState → Result Bool Fault → Type 0 };
 
     /// Carries out a command, and puts what it has to tell. It answers whether more commands are wanted.
     fn command<S: Sink>(&mut self, command: Command, sink: &mut S) -> Result<bool, DebugFault>
-        ensures { answers self.old command self.new (S.taken sink.old) (S.taken sink.new) (S.failed sink.old) (S.failed sink.new) result };
+        ensures { answers self.old command self.new (S.state sink.old) (S.state sink.new) result };
 }
 
 /// A line without the carriage return at its end.
@@ -58,21 +59,21 @@ fn told(fault: DebugFault) -> Option<&'static str>
 
 /// Puts what is told of a refusal.
 fn put_refused<S: Sink>(name: &str, out: &mut S) -> Result<(), SinkFault>
-    ensures { Puts (S.taken out.old) (S.taken out.new) (S.failed out.old) (S.failed out.new) (refused name.now) result }
+    ensures { Puts (S.state out.old) (S.state out.new) (refused name.now) result }
 {
     put_all(out, &[b"refused ", name.as_bytes(), b"\n"])
 }
 
 /// Puts a text.
 pub(crate) fn put_text<S: Sink>(sink: &mut S, text: &str) -> Result<(), SinkFault>
-    ensures { Puts (S.taken sink.old) (S.taken sink.new) (S.failed sink.old) (S.failed sink.new) text.now result }
+    ensures { Puts (S.state sink.old) (S.state sink.new) text.now result }
 {
     sink.put(text.as_bytes())
 }
 
 /// Tells a fault, after which more commands are wanted. A put that failed is told by nothing but this function's error.
 fn refuse<S: Sink>(fault: DebugFault, out: &mut S) -> Result<bool, ConsoleFault>
-    ensures { Refuses (told_name fault) (S.taken out.old) (S.taken out.new) (S.failed out.old) (S.failed out.new) result }
+    ensures { Refuses (told_name fault) (S.state out.old) (S.state out.new) result }
 {
     let Some(name) = told(fault) else {
         return Err(ConsoleFault::Unwritten);
@@ -89,7 +90,7 @@ pub(crate) fn answer_line<D: Debugged, S: Sink>(
     line: &[u8],
     out: &mut S,
 ) -> Result<bool, ConsoleFault>
-    ensures { IsAnswered D.answers line.now session.old session.new (S.taken out.old) (S.taken out.new) (S.failed out.old) (S.failed out.new) result }
+    ensures { IsAnswered D.answers line.now session.old session.new (S.state out.old) (S.state out.new) result }
 {
     let Some(command) = asked(line) else {
         return refuse(DebugFault::Unknown, out);

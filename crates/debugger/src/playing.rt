@@ -12,7 +12,7 @@ fn reply<D: Debugged, S: Sink>(
     reading: &Reading,
     out: &mut S,
 ) -> Result<bool, ConsoleFault>
-    ensures { Replies D.answers reading.now session.old session.new (S.taken out.old) (S.taken out.new) (S.failed out.old) (S.failed out.new) result }
+    ensures { Replies D.answers reading.now session.old session.new (S.state out.old) (S.state out.new) result }
 {
     match reading {
         Reading::Line(line) => answer_line(session, line, out),
@@ -27,7 +27,7 @@ fn answer_last<D: Debugged, S: Sink>(
     line: &[u8],
     out: &mut S,
 ) -> Result<bool, ConsoleFault>
-    ensures { EndsWith D.answers line.now session.old session.new (S.taken out.old) (S.taken out.new) (S.failed out.old) (S.failed out.new) result }
+    ensures { EndsWith D.answers line.now session.old session.new (S.state out.old) (S.state out.new) result }
 {
     if line.is_empty() {
         return Ok(false);
@@ -47,8 +47,8 @@ fn exchange<D: Debugged, I: LineInput, P: Sink, S: Sink>(
     out: &mut S,
 ) -> Result<bool, ConsoleFault>
     ensures { Exchanges D.answers I.gives prompt.now
-        (record { session = session.old; input = input.old; told = S.taken out.old; untold = S.failed out.old; asked = P.taken prompts.old; unasked = P.failed prompts.old })
-        (record { session = session.new; input = input.new; told = S.taken out.new; untold = S.failed out.new; asked = P.taken prompts.new; unasked = P.failed prompts.new })
+        (record { session = session.old; input = input.old; told = S.state out.old; asked = P.state prompts.old })
+        (record { session = session.new; input = input.new; told = S.state out.new; asked = P.state prompts.new })
         result }
 {
     match put_text(prompts, prompt) {
@@ -70,8 +70,8 @@ pub fn play<D: Debugged, I: LineInput, P: Sink, S: Sink>(
     out: &mut S,
 ) -> Result<(), ConsoleFault>
     ensures { IsPlayed D.answers I.gives prompt.now
-        (record { session = session.old; input = input.old; told = S.taken out.old; untold = S.failed out.old; asked = P.taken prompts.old; unasked = P.failed prompts.old })
-        (record { session = session.new; input = input.new; told = S.taken out.new; untold = S.failed out.new; asked = P.taken prompts.new; unasked = P.failed prompts.new })
+        (record { session = session.old; input = input.old; told = S.state out.old; asked = P.state prompts.old })
+        (record { session = session.new; input = input.new; told = S.state out.new; asked = P.state prompts.new })
         result }
 {
     for _count in 0..u64::MAX {

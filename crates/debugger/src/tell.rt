@@ -13,7 +13,7 @@ use words::{Addr, HartId, Sink, SinkFault};
 
 /// Puts the line of a message, if there is one and it got this number when it was sent.
 fn put_if<S: Sink>(flight: Option<Flight>, number: u64, sink: &mut S) -> Result<(), SinkFault>
-    ensures { Puts (S.taken sink.old) (S.taken sink.new) (S.failed sink.old) (S.failed sink.new) (spec.line_if number flight) result }
+    ensures { Puts (S.state sink.old) (S.state sink.new) (spec.line_if number flight) result }
 {
     match flight {
         Some(flight) if flight.number == number => put_sent(&flight, sink),
@@ -23,7 +23,7 @@ fn put_if<S: Sink>(flight: Option<Flight>, number: u64, sink: &mut S) -> Result<
 
 /// Puts the line of a message that was sent.
 fn put_sent<S: Sink>(flight: &Flight, sink: &mut S) -> Result<(), SinkFault>
-    ensures { Puts (S.taken sink.old) (S.taken sink.new) (S.failed sink.old) (S.failed sink.new) (spec.sent_line flight.now) result }
+    ensures { Puts (S.state sink.old) (S.state sink.new) (spec.sent_line flight.now) result }
 {
     put_all(
         sink,
@@ -42,7 +42,7 @@ fn put_numbered<const SETS: usize, const WAYS: usize, S: Sink>(
     number: u64,
     sink: &mut S,
 ) -> Result<(), SinkFault>
-    ensures { Puts (S.taken sink.old) (S.taken sink.new) (S.failed sink.old) (S.failed sink.new) (spec.numbered machine.now.flights keys number) result }
+    ensures { Puts (S.state sink.old) (S.state sink.new) (spec.numbered machine.now.flights keys number) result }
 {
     for key in 0..keys {
         put_if(machine.flight(key), number, sink)?;
@@ -57,7 +57,7 @@ fn put_sent_from<const SETS: usize, const WAYS: usize, S: Sink>(
     from: u64,
     sink: &mut S,
 ) -> Result<(), SinkFault>
-    ensures { Puts (S.taken sink.old) (S.taken sink.new) (S.failed sink.old) (S.failed sink.new) (spec.sent_lines machine.now.flights keys from machine.now.sent) result }
+    ensures { Puts (S.state sink.old) (S.state sink.new) (spec.sent_lines machine.now.flights keys from machine.now.sent) result }
 {
     let count = machine.sent().saturating_sub(from);
     for sent in 0..count {
@@ -73,7 +73,7 @@ fn put_made<const SETS: usize, const WAYS: usize, S: Sink>(
     from: u64,
     sink: &mut S,
 ) -> Result<(), SinkFault>
-    ensures { Puts (S.taken sink.old) (S.taken sink.new) (S.failed sink.old) (S.failed sink.new) (spec.made_text machine.now keys from) result }
+    ensures { Puts (S.state sink.old) (S.state sink.new) (spec.made_text machine.now keys from) result }
 {
     if machine.sent() == from {
         sink.put(b"done\n")
@@ -84,7 +84,7 @@ fn put_made<const SETS: usize, const WAYS: usize, S: Sink>(
 
 /// Puts that a hart has come to a breakpoint.
 fn put_broke<S: Sink>(hart: HartId, pc: Addr, sink: &mut S) -> Result<(), SinkFault>
-    ensures { Puts (S.taken sink.old) (S.taken sink.new) (S.failed sink.old) (S.failed sink.new) (spec.broke_line hart pc) result }
+    ensures { Puts (S.state sink.old) (S.state sink.new) (spec.broke_line hart pc) result }
 {
     put_all(
         sink,
@@ -100,7 +100,7 @@ fn put_broke<S: Sink>(hart: HartId, pc: Addr, sink: &mut S) -> Result<(), SinkFa
 
 /// Puts a breakpoint, after the words for what became of it.
 fn put_place<S: Sink>(words: &[u8], place: Addr, sink: &mut S) -> Result<(), SinkFault>
-    ensures { Puts (S.taken sink.old) (S.taken sink.new) (S.failed sink.old) (S.failed sink.new) (spec.place_line words.now place) result }
+    ensures { Puts (S.state sink.old) (S.state sink.new) (spec.place_line words.now place) result }
 {
     put_all(sink, &[words, &hexadecimal(place.value()), b"\n"])
 }
@@ -111,7 +111,7 @@ pub(crate) fn put_report<const SETS: usize, const WAYS: usize, S: Sink>(
     report: &Report,
     sink: &mut S,
 ) -> Result<(), SinkFault>
-    ensures { (text : List ℕ) × IsTextOf machine.now report.now text × Puts (S.taken sink.old) (S.taken sink.new) (S.failed sink.old) (S.failed sink.new) text result }
+    ensures { (text : List ℕ) × IsTextOf machine.now report.now text × Puts (S.state sink.old) (S.state sink.new) text result }
 {
     match *report {
         Report::Entry(entry) => put_entry(&entry, sink),

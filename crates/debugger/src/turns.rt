@@ -1,12 +1,12 @@
 ghost use Rattle.std.specs.Prelude.{◌≡◌, ◌==◌, ℕ, None, position, Err, MatchResult, MatchBool, IfOk, IfErr, OnErr, IfSome, IfNone};
 ghost use Rattle.machine.specs.States.{geometry};
-ghost use Rattle.commands.specs.declared.command.Command.TheVariants.{Step, Run};
-ghost use Rattle.commands.specs.declared.fault.DebugFault.TheVariants.{Stopped, NoMemory};
+ghost use Rattle.debugger.specs.declared.commands.command.Command.TheVariants.{Step, Run};
+ghost use Rattle.debugger.specs.declared.commands.fault.DebugFault.TheVariants.{Stopped, NoMemory};
 ghost use Rattle.debugger.specs.Sessions.{IsIdle, Turns, LetsOn, Does, Fails, mover, has_breakpoint, break_at};
 
+use crate::commands::DebugFault;
 use crate::report::Report;
 use crate::session::Session;
-use commands::DebugFault;
 use words::{Addr, Entry, HartId};
 
 /// How many turns `step` waits for an entry.

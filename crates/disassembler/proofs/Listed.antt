@@ -6,6 +6,7 @@ use Rattle.texts.specs.Puts.{Puts}
 use Rattle.texts.proofs.Pieces.{one-more_number, first-numbers}
 use Rattle.texts.proofs.Putting.{puts-nothing, puts-same, puts-cut}
 use Rattle.std.specs.List.{flat_map, range_with_len}
+use Rattle.words.specs.Sinks.{SinkState}
 use Rattle.disassembler.specs.Listing.{line_at, lines}
 
 -- one more line
@@ -14,12 +15,12 @@ unfolding lines
 lines-step segments k = one-more_number (λ j. line_at segments (4 * j)) k
 
 -- no line
-pub lines-none : (segments : List Segment) (a : Option (List ℕ)) (f : ℕ) → Puts a a f f (lines segments 0) (Ok tt)
+pub lines-none : (segments : List Segment) (a : SinkState) → Puts a a (lines segments 0) (Ok tt)
 unfolding lines
-lines-none segments a f = puts-nothing a f
+lines-none segments a = puts-nothing a
 
 -- some lines, of which a put failed, are a beginning of all
-pub lines-cut_short : (segments : List Segment) (k n : ℕ) {a b : Option (List ℕ)} {fa fb : ℕ} {r s : Result Unit SinkFault} {e : SinkFault} → k ≤ n → r ≡ Err e → Puts a b fa fb (lines segments k) r → IsErr s → Puts a b fa fb (lines segments n) s
+pub lines-cut_short : (segments : List Segment) (k n : ℕ) {a b : SinkState} {r s : Result Unit SinkFault} {e : SinkFault} → k ≤ n → r ≡ Err e → Puts a b (lines segments k) r → IsErr s → Puts a b (lines segments n) s
 unfolding lines
 lines-cut_short segments k n le failed before given =
     let line = λ (j : ℕ). line_at segments (4 * j) in

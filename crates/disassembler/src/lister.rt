@@ -19,7 +19,7 @@ const WINDOW: usize = 4096;
 /// Puts a line for each word of the program's text that stands at a multiple of 4, by rising address: the address, the word, and its
 /// canonical text. The only error is that a put failed; then a beginning of the listing was taken.
 pub fn listing<S: Sink>(program: &Program, out: &mut S) -> Result<(), SinkFault>
-    ensures { Puts (S.taken out.old) (S.taken out.new) (S.failed out.old) (S.failed out.new) (listing_of program.now) result }
+    ensures { Puts (S.state out.old) (S.state out.new) (listing_of program.now) result }
 {
     let segments = program.segments();
     for window in 0..windows(segments) {
@@ -46,7 +46,7 @@ fn windows(segments: &[Segment]) -> usize
 /// Puts the lines of the words of text in the window that begins with a word of memory.
 fn put_window<S: Sink>(segments: &[Segment], start: usize, out: &mut S) -> Result<(), SinkFault>
     requires { start + WINDOW ≤ 1048576 }
-    ensures { Puts (S.taken out.old) (S.taken out.new) (S.failed out.old) (S.failed out.new) (lines_from segments.now start WINDOW) result }
+    ensures { Puts (S.state out.old) (S.state out.new) (lines_from segments.now start WINDOW) result }
 {
     let mut words = [None; WINDOW];
     add_words(segments, start, &mut words);
@@ -56,7 +56,7 @@ fn put_window<S: Sink>(segments: &[Segment], start: usize, out: &mut S) -> Resul
 /// Puts the lines of words, of which the first would stand at 4 times `start`.
 fn put_words<S: Sink>(words: &[Option<u32>], start: usize, out: &mut S) -> Result<(), SinkFault>
     requires { start + length words.now ≤ 1048576 }
-    ensures { Puts (S.taken out.old) (S.taken out.new) (S.failed out.old) (S.failed out.new) (flat_map (λ i. line_if (4 * (start + i)) (slice_index_or words.now i None)) (range_with_len 0 (length words.now))) result }
+    ensures { Puts (S.state out.old) (S.state out.new) (flat_map (λ i. line_if (4 * (start + i)) (slice_index_or words.now i None)) (range_with_len 0 (length words.now))) result }
 {
     for i in 0..words.len() {
         put_word(Addr::new(4 * (start + i) as u32), words[i], out)?;
@@ -66,7 +66,7 @@ fn put_words<S: Sink>(words: &[Option<u32>], start: usize, out: &mut S) -> Resul
 
 /// Puts the line of the word at an address, if there is one.
 fn put_word<S: Sink>(addr: Addr, word: Option<u32>, out: &mut S) -> Result<(), SinkFault>
-    ensures { Puts (S.taken out.old) (S.taken out.new) (S.failed out.old) (S.failed out.new) (line_if addr word) result }
+    ensures { Puts (S.state out.old) (S.state out.new) (line_if addr word) result }
 {
     match word {
         Some(word) => put_line(addr, word, out),
@@ -76,7 +76,7 @@ fn put_word<S: Sink>(addr: Addr, word: Option<u32>, out: &mut S) -> Result<(), S
 
 /// Puts the line of a word at an address.
 pub fn put_line<S: Sink>(addr: Addr, word: u32, out: &mut S) -> Result<(), SinkFault>
-    ensures { Puts (S.taken out.old) (S.taken out.new) (S.failed out.old) (S.failed out.new) (line addr word) result }
+    ensures { Puts (S.state out.old) (S.state out.new) (line addr word) result }
 {
     let text = text(word);
     put_all(

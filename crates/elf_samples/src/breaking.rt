@@ -1,5 +1,5 @@
 ghost use Rattle.std.specs.Prelude.{◌≡◌, ◌+◌, ◌++◌, [], Some, min, IsErr, OnOk, OnErr};
-ghost use Rattle.words.specs.Taken.{TookBeginning};
+ghost use Rattle.words.specs.Sinks.{TookBeginning};
 
 use std::alloc::Global;
 use words::{Sink, SinkFault, Taken};
@@ -30,9 +30,7 @@ impl Breaking {
 }
 
 impl Sink for Breaking {
-    ghost failed = { λ b. b.failed };
-
-    ghost taken = { λ b. Some b.bytes.items };
+    ghost state = { λ b. record { taken = Some b.bytes.items; failed = b.failed } };
 
     fn put(&mut self, bytes: &[u8]) -> Result<(), SinkFault>
         ensures clean { OnOk result (self.new.failed ≡ self.old.failed) }

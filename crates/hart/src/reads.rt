@@ -1,4 +1,4 @@
-ghost use Rattle.std.specs.Prelude.{◌≡◌, ◌↔◌, ◌≤◌, ◌+◌, ◌-◌, ◌%◌, ℕ, Option, IsTrue, IsSome, IfSome, is_some};
+ghost use Rattle.std.specs.Prelude.{◌≡◌, ◌↔◌, ◌≤◌, ◌+◌, ◌-◌, ◌%◌, ℕ, Option, IsTrue, IsSome, IfSome};
 ghost use Rattle.std.specs.Option.{option_map};
 ghost use Rattle.words.specs.Limits.{log_bytes};
 ghost use Rattle.words.specs.declared.message.LineState.TheVariants.{Modified};
@@ -88,14 +88,6 @@ impl<const SETS: usize, const WAYS: usize> Hart<SETS, WAYS> {
         ensures { result ≡ self.now.request }
     {
         self.request
-    }
-
-    /// Whether a request is out. Until it ends the core does nothing.
-    #[inline(always)]
-    pub fn is_waiting(&self) -> bool
-        ensures { result ≡ is_some self.now.request }
-    {
-        self.request.is_some()
     }
 
     /// The Put that isn't over.

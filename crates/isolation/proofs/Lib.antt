@@ -7,3 +7,4 @@ pub mod Steps
 pub mod Consequences
 pub mod Belongs
 pub mod Rooms
+pub mod Within

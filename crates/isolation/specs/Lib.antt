@@ -1,3 +1,4 @@
 pub mod Belongs
 pub mod Answers
 pub mod Facts
+pub mod Memory

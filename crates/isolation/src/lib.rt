@@ -4,9 +4,11 @@
 //! contract is the statement and whose body is empty. docs/ISOLATION.md tells the argument.
 #![tactic(auto)]
 
+mod bounds;
 mod facts;
 mod laws;
 
+pub use bounds::{accesses_lie_in_memory, blocks_are_in_memory};
 pub use facts::{
     each_message_is_awaited, lines_agree, lines_fit, logs_fit, logs_undo_to_memory,
     requests_are_one, sets_are_covered, undos_go_through, unreachable_cases_never_occur,

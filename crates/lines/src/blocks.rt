@@ -33,7 +33,7 @@ fn mark_text(name: &str, marked: bool) -> &str
 
 /// Puts a line of a cache, with a line end.
 pub fn put_cached<S: Sink>(state: LineState, marks: Marks, sink: &mut S) -> Result<(), SinkFault>
-    ensures { Puts (S.taken sink.old) (S.taken sink.new) (S.failed sink.old) (S.failed sink.new) (spec.cached_text state marks ++ codes "\n") result }
+    ensures { Puts (S.state sink.old) (S.state sink.new) (spec.cached_text state marks ++ codes "\n") result }
 {
     put_all(
         sink,
@@ -89,14 +89,14 @@ fn busy_text(busy: Option<Busy>) -> ArrayString<5>
 
 /// Puts an entry of the directory, with a line end.
 pub fn put_directory<S: Sink>(entry: &DirEntry, sink: &mut S) -> Result<(), SinkFault>
-    ensures { Puts (S.taken sink.old) (S.taken sink.new) (S.failed sink.old) (S.failed sink.new) (spec.directory_text (shown_entry entry.now) ++ codes "\n") result }
+    ensures { Puts (S.state sink.old) (S.state sink.new) (spec.directory_text (shown_entry entry.now) ++ codes "\n") result }
 {
     put_all(sink, &[directory_text(entry).as_str().as_bytes(), b"\n"])
 }
 
 /// Puts the line of a word of memory: its address and its value.
 pub fn put_word<S: Sink>(addr: Addr, value: u32, sink: &mut S) -> Result<(), SinkFault>
-    ensures { Puts (S.taken sink.old) (S.taken sink.new) (S.failed sink.old) (S.failed sink.new) (spec.word_line addr value) result }
+    ensures { Puts (S.state sink.old) (S.state sink.new) (spec.word_line addr value) result }
 {
     put_all(
         sink,

@@ -19,7 +19,7 @@ type EntryLine = Line<180>;
 
 /// Puts the line of an entry.
 pub fn put_entry<S: Sink>(entry: &Entry, sink: &mut S) -> Result<(), SinkFault>
-    ensures { Puts (S.taken sink.old) (S.taken sink.new) (S.failed sink.old) (S.failed sink.new) (entry_line entry.now) result }
+    ensures { Puts (S.state sink.old) (S.state sink.new) (entry_line entry.now) result }
 {
     let mut line = EntryLine::new();
     write_entry(entry, &mut line);

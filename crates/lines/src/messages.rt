@@ -63,7 +63,7 @@ pub fn message_text(message: &Message) -> ArrayString<96>
 
 /// Puts a message, with a line end.
 pub fn put_message<S: Sink>(message: &Message, sink: &mut S) -> Result<(), SinkFault>
-    ensures { Puts (S.taken sink.old) (S.taken sink.new) (S.failed sink.old) (S.failed sink.new) (spec.message_text message.now ++ codes "\n") result }
+    ensures { Puts (S.state sink.old) (S.state sink.new) (spec.message_text message.now ++ codes "\n") result }
 {
     put_all(sink, &[message_text(message).as_str().as_bytes(), b"\n"])
 }

@@ -17,14 +17,14 @@ pub fn put_registers<S: Sink>(
     status: Status,
     sink: &mut S,
 ) -> Result<(), SinkFault>
-    ensures { Puts (S.taken sink.old) (S.taken sink.new) (S.failed sink.old) (S.failed sink.new) (spec.registers_lines regs.now pc status) result }
+    ensures { Puts (S.state sink.old) (S.state sink.new) (spec.registers_lines regs.now pc status) result }
 {
     put_values(regs, sink)?;
     put_progress(pc, status, sink)
 }
 
 fn put_values<S: Sink>(regs: &Regs, sink: &mut S) -> Result<(), SinkFault>
-    ensures { Puts (S.taken sink.old) (S.taken sink.new) (S.failed sink.old) (S.failed sink.new) (spec.registers_text regs.now 32) result }
+    ensures { Puts (S.state sink.old) (S.state sink.new) (spec.registers_text regs.now 32) result }
 {
     for number in 0..32 {
         put_register(regs, Reg::new(number), sink)?;
@@ -33,7 +33,7 @@ fn put_values<S: Sink>(regs: &Regs, sink: &mut S) -> Result<(), SinkFault>
 }
 
 fn put_register<S: Sink>(regs: &Regs, reg: Reg, sink: &mut S) -> Result<(), SinkFault>
-    ensures { Puts (S.taken sink.old) (S.taken sink.new) (S.failed sink.old) (S.failed sink.new) (spec.register_text regs.now reg) result }
+    ensures { Puts (S.state sink.old) (S.state sink.new) (spec.register_text regs.now reg) result }
 {
     let after = if reg.index() % 4 == 3 { "\n" } else { " " };
     put_all(
@@ -48,7 +48,7 @@ fn put_register<S: Sink>(regs: &Regs, reg: Reg, sink: &mut S) -> Result<(), Sink
 }
 
 fn put_progress<S: Sink>(pc: Addr, status: Status, sink: &mut S) -> Result<(), SinkFault>
-    ensures { Puts (S.taken sink.old) (S.taken sink.new) (S.failed sink.old) (S.failed sink.new) (spec.progress_line pc status) result }
+    ensures { Puts (S.state sink.old) (S.state sink.new) (spec.progress_line pc status) result }
 {
     put_all(
         sink,

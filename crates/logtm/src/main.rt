@@ -1,10 +1,9 @@
 //! The program `logtm`: it answers its command line.
 #![tactic(auto)]
 
-use answering::{Meter, answer};
 use debugger::{LineInput, Typed};
 use machine::Progress;
-use simulate::Fault;
+use simulate::{Fault, Meter, answer};
 use std::env;
 use std::io::{ErrorKind, IsTerminal, Lock, Read, Write};
 use std::process::ExitCode;

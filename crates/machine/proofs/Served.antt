@@ -14,8 +14,8 @@ use Rattle.protocol.specs.Machine.{Steps, ComesAbout, served_change, directory_c
 use Rattle.directory.specs.Blocks.{Blocks, entry_at, row_of, sender_of, SetsBlock, Answers}
 use Rattle.directory.specs.Sends.{messages_in}
 use Rattle.directory.specs.declared.received.Answer.{Answer}
-use Rattle.bounds.specs.Memory.{IsWithinMemory}
-use Rattle.bounds.proofs.Machines.{run_within}
+use Rattle.isolation.specs.Memory.{IsWithinMemory}
+use Rattle.isolation.proofs.Within.Machines.{run_within}
 use Rattle.isolation.specs.Facts.{whose, IsAwaited}
 use Rattle.isolation.proofs.Consequences.RequestLaws.{awaited}
 use Rattle.isolation.proofs.Belongs.Belonging.{world, inv_of, belongs_next}

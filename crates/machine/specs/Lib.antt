@@ -6,3 +6,4 @@ pub mod Reads
 pub mod Turns
 pub mod Watch
 pub mod Lent
+pub mod Unused

@@ -3,22 +3,22 @@ ghost use Rattle.words.specs.Limits.{block_bytes, most_harts};
 ghost use Rattle.flat.specs.State.{Setting};
 ghost use Rattle.flat.specs.Boots.{boot_fault, booted};
 ghost use Rattle.flat.specs.declared.boot_fault.BootFault.{BootFault};
-ghost use Rattle.overlay.specs.Memory.{mem_of};
+ghost use Rattle.boot.specs.Memory.{mem_of};
 ghost use Rattle.protocol.specs.Lines.{words_at};
 ghost use Rattle.protocol.specs.Start.{start};
 ghost use Rattle.isolation.specs.Belongs.{Belongs};
 ghost use Rattle.machine.specs.States.{words_of, Seat as SeatValue};
+ghost use Rattle.machine.specs.Unused.{IsUnused};
 
 use crate::loaded::Loaded;
 use crate::machine::Machine;
 use crate::seat::{HOST_LINE, Seat};
-use boot::{boot_fault, image};
+use boot::{boot_fault, image, word_at};
 use directory::Directory;
 use flat::BootFault;
 use hart::Hart;
 use loader::Program;
 use network::Net;
-use overlay::word_at;
 use std::alloc::{AllocError, Global};
 use words::{Addr, BLOCK_BYTES, Block, HartId};
 
@@ -111,6 +111,7 @@ impl<const SETS: usize, const WAYS: usize> Machine<SETS, WAYS> {
         requires bootable { boot_fault program.segments harts size ≡ None }
         ensures start { IfOk result (λ m. shown SETS m ≡ start (booted program.segments program.entry harts size).setting program.entry) }
         ensures belongs { IfOk result (λ m. Belongs (geometry SETS WAYS) (booted program.segments program.entry harts size) (shown SETS m)) }
+        ensures unused { IfOk result (λ m. IsUnused m) }
     {
         let bytes = image(alloc, &program, size)?;
         let memory = blocks_of(alloc, &bytes, size / BLOCK_BYTES)?;
@@ -125,8 +126,8 @@ impl<const SETS: usize, const WAYS: usize> Machine<SETS, WAYS> {
         })
     }
 
-    /// The machine that a program begins in, with a number of harts and of bytes of memory. The program is given up where it
-    /// isn't booted.
+    /// The machine that a program begins in, with a number of harts and of bytes of memory: no message was sent yet. The program is given up
+    /// where it isn't booted.
     pub fn boot(alloc: Global, program: Program, harts: u32, size: u32) -> Result<Self, BootFault>
         requires sets { 0 < SETS }
         requires ways { 0 < WAYS }
@@ -136,6 +137,7 @@ impl<const SETS: usize, const WAYS: usize> Machine<SETS, WAYS> {
         ensures accepted { boot_fault program.segments harts size ≡ None →
             MatchResult result (λ m. shown SETS m ≡ start (booted program.segments program.entry harts size).setting program.entry) (λ e. e ≡ BootFault.NoMemory) }
         ensures belongs { IfOk result (λ m. Belongs (geometry SETS WAYS) (booted program.segments program.entry harts size) (shown SETS m)) }
+        ensures unused { IfOk result (λ m. IsUnused m) }
     {
         if let Some(fault) = boot_fault(&program, harts, size) {
             return Err(fault);

@@ -1,5 +1,6 @@
 mod caches;
 mod directories;
+mod harts;
 mod logs;
 mod networks;
 mod transactions;

@@ -5,3 +5,4 @@ pub mod Planned
 pub mod Runs
 pub mod Checked
 pub mod Booted
+pub mod Blanks

@@ -9,8 +9,8 @@ use Rattle.flat.specs.Bytes.{put_at, laid}
 use Rattle.flat.specs.State.{Tx}
 use Rattle.flat.specs.Effects.{tx_got, tx_put}
 use Rattle.reference.specs.declared.hart.Transaction.{Transaction}
-use Rattle.overlay.specs.declared.overlay.Overlay.{Overlay}
-use Rattle.overlay.specs.Overlays.{reads_in, writes_in, byte_over, within, bytes_put}
+use Rattle.reference.specs.declared.overlay.Overlay.{Overlay}
+use Rattle.reference.specs.Overlays.{reads_in, writes_in, byte_over, within, bytes_put}
 use Rattle.reference.specs.States.{tx_of, stores_after}
 
 -- a set with a block added, if there is a reason to

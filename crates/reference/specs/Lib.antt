@@ -1,2 +1,3 @@
 pub mod States
 pub mod Machines
+pub mod Overlays

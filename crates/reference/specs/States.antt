@@ -10,8 +10,8 @@ use Rattle.flat.specs.State.{Tx, FlatHart, seen}
 use Rattle.flat.specs.Causes.{depth_of}
 use Rattle.reference.specs.declared.hart.Transaction.{Transaction}
 use Rattle.reference.specs.declared.hart.Hart.{Hart}
-use Rattle.overlay.specs.Memory.{mem_of}
-use Rattle.overlay.specs.Overlays.{reads_in, writes_in, byte_over, within}
+use Rattle.boot.specs.Memory.{mem_of}
+use Rattle.reference.specs.Overlays.{reads_in, writes_in, byte_over, within}
 
 -- a transaction, in a memory of a size
 abbrev pub tx_of : ℕ → Transaction → Tx

@@ -9,6 +9,7 @@ mod check;
 mod conflicts;
 mod hart;
 mod machine;
+mod overlay;
 mod reads;
 mod room;
 mod start;

@@ -4,7 +4,7 @@ ghost use Rattle.std.specs.List.{list_all};
 ghost use Rattle.table.specs.Program.{holds, byte_in, image_at};
 ghost use Rattle.flat.specs.State.{Setting, idle};
 ghost use Rattle.flat.specs.Start.{first_hart};
-ghost use Rattle.overlay.specs.Memory.{mem_of};
+ghost use Rattle.boot.specs.Memory.{mem_of};
 ghost use Rattle.reference.specs.States.{hart_of};
 ghost use Rattle.flat.specs.Boots.{is_size, ends_by, fits_below};
 ghost use Rattle.flat.specs.declared.boot_fault.BootFault.{BootFault};

@@ -1,3 +1,4 @@
+mod boards;
 mod booted;
 mod cut;
 mod cut_looks;

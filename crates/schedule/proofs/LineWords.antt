@@ -11,7 +11,7 @@ use Rattle.std.proofs.lemmas.List.Splits.{slice_split_at, slice_split_none}
 use Rattle.words.specs.Limits.{most_harts, block_bytes}
 use Rattle.texts.specs.Numerals.{hex_digit, hexadecimal}
 use Rattle.texts.proofs.Digits.{each_below, passes, agree}
-use Rattle.numerals.specs.Numbers.{is_numeral, number_of}
+use Rattle.texts.specs.Numbers.{is_numeral, number_of}
 use Rattle.schedule.specs.declared.choices.Sort.{Sort}
 use Rattle.schedule.specs.declared.choices.Sort.TheVariants.{Get, Put, Done, Grant, Forward, PutAck, Ack, Nack}
 use Rattle.schedule.specs.Spelling.{words_of, sort_name, sort_of, hart_of, block_of}

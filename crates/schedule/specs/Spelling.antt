@@ -4,7 +4,7 @@ use Rattle.std.specs.List.{slice_split}
 use Rattle.std.specs.Option.{option_and_then}
 use Rattle.std.specs.Str.{bytes_eq}
 use Rattle.words.specs.Limits.{most_harts, block_bytes}
-use Rattle.numerals.specs.Numbers.{number_of}
+use Rattle.texts.specs.Numbers.{number_of}
 use Rattle.schedule.specs.declared.choices.Sort.{Sort}
 use Rattle.schedule.specs.declared.choices.Sort.TheVariants.{Get, Put, Done, Grant, Forward, PutAck, Ack, Nack}
 use Rattle.schedule.specs.declared.choices.Name.{Name}

@@ -1,8 +1,7 @@
-ghost use Rattle.std.specs.Prelude.{◌≡◌, ◌≤◌, ◌<◌, ◌+◌, ◌++◌, [], IsTrue, IsFalse, OnOk, OnErr, replicate, vec_len, vec_capacity};
+ghost use Rattle.std.specs.Prelude.{◌≡◌, ◌≤◌, ◌<◌, ◌+◌, ◌++◌, [], IsTrue, IsFalse, OnOk, replicate, vec_len, vec_capacity};
 ghost use Rattle.schedule.specs.Histories.{choices_in};
 
 use crate::choices::Choice;
-use crate::journal::Journal;
 use std::alloc::{AllocError, Global};
 use std::marker::Model;
 
@@ -40,21 +39,17 @@ impl History {
             batches: Vec::new(alloc),
         }
     }
-}
 
-impl Journal for History {
-    ghost tells = { λ h choices. h.choices ≡ choices };
-
-    ghost has_room = { λ h. 0 < h.room };
-
-    fn make_room(&mut self) -> Result<(), AllocError>
+    /// Makes room for a note. What was noted stays, whether it succeeds or not.
+    pub fn make_room(&mut self) -> Result<(), AllocError>
         ensures room { OnOk result (0 < self.new.room) }
         ensures stays { self.new.choices ≡ self.old.choices }
     {
         self.batches.reserve(1)
     }
 
-    fn note(&mut self, choice: Choice, times: usize)
+    /// A choice was made, so many times.
+    pub fn note(&mut self, choice: Choice, times: usize)
         requires { 0 < self.old.room }
         ensures noted { self.new.choices ≡ self.old.choices ++ replicate times choice }
         ensures room { self.old.room ≤ self.new.room + 1 }

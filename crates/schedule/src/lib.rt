@@ -5,7 +5,6 @@
 
 mod choices;
 mod history;
-mod journal;
 mod laws;
 mod lines;
 mod playing;
@@ -15,7 +14,6 @@ mod writing;
 
 pub use choices::{Choice, Name, Sort};
 pub use history::History;
-pub use journal::{Journal, Unkept};
 pub use laws::written_choices_are_read;
 pub use lines::{ScheduleFault, read};
 pub use playing::follow;

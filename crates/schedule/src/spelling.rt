@@ -2,7 +2,7 @@ ghost use Rattle.std.specs.Prelude.{◌≡◌, ◌≢◌, ◌∷◌, [], length,
 ghost use Rattle.schedule.specs.Spelling as spec;
 
 use crate::choices::{Choice, Name, Sort};
-use numerals::number;
+use texts::number;
 use words::{Addr, BlockNo, HartId};
 
 /// The first word of a text, and the text of the others. `None` where it is the only one.

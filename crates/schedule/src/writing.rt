@@ -13,13 +13,13 @@ use words::{BLOCK_BYTES, BlockNo, HartId, Sink, SinkFault};
 
 /// Puts the choices of a history as a schedule: the line of each, in order.
 pub fn put_history<S: Sink>(sink: &mut S, history: &History) -> Result<(), SinkFault>
-    ensures { Puts (S.taken sink.old) (S.taken sink.new) (S.failed sink.old) (S.failed sink.new) (text_of history.now.choices) result }
+    ensures { Puts (S.state sink.old) (S.state sink.new) (text_of history.now.choices) result }
 {
     put_batches(sink, &history.batches)
 }
 
 fn put_batches<S: Sink>(sink: &mut S, batches: &[Batch]) -> Result<(), SinkFault>
-    ensures { Puts (S.taken sink.old) (S.taken sink.new) (S.failed sink.old) (S.failed sink.new) (text_of (choices_in batches.now)) result }
+    ensures { Puts (S.state sink.old) (S.state sink.new) (text_of (choices_in batches.now)) result }
 {
     for batch in batches {
         put_batch(sink, batch)?;
@@ -28,7 +28,7 @@ fn put_batches<S: Sink>(sink: &mut S, batches: &[Batch]) -> Result<(), SinkFault
 }
 
 fn put_batch<S: Sink>(sink: &mut S, batch: &Batch) -> Result<(), SinkFault>
-    ensures { Puts (S.taken sink.old) (S.taken sink.new) (S.failed sink.old) (S.failed sink.new) (text_of (replicate batch.now.times batch.now.choice)) result }
+    ensures { Puts (S.state sink.old) (S.state sink.new) (text_of (replicate batch.now.times batch.now.choice)) result }
 {
     for _made in 0..batch.times {
         put_line(sink, &batch.choice)?;
@@ -37,14 +37,14 @@ fn put_batch<S: Sink>(sink: &mut S, batch: &Batch) -> Result<(), SinkFault>
 }
 
 fn put_line<S: Sink>(sink: &mut S, choice: &Choice) -> Result<(), SinkFault>
-    ensures { Puts (S.taken sink.old) (S.taken sink.new) (S.failed sink.old) (S.failed sink.new) (line_of choice.now ++ codes "\n") result }
+    ensures { Puts (S.state sink.old) (S.state sink.new) (line_of choice.now ++ codes "\n") result }
 {
     put_choice(sink, choice)?;
     put_all(sink, &[b"\n"])
 }
 
 fn put_choice<S: Sink>(sink: &mut S, choice: &Choice) -> Result<(), SinkFault>
-    ensures { Puts (S.taken sink.old) (S.taken sink.new) (S.failed sink.old) (S.failed sink.new) (line_of choice.now) result }
+    ensures { Puts (S.state sink.old) (S.state sink.new) (line_of choice.now) result }
 {
     match choice {
         Choice::Core(hart) => put_core(sink, *hart),
@@ -55,14 +55,14 @@ fn put_choice<S: Sink>(sink: &mut S, choice: &Choice) -> Result<(), SinkFault>
 }
 
 fn put_core<S: Sink>(sink: &mut S, hart: HartId) -> Result<(), SinkFault>
-    ensures { Puts (S.taken sink.old) (S.taken sink.new) (S.failed sink.old) (S.failed sink.new) (line_of (Choice.Core hart)) result }
+    ensures { Puts (S.state sink.old) (S.state sink.new) (line_of (Choice.Core hart)) result }
 {
     let mut number = Buffer::new();
     put_all(sink, &[b"core ", number.format(hart.index()).as_bytes()])
 }
 
 fn put_evict<S: Sink>(sink: &mut S, hart: HartId, block: BlockNo) -> Result<(), SinkFault>
-    ensures { Puts (S.taken sink.old) (S.taken sink.new) (S.failed sink.old) (S.failed sink.new) (line_of (Choice.Evict hart block)) result }
+    ensures { Puts (S.state sink.old) (S.state sink.new) (line_of (Choice.Evict hart block)) result }
 {
     let mut number = Buffer::new();
     put_all(
@@ -77,7 +77,7 @@ fn put_evict<S: Sink>(sink: &mut S, hart: HartId, block: BlockNo) -> Result<(), 
 }
 
 fn put_delivery<S: Sink>(sink: &mut S, name: Name) -> Result<(), SinkFault>
-    ensures { Puts (S.taken sink.old) (S.taken sink.new) (S.failed sink.old) (S.failed sink.new) (line_of (Choice.Deliver name)) result }
+    ensures { Puts (S.state sink.old) (S.state sink.new) (line_of (Choice.Deliver name)) result }
 {
     let mut number = Buffer::new();
     put_all(

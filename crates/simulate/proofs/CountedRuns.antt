@@ -2,6 +2,7 @@
 use Rattle.std.proofs.Common.{◌≡◌, ◌-◌, ◌++◌, ℕ, List, Option, Some, None, Ok, Err, refl, sym, subst, ap, ap₂, ◌∙◌, append-nil}
 use Rattle.words.specs.declared.entry.Entry.{Entry}
 use Rattle.words.specs.declared.sink.SinkFault.{SinkFault}
+use Rattle.words.specs.Sinks.{SinkState, TookAll, TookPart}
 use Rattle.command_line.specs.declared.request.Run.{Run}
 use Rattle.command_line.specs.declared.request.Stats.{Stats}
 use Rattle.command_line.specs.declared.request.Stats.TheVariants.{Table, Csv}
@@ -29,7 +30,6 @@ use Rattle.simulate.specs.Orders.{geometry_of}
 use Rattle.simulate.specs.Refusals.{IsUnreported}
 use Rattle.simulate.specs.Reports.{AllReadable, report_of}
 use Rattle.simulate.specs.Runs.{IsReportOf}
-use Rattle.simulate.specs.Sinks.{TookAll, TookPart}
 use Rattle.simulate.specs.Statuses.{IsReported, IsStatusOf}
 use Rattle.simulate.specs.declared.fault.Fault.{Fault}
 use Rattle.simulate.specs.declared.fault.Fault.TheVariants.{Unwritten, NoMemory}
@@ -55,8 +55,8 @@ put_as (Some form) ms t n m report are same =
     ap (λ l. report ++ l) (text_of form ms t n are ∙ ap (λ (k : ℕ). counts_text form (λ h k. number_of h k ms) k (figure_of ms)) same)
 
 -- memory ran out before anything was put
-pub unbegun : (run : Run) (file list : List ℕ) (a : Option (List ℕ)) (f : ℕ) → IsUnreported run file list a a f f NoMemory
-unbegun run file list a f = record { why = tt; cut = λ e. absurd (cc); refused = λ other. record { taken = refl; failed = refl } }
+pub unbegun : (run : Run) (file list : List ℕ) (a : SinkState) → IsUnreported run file list a a NoMemory
+unbegun run file list a = record { why = tt; cut = λ e. absurd (cc); refused = λ other. refl }
 
 module _ (run : Run) (file list : List ℕ) (g : Geometry) (v w : State) (addrs words : List ℕ) (choices followed : List Choice) (caches : geometry_of run.cache ≡ g) (same : followed ≡ choices) (as_given : words ≡ addrs)
     (begun : IsBegunBy g run file list v addrs choices) (counts : Tally) (counted : IsCountedIn run.stats g followed run.steps v w counts) where
@@ -82,37 +82,37 @@ module _ (run : Run) (file list : List ℕ) (g : Geometry) (v w : State) (addrs 
       (first, its_report run file list g w words counted.0 come status of, put_as run.stats counted.0 counts harts come.end.setting.count first counted.2 (count come.end come.belongs)),
     )
 
-    cut : (a b : Option (List ℕ)) (fa fb : ℕ) (status : ℕ) → IsStatusOf come.end status → TookPart a b fa fb (first ++ behind) → IsUnreported run file list a b fa fb Unwritten
-    cut a b fa fb status of took = record {
+    cut : (a b : SinkState) (status : ℕ) → IsStatusOf come.end status → TookPart a b (first ++ behind) → IsUnreported run file list a b Unwritten
+    cut a b status of took = record {
       why = (first ++ behind, status, whole status of);
       cut = λ e. (first ++ behind, status, whole status of, took);
       refused = λ other. absurd (other refl);
     }
 
     -- a put of the report failed
-    pub half_reported : (a b : Option (List ℕ)) (fa fb : ℕ) (fault : Fault) → IsHalfConcluded g w words a b fa fb fault → IsUnreported run file list a b fa fb fault
-    half_reported a b fa fb fault (unwritten, of) =
+    pub half_reported : (a b : SinkState) (fault : Fault) → IsHalfConcluded g w words a b fault → IsUnreported run file list a b fault
+    half_reported a b fault (unwritten, of) =
         let half = of come.end come.belongs in
         let e : SinkFault = record {} in
-        let short : Puts a b fa fb first (Err e) = record { whole = tt; clean = tt; part = half.2.part; fault = half.2.fault } in
-        let part : Puts a b fa fb (first ++ behind) (Err e) = puts-cut behind {r = Err e} {s = Err e} {e = e} refl short refl in
-        subst (λ (f : Fault). IsUnreported run file list a b fa fb f) (sym unwritten) (cut a b fa fb half.0 half.1 (record { part = part.part; fault = part.fault }))
+        let short : Puts a b first (Err e) = record { whole = tt; clean = tt; part = half.2.part; fault = half.2.fault } in
+        let part : Puts a b (first ++ behind) (Err e) = puts-cut behind {r = Err e} {s = Err e} {e = e} refl short refl in
+        subst (λ (f : Fault). IsUnreported run file list a b f) (sym unwritten) (cut a b half.0 half.1 (record { part = part.part; fault = part.fault }))
 
-    module _ (a b c : Option (List ℕ)) (fa fb fc : ℕ) (status : ℕ) (concluded : IsConcluded g w words a b fa fb status) where
-      abbrev of_end : IsStatusOf come.end status × TookAll a b fa fb first
+    module _ (a b c : SinkState) (status : ℕ) (concluded : IsConcluded g w words a b status) where
+      abbrev of_end : IsStatusOf come.end status × TookAll a b first
       of_end = concluded.1 come.end come.belongs
 
-      put : Puts a b fa fb first (Ok tt)
+      put : Puts a b first (Ok tt)
       put = record { whole = of_end.1.whole; clean = of_end.1.clean; part = tt; fault = tt }
 
       -- all was put
-      pub reported : Puts b c fb fc behind (Ok tt) → IsReported status × IsGiven (IsReportOf run file list) status a c fa fc
+      pub reported : Puts b c behind (Ok tt) → IsReported status × IsGiven (IsReportOf run file list) status a c
       reported more =
-          let all : Puts a c fa fc (first ++ behind) (Ok tt) = puts-both put more in
+          let all : Puts a c (first ++ behind) (Ok tt) = puts-both put more in
           (concluded.0, (first ++ behind, whole status of_end.0, record { whole = all.whole; clean = all.clean }))
 
       -- a put of the counts failed
-      pub half_counted : (e : SinkFault) → Puts b c fb fc behind (Err e) → IsUnreported run file list a c fa fc Unwritten
+      pub half_counted : (e : SinkFault) → Puts b c behind (Err e) → IsUnreported run file list a c Unwritten
       half_counted e more =
-          let part : Puts a c fa fc (first ++ behind) (Err e) = puts-both put more in
-          cut a c fa fc status of_end.0 (record { part = part.part; fault = part.fault })
+          let part : Puts a c (first ++ behind) (Err e) = puts-both put more in
+          cut a c status of_end.0 (record { part = part.part; fault = part.fault })

@@ -6,3 +6,4 @@ pub mod Performing
 mod CountedRuns
 pub mod Quoting
 mod ShownRuns
+mod ThreadedRuns

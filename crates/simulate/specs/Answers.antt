@@ -1,5 +1,6 @@
 -- What an order asks for.
 use Rattle.std.specs.Prelude.{ℕ, ◌≡◌, List, [], Option}
+use Rattle.words.specs.Sinks.{SinkState, TookAll, TookPart}
 use Rattle.loader.specs.Programs.{Program}
 use Rattle.loader.specs.Elf.{IsElfOf}
 use Rattle.disassembler.specs.Listing.{listing_of}
@@ -8,7 +9,6 @@ use Rattle.command_line.specs.declared.request.Order.TheVariants.{Run, Dis, Asm}
 use Rattle.loader.specs.Writing.{elf_of}
 use Rattle.simulate.specs.Runs.{IsReportOf}
 use Rattle.simulate.specs.Sources.{IsSourceOf}
-use Rattle.simulate.specs.Sinks.{TookAll, TookPart}
 
 -- the text is the listing of the program that the file with these bytes is
 abbrev pub IsListingOf : List ℕ → List ℕ → ℕ → Type 0
@@ -31,9 +31,9 @@ AsksForFile (Asm source target) = Unit {0}
 AsksForFile other = ⊥
 
 -- one of these texts was put, which goes with the status
-abbrev pub IsGiven : (List ℕ → ℕ → Type 0) → ℕ → Option (List ℕ) → Option (List ℕ) → ℕ → ℕ → Type 0
-IsGiven answers status before after failed_before failed_after = (text : List ℕ) × answers text status × TookAll before after failed_before failed_after text
+abbrev pub IsGiven : (List ℕ → ℕ → Type 0) → ℕ → SinkState → SinkState → Type 0
+IsGiven answers status before after = (text : List ℕ) × answers text status × TookAll before after text
 
 -- a put of one of these texts failed, and a beginning of it was taken
-abbrev pub IsCut : (List ℕ → ℕ → Type 0) → Option (List ℕ) → Option (List ℕ) → ℕ → ℕ → Type 0
-IsCut answers before after failed_before failed_after = (text : List ℕ) × (status : ℕ) × answers text status × TookPart before after failed_before failed_after text
+abbrev pub IsCut : (List ℕ → ℕ → Type 0) → SinkState → SinkState → Type 0
+IsCut answers before after = (text : List ℕ) × (status : ℕ) × answers text status × TookPart before after text

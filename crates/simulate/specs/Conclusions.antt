@@ -1,21 +1,21 @@
 -- How a run is concluded: by the report on the machine that it leads to, and a status.
 use Rattle.std.specs.Prelude.{ℕ, ◌≡◌, List, Option}
+use Rattle.words.specs.Sinks.{SinkState, TookAll, TookPart}
 use Rattle.flat.specs.State.{Flat}
 use Rattle.protocol.specs.Caches.{Geometry}
 use Rattle.isolation.specs.Belongs.{Belongs}
 use Rattle.machine.specs.States.{State, shown}
 use Rattle.simulate.specs.Reports.{report_of}
-use Rattle.simulate.specs.Sinks.{TookAll, TookPart}
 use Rattle.simulate.specs.Statuses.{IsReported, IsStatusOf}
 use Rattle.simulate.specs.declared.fault.Fault.{Fault}
 use Rattle.simulate.specs.declared.fault.Fault.TheVariants.{Unwritten}
 
 -- the report on a machine was put, with the words at these addresses, and the status goes with it
-abbrev pub IsConcluded : Geometry → State → List ℕ → Option (List ℕ) → Option (List ℕ) → ℕ → ℕ → ℕ → Type 0
-IsConcluded g m addrs before after failed_before failed_after status = IsReported status
-    × ((f : Flat) → Belongs g f (shown g.sets m) → IsStatusOf f status × TookAll before after failed_before failed_after (report_of f addrs))
+abbrev pub IsConcluded : Geometry → State → List ℕ → SinkState → SinkState → ℕ → Type 0
+IsConcluded g m addrs before after status = IsReported status
+    × ((f : Flat) → Belongs g f (shown g.sets m) → IsStatusOf f status × TookAll before after (report_of f addrs))
 
 -- or a beginning of it
-abbrev pub IsHalfConcluded : Geometry → State → List ℕ → Option (List ℕ) → Option (List ℕ) → ℕ → ℕ → Fault → Type 0
-IsHalfConcluded g m addrs before after failed_before failed_after fault = (fault ≡ Unwritten)
-    × ((f : Flat) → Belongs g f (shown g.sets m) → (status : ℕ) × IsStatusOf f status × TookPart before after failed_before failed_after (report_of f addrs))
+abbrev pub IsHalfConcluded : Geometry → State → List ℕ → SinkState → SinkState → Fault → Type 0
+IsHalfConcluded g m addrs before after fault = (fault ≡ Unwritten)
+    × ((f : Flat) → Belongs g f (shown g.sets m) → (status : ℕ) × IsStatusOf f status × TookPart before after (report_of f addrs))

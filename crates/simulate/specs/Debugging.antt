@@ -1,5 +1,6 @@
 -- A program that is played by hand.
 use Rattle.std.specs.Prelude.{ℕ, ◌≡◌, ◌⊎◌, List, [], Option, Result, Ok, Err, codes}
+use Rattle.words.specs.Sinks.{IsPut, IsUntouched, SinkState}
 use Rattle.protocol.specs.Caches.{Geometry}
 use Rattle.machine.specs.States.{State}
 use Rattle.command_line.specs.declared.request.Debug.{Debug}
@@ -8,7 +9,6 @@ use Rattle.debugger.specs.declared.fault.ConsoleFault.TheVariants.{Unreadable, U
 use Rattle.debugger.specs.Plays.{Giving}
 use Rattle.debugger.specs.Debugging.{IsDebugged}
 use Rattle.simulate.specs.Faults.{fault_status, fault_text, line}
-use Rattle.simulate.specs.Sinks.{IsPut, IsUntouched}
 use Rattle.simulate.specs.Starts.{IsStartOf, IsStartFault}
 use Rattle.simulate.specs.declared.fault.Fault.{Fault}
 
@@ -18,29 +18,28 @@ end_text Unreadable = line (codes "cannot read standard input") []
 end_text Unwritten = line (codes "cannot write standard output") []
 
 -- where a session has come to its end, nothing is told, and the status is 0; else the user is told why, and it is 3
-abbrev pub TellsEnd : Result Unit ConsoleFault → Option (List ℕ) → Option (List ℕ) → ℕ → ℕ → ℕ → Type 0
-TellsEnd (Ok done) before after failed_before failed_after status = IsUntouched before after failed_before failed_after × (status ≡ 0)
-TellsEnd (Err fault) before after failed_before failed_after status = IsPut before after failed_before failed_after (end_text fault) × (status ≡ 3)
+abbrev pub TellsEnd : Result Unit ConsoleFault → SinkState → SinkState → ℕ → Type 0
+TellsEnd (Ok done) before after status = IsUntouched before after × (status ≡ 0)
+TellsEnd (Err fault) before after status = IsPut before after (end_text fault) × (status ≡ 3)
 
-module _ {I : Type 0} (g : Geometry) (gives : Giving I) (debug : Debug) (file prompt : List ℕ) (i j : I) (told_before told_after : Option (List ℕ)) (untold_before untold_after : ℕ)
-    (asked_before asked_after : Option (List ℕ)) (unasked_before unasked_after status : ℕ) where
+module _ {I : Type 0} (g : Geometry) (gives : Giving I) (debug : Debug) (file prompt : List ℕ) (i j : I) (told_before told_after : SinkState)
+    (asked_before asked_after : SinkState) (status : ℕ) where
   -- the file has a program, which boots as asked; a session of the machine that it begins in answers the lines of the input; and its end is told
   pub record HasSession : Type 0 where
     pub first : State
     pub begins : IsStartOf g debug.file.now file debug.harts debug.memory first
     pub end : Result Unit ConsoleFault
-    pub asked : Option (List ℕ)
-    pub unasked : ℕ
-    pub played : IsDebugged g gives first prompt i j told_before told_after untold_before untold_after asked_before asked unasked_before unasked end
-    pub told : TellsEnd end asked asked_after unasked unasked_after status
+    pub asked : SinkState
+    pub played : IsDebugged g gives first prompt i j told_before told_after asked_before asked end
+    pub told : TellsEnd end asked asked_after status
 
   -- there is no such machine: the user is told why, and nothing else is done
   pub record HasNone : Type 0 where
     pub fault : Fault
     pub why : IsStartFault debug.file.now file debug.harts debug.memory fault
     pub input : j ≡ i
-    pub out : IsUntouched told_before told_after untold_before untold_after
-    pub told : IsPut asked_before asked_after unasked_before unasked_after (fault_text fault)
+    pub out : IsUntouched told_before told_after
+    pub told : IsPut asked_before asked_after (fault_text fault)
     pub given : status ≡ fault_status fault
 
   abbrev pub IsPlayedByHand : Type 0

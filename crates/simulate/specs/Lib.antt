@@ -1,4 +1,3 @@
-pub mod Sinks
 pub mod Reports
 pub mod Quotes
 pub mod Faults
@@ -16,3 +15,6 @@ pub mod Shown
 pub mod Orders
 pub mod Answers
 pub mod Refusals
+pub mod Stops
+pub mod Threaded
+pub mod ProgressLines

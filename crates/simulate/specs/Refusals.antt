@@ -1,5 +1,6 @@
 -- Why an order isn't carried out, and what the user is told of it.
 use Rattle.std.specs.Prelude.{ℕ, ◌≡◌, ◌≢◌, List, Option, Some, None}
+use Rattle.words.specs.Sinks.{IsPut, IsUntouched, SinkState}
 use Rattle.loader.specs.Programs.{Program}
 use Rattle.command_line.specs.declared.request.Order.{Order}
 use Rattle.command_line.specs.declared.request.Order.TheVariants as order
@@ -10,7 +11,6 @@ use Rattle.simulate.specs.Faults.{fault_status, fault_text}
 use Rattle.simulate.specs.Answers.{IsListingOf, IsCut}
 use Rattle.simulate.specs.Runs.{IsReportOf}
 use Rattle.simulate.specs.Schedules.{IsScheduleFault}
-use Rattle.simulate.specs.Sinks.{IsPut, IsUntouched}
 use Rattle.simulate.specs.Sources.{IsProgramIn, IsElfFault, IsProgramFault, IsSourceFault}
 use Rattle.simulate.specs.Unreadable.{IsFirstUnreadable}
 use Rattle.simulate.specs.declared.fault.Fault.{Fault}
@@ -35,10 +35,10 @@ IsRunFault run file list NoMemory = Unit {0}
 IsRunFault run file list other = IsProgramFault run.file.now file other
 
 -- such a fault, with what was put by then: a beginning of the report where a put of it failed, and else nothing
-pub record IsUnreported (run : Run) (file list : List ℕ) (before after : Option (List ℕ)) (failed_before failed_after : ℕ) (fault : Fault) : Type 0 where
+pub record IsUnreported (run : Run) (file list : List ℕ) (before after : SinkState) (fault : Fault) : Type 0 where
   pub why : IsRunFault run file list fault
-  pub cut : fault ≡ Unwritten → IsCut (IsReportOf run file list) before after failed_before failed_after
-  pub refused : fault ≢ Unwritten → IsUntouched before after failed_before failed_after
+  pub cut : fault ≡ Unwritten → IsCut (IsReportOf run file list) before after
+  pub refused : fault ≢ Unwritten → IsUntouched before after
 
 -- why there is no listing of the file with these bytes, or none that could be written
 abbrev pub IsListingFault : List ℕ → Fault → Type 0
@@ -53,8 +53,8 @@ IsFaultOf (order.Dis path) file list fault = IsListingFault file fault
 IsFaultOf (order.Asm source target) file list fault = IsSourceFault file fault
 
 -- a fault with this status was told
-pub record IsTold (order : Order) (file list : List ℕ) (given : ℕ) (before after : Option (List ℕ)) (failed_before failed_after : ℕ) : Type 0 where
+pub record IsTold (order : Order) (file list : List ℕ) (given : ℕ) (before after : SinkState) : Type 0 where
   pub fault : Fault
   pub why : IsFaultOf order file list fault
   pub status : fault_status fault ≡ given
-  pub put : IsPut before after failed_before failed_after (fault_text fault)
+  pub put : IsPut before after (fault_text fault)

@@ -1,5 +1,6 @@
 -- What is shown of a run beside its report: what the sinks took.
 use Rattle.std.specs.Prelude.{ℕ, ◌≡◌, ◌<◌, ◌≤◌, ◌⊎◌, ◌++◌, List, [], Option}
+use Rattle.words.specs.Sinks.{IsPut, IsUntouched, SinkState, TookAll, TookPart}
 use Rattle.flat.specs.State.{Flat}
 use Rattle.command_line.specs.declared.request.Run.{Run}
 use Rattle.protocol.specs.Caches.{Geometry}
@@ -16,7 +17,6 @@ use Rattle.simulate.specs.Faults.{fault_status, fault_text}
 use Rattle.simulate.specs.Orders.{geometry_of}
 use Rattle.simulate.specs.Refusals.{IsRunFault}
 use Rattle.simulate.specs.Runs.{ComesBy, IsReport}
-use Rattle.simulate.specs.Sinks.{TookAll, TookPart, IsPut, IsUntouched}
 use Rattle.simulate.specs.declared.fault.Fault.{Fault}
 use Rattle.simulate.specs.declared.fault.Fault.TheVariants.{Unmade, Unwritten, NoMemory}
 use Rattle.simulate.specs.declared.showing.Form.{Form}
@@ -35,31 +35,31 @@ begun_view Timeline sets harts ms = begun_timeline sets harts ms
 begun_view Picture sets harts ms = []
 
 -- n steps by a schedule were made, and the sink took what the form shows of them
-abbrev pub IsShown : Form → Geometry → List Choice → ℕ → State → State → Option (List ℕ) → Option (List ℕ) → ℕ → ℕ → Type 0
-IsShown form g choices n v w before after failed_before failed_after =
-    (ms : List Moment) × PlaysWith g choices n v ms w × TookAll before after failed_before failed_after (view_of form g.sets (setting_of v).count ms)
+abbrev pub IsShown : Form → Geometry → List Choice → ℕ → State → State → SinkState → SinkState → Type 0
+IsShown form g choices n v w before after =
+    (ms : List Moment) × PlaysWith g choices n v ms w × TookAll before after (view_of form g.sets (setting_of v).count ms)
 
 -- m steps were made, and the sink took a beginning of what the form shows of them
-abbrev pub IsShownInPart : Form → Geometry → List Choice → ℕ → State → State → Option (List ℕ) → Option (List ℕ) → ℕ → ℕ → Type 0
-IsShownInPart form g choices m v w before after failed_before failed_after =
-    (ms : List Moment) × PlaysWith g choices m v ms w × TookPart before after failed_before failed_after (view_of form g.sets (setting_of v).count ms)
+abbrev pub IsShownInPart : Form → Geometry → List Choice → ℕ → State → State → SinkState → SinkState → Type 0
+IsShownInPart form g choices m v w before after =
+    (ms : List Moment) × PlaysWith g choices m v ms w × TookPart before after (view_of form g.sets (setting_of v).count ms)
 
 -- memory ran out behind m steps, and the sink took all that can be shown of them by then
-abbrev pub IsShownSoFar : Form → Geometry → List Choice → ℕ → State → State → Option (List ℕ) → Option (List ℕ) → ℕ → ℕ → Type 0
-IsShownSoFar form g choices m v w before after failed_before failed_after =
-    (ms : List Moment) × PlaysWith g choices m v ms w × TookAll before after failed_before failed_after (begun_view form g.sets (setting_of v).count ms)
+abbrev pub IsShownSoFar : Form → Geometry → List Choice → ℕ → State → State → SinkState → SinkState → Type 0
+IsShownSoFar form g choices m v w before after =
+    (ms : List Moment) × PlaysWith g choices m v ms w × TookAll before after (begun_view form g.sets (setting_of v).count ms)
 
 -- why n steps weren't made and shown: memory ran out behind fewer, or a put failed
-abbrev pub IsCutShort : Form → Geometry → List Choice → ℕ → State → State → Option (List ℕ) → Option (List ℕ) → ℕ → ℕ → Halt → Type 0
-IsCutShort form g choices n v w before after failed_before failed_after halt.NoMemory = (m : ℕ) × (m < n) × IsShownSoFar form g choices m v w before after failed_before failed_after
-IsCutShort form g choices n v w before after failed_before failed_after halt.Untold = (m : ℕ) × (m ≤ n) × IsShownInPart form g choices m v w before after failed_before failed_after
+abbrev pub IsCutShort : Form → Geometry → List Choice → ℕ → State → State → SinkState → SinkState → Halt → Type 0
+IsCutShort form g choices n v w before after halt.NoMemory = (m : ℕ) × (m < n) × IsShownSoFar form g choices m v w before after
+IsCutShort form g choices n v w before after halt.Untold = (m : ℕ) × (m ≤ n) × IsShownInPart form g choices m v w before after
 
 -- the same as a fault, which tells of a put by the path of the file
-abbrev pub IsPutFault : Form → Geometry → List Choice → ℕ → List ℕ → State → State → Option (List ℕ) → Option (List ℕ) → ℕ → ℕ → Fault → Type 0
-IsPutFault form g choices n path v w before after failed_before failed_after (Unmade at) =
-    (at.now ≡ path) × ((m : ℕ) × (m ≤ n) × IsShownInPart form g choices m v w before after failed_before failed_after)
-IsPutFault form g choices n path v w before after failed_before failed_after NoMemory = (m : ℕ) × (m < n) × IsShownSoFar form g choices m v w before after failed_before failed_after
-IsPutFault form g choices n path v w before after failed_before failed_after other = ⊥
+abbrev pub IsPutFault : Form → Geometry → List Choice → ℕ → List ℕ → State → State → SinkState → SinkState → Fault → Type 0
+IsPutFault form g choices n path v w before after (Unmade at) =
+    (at.now ≡ path) × ((m : ℕ) × (m ≤ n) × IsShownInPart form g choices m v w before after)
+IsPutFault form g choices n path v w before after NoMemory = (m : ℕ) × (m < n) × IsShownSoFar form g choices m v w before after
+IsPutFault form g choices n path v w before after other = ⊥
 
 -- what the form shows of the moments of a run
 abbrev pub run_view : Form → Run → List Moment → List ℕ
@@ -81,47 +81,47 @@ IsShownReport form run file list view text status =
 
 module _ (run : Run) (file list : List ℕ) (form : Form) where
   -- memory ran out: before the first step, or behind some, which were shown
-  abbrev pub IsStopped : Option (List ℕ) → Option (List ℕ) → ℕ → ℕ → Type 0
-  IsStopped before after failed_before failed_after = IsUntouched before after failed_before failed_after
-      ⊎ ((steps : ℕ) × (steps < run.steps) × ((view : List ℕ) × IsTextOf (begun_run_view form run) run file list steps view × TookAll before after failed_before failed_after view))
+  abbrev pub IsStopped : SinkState → SinkState → Type 0
+  IsStopped before after = IsUntouched before after
+      ⊎ ((steps : ℕ) × (steps < run.steps) × ((view : List ℕ) × IsTextOf (begun_run_view form run) run file list steps view × TookAll before after view))
 
   -- a put failed, and the sink took a beginning of what the form shows of some steps
-  abbrev pub IsViewCut : Option (List ℕ) → Option (List ℕ) → ℕ → ℕ → Type 0
-  IsViewCut before after failed_before failed_after =
-      (steps : ℕ) × (steps ≤ run.steps) × ((view : List ℕ) × IsTextOf (run_view form run) run file list steps view × TookPart before after failed_before failed_after view)
+  abbrev pub IsViewCut : SinkState → SinkState → Type 0
+  IsViewCut before after =
+      (steps : ℕ) × (steps ≤ run.steps) × ((view : List ℕ) × IsTextOf (run_view form run) run file list steps view × TookPart before after view)
 
-  module _ (path : List ℕ) (shown_before shown_after : Option (List ℕ)) (unshown_before unshown_after : ℕ) (before after : Option (List ℕ)) (failed_before failed_after : ℕ) where
+  module _ (path : List ℕ) (shown_before shown_after : SinkState) (before after : SinkState) where
     -- the one sink took what the form shows, and the other the report
     abbrev pub IsGivenApart : ℕ → Type 0
     IsGivenApart status = (view : List ℕ) × (text : List ℕ) × IsShownReport form run file list view text status
-        × TookAll shown_before shown_after unshown_before unshown_after view × TookAll before after failed_before failed_after text
+        × TookAll shown_before shown_after view × TookAll before after text
 
     -- why not: a put into the one failed; one of the report did, behind all that is shown; memory ran out; or there is no run
     abbrev pub IsApartFault : Fault → Type 0
-    IsApartFault (Unmade at) = (at.now ≡ path) × IsViewCut shown_before shown_after unshown_before unshown_after × IsUntouched before after failed_before failed_after
+    IsApartFault (Unmade at) = (at.now ≡ path) × IsViewCut shown_before shown_after × IsUntouched before after
     IsApartFault Unwritten = (view : List ℕ) × (text : List ℕ) × (status : ℕ) × IsShownReport form run file list view text status
-        × TookAll shown_before shown_after unshown_before unshown_after view × TookPart before after failed_before failed_after text
-    IsApartFault NoMemory = IsStopped shown_before shown_after unshown_before unshown_after × IsUntouched before after failed_before failed_after
-    IsApartFault other = IsRunFault run file list other × IsUntouched shown_before shown_after unshown_before unshown_after × IsUntouched before after failed_before failed_after
+        × TookAll shown_before shown_after view × TookPart before after text
+    IsApartFault NoMemory = IsStopped shown_before shown_after × IsUntouched before after
+    IsApartFault other = IsRunFault run file list other × IsUntouched shown_before shown_after × IsUntouched before after
 
     -- such a fault was told, and has this status
-    abbrev pub IsToldApart : ℕ → Option (List ℕ) → Option (List ℕ) → ℕ → ℕ → Type 0
-    IsToldApart status told_before told_after untold_before untold_after =
-        (fault : Fault) × IsApartFault fault × (fault_status fault ≡ status) × IsPut told_before told_after untold_before untold_after (fault_text fault)
+    abbrev pub IsToldApart : ℕ → SinkState → SinkState → Type 0
+    IsToldApart status told_before told_after =
+        (fault : Fault) × IsApartFault fault × (fault_status fault ≡ status) × IsPut told_before told_after (fault_text fault)
 
-module _ (run : Run) (file list : List ℕ) (before after : Option (List ℕ)) (failed_before failed_after : ℕ) where
+module _ (run : Run) (file list : List ℕ) (before after : SinkState) where
   -- the sink took the trace and then the report
   abbrev pub IsGivenBefore : ℕ → Type 0
-  IsGivenBefore status = (trace : List ℕ) × (text : List ℕ) × IsShownReport Trace run file list trace text status × TookAll before after failed_before failed_after (trace ++ text)
+  IsGivenBefore status = (trace : List ℕ) × (text : List ℕ) × IsShownReport Trace run file list trace text status × TookAll before after (trace ++ text)
 
   -- why not: a put of the trace failed, or one of the report behind it; memory ran out; or there is no run
   abbrev pub IsBeforeFault : Fault → Type 0
-  IsBeforeFault Unwritten = IsViewCut run file list Trace before after failed_before failed_after
-      ⊎ ((trace : List ℕ) × (text : List ℕ) × (status : ℕ) × IsShownReport Trace run file list trace text status × TookPart before after failed_before failed_after (trace ++ text))
-  IsBeforeFault NoMemory = IsStopped run file list Trace before after failed_before failed_after
-  IsBeforeFault other = IsRunFault run file list other × IsUntouched before after failed_before failed_after
+  IsBeforeFault Unwritten = IsViewCut run file list Trace before after
+      ⊎ ((trace : List ℕ) × (text : List ℕ) × (status : ℕ) × IsShownReport Trace run file list trace text status × TookPart before after (trace ++ text))
+  IsBeforeFault NoMemory = IsStopped run file list Trace before after
+  IsBeforeFault other = IsRunFault run file list other × IsUntouched before after
 
   -- such a fault was told, and has this status
-  abbrev pub IsToldBefore : ℕ → Option (List ℕ) → Option (List ℕ) → ℕ → ℕ → Type 0
-  IsToldBefore status told_before told_after untold_before untold_after =
-      (fault : Fault) × IsBeforeFault fault × (fault_status fault ≡ status) × IsPut told_before told_after untold_before untold_after (fault_text fault)
+  abbrev pub IsToldBefore : ℕ → SinkState → SinkState → Type 0
+  IsToldBefore status told_before told_after =
+      (fault : Fault) × IsBeforeFault fault × (fault_status fault ≡ status) × IsPut told_before told_after (fault_text fault)

@@ -31,7 +31,7 @@ pub(crate) fn play<const SETS: usize, const WAYS: usize, P: Progress>(
     counts
 }
 
-/// The same, but for the end of progress.
+/// Makes the steps of a run, and counts what they do if a form is asked for. The end of progress is left to the caller.
 fn count_if<const SETS: usize, const WAYS: usize, P: Progress>(
     machine: &mut Machine<SETS, WAYS>,
     choices: &[Choice],
@@ -58,7 +58,7 @@ pub(crate) fn put_counts<S: Sink>(
     sink: &mut S,
 ) -> Result<(), SinkFault>
     requires { harts ≤ most_harts }
-    ensures { Puts (S.taken sink.old) (S.taken sink.new) (S.failed sink.old) (S.failed sink.new) (counts_part stats tally.now harts) result }
+    ensures { Puts (S.state sink.old) (S.state sink.new) (counts_part stats tally.now harts) result }
 {
     match stats {
         Some(form) => put_form(form, tally, harts, sink),
@@ -74,7 +74,7 @@ fn put_form<S: Sink>(
     sink: &mut S,
 ) -> Result<(), SinkFault>
     requires { harts ≤ most_harts }
-    ensures { Puts (S.taken sink.old) (S.taken sink.new) (S.failed sink.old) (S.failed sink.new) (counts_text form (count_at tally.now.harts) harts (figure_at tally.now.machine)) result }
+    ensures { Puts (S.state sink.old) (S.state sink.new) (counts_text form (count_at tally.now.harts) harts (figure_at tally.now.machine)) result }
 {
     match form {
         Stats::Table => put_tables(tally, harts, sink),
@@ -85,16 +85,16 @@ fn put_form<S: Sink>(
 /// Puts the table of the harts, and behind it that of the machine.
 fn put_tables<S: Sink>(tally: &Tally, harts: usize, sink: &mut S) -> Result<(), SinkFault>
     requires { harts ≤ most_harts }
-    ensures { Puts (S.taken sink.old) (S.taken sink.new) (S.failed sink.old) (S.failed sink.new) (counts_text Table (count_at tally.now.harts) harts (figure_at tally.now.machine)) result }
+    ensures { Puts (S.state sink.old) (S.state sink.new) (counts_text Table (count_at tally.now.harts) harts (figure_at tally.now.machine)) result }
 {
     put_table(&tally.harts, harts, sink)?;
     put_machine_table(&tally.machine, sink)
 }
 
-/// The same as lines for scripts.
+/// Puts the counts as lines for scripts.
 fn put_lines<S: Sink>(tally: &Tally, harts: usize, sink: &mut S) -> Result<(), SinkFault>
     requires { harts ≤ most_harts }
-    ensures { Puts (S.taken sink.old) (S.taken sink.new) (S.failed sink.old) (S.failed sink.new) (counts_text Csv (count_at tally.now.harts) harts (figure_at tally.now.machine)) result }
+    ensures { Puts (S.state sink.old) (S.state sink.new) (counts_text Csv (count_at tally.now.harts) harts (figure_at tally.now.machine)) result }
 {
     put_csv(&tally.harts, harts, sink)?;
     put_machine_csv(&tally.machine, sink)

@@ -26,8 +26,8 @@ pub fn play<I: LineInput, O: Sink, E: Sink>(
     error: &mut E,
 ) -> u8
     ensures { IsPlayedByHand (geometry_of debug.now.cache) I.gives debug.now file.now prompt.now input.old input.new
-        (O.taken out.old) (O.taken out.new) (O.failed out.old) (O.failed out.new)
-        (E.taken error.old) (E.taken error.new) (E.failed error.old) (E.failed error.new) result }
+        (O.state out.old) (O.state out.new)
+        (E.state error.old) (E.state error.new) result }
 {
     match debug.cache {
         Cache::Small => play_on::<2, 1, I, O, E>(alloc, debug, file, input, prompt, out, error),
@@ -35,7 +35,7 @@ pub fn play<I: LineInput, O: Sink, E: Sink>(
     }
 }
 
-/// The same on a machine with caches of SETS sets of WAYS ways, which are asked for.
+/// Plays the program on a machine with caches of SETS sets of WAYS ways, which are the ones asked for.
 fn play_on<const SETS: usize, const WAYS: usize, I: LineInput, O: Sink, E: Sink>(
     alloc: Global,
     debug: &Debug<'_>,
@@ -50,8 +50,8 @@ fn play_on<const SETS: usize, const WAYS: usize, I: LineInput, O: Sink, E: Sink>
     requires lines { SETS * WAYS < 2 ^ 32 }
     requires cache { geometry_of debug.now.cache ≡ geometry SETS WAYS }
     ensures { IsPlayedByHand (geometry_of debug.now.cache) I.gives debug.now file.now prompt.now input.old input.new
-        (O.taken out.old) (O.taken out.new) (O.failed out.old) (O.failed out.new)
-        (E.taken error.old) (E.taken error.new) (E.failed error.old) (E.failed error.new) result }
+        (O.state out.old) (O.state out.new)
+        (E.state error.old) (E.state error.new) result }
 {
     match boot::<SETS, WAYS>(alloc, debug.file, file, debug.harts, debug.memory) {
         Ok(machine) => {
@@ -64,7 +64,7 @@ fn play_on<const SETS: usize, const WAYS: usize, I: LineInput, O: Sink, E: Sink>
 
 /// Tells why a session ended before its end, if it did, and answers the status.
 fn tell_end<E: Sink>(end: &Result<(), ConsoleFault>, error: &mut E) -> u8
-    ensures { TellsEnd end.now (E.taken error.old) (E.taken error.new) (E.failed error.old) (E.failed error.new) result }
+    ensures { TellsEnd end.now (E.state error.old) (E.state error.new) result }
 {
     match end {
         Ok(()) => 0,

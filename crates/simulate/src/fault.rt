@@ -1,6 +1,6 @@
 ghost use Rattle.std.specs.Prelude.{◌≡◌};
+ghost use Rattle.words.specs.Sinks.{IsPut};
 ghost use Rattle.simulate.specs.Faults.{fault_status, fault_text, IsPlain, line, refusal_line, refused_text, refused_line, unspelled_text, of_order, of_load, of_boot, of_schedule, of_halt};
-ghost use Rattle.simulate.specs.Sinks.{IsPut};
 ghost use Rattle.texts.specs.Puts.{Puts};
 ghost use Rattle.simulate.specs.declared.fault.Fault.TheVariants.{NoMemory, Unwritten};
 
@@ -80,7 +80,7 @@ impl<'a> Fault<'a> {
 
     /// Puts what the user is told.
     pub fn put<S: Sink>(&self, sink: &mut S) -> Result<(), SinkFault>
-        ensures { Puts (S.taken sink.old) (S.taken sink.new) (S.failed sink.old) (S.failed sink.new) (fault_text self.now) result }
+        ensures { Puts (S.state sink.old) (S.state sink.new) (fault_text self.now) result }
     {
         match self {
             Fault::Refused(text) => put_all(sink, &[text.as_bytes()]),
@@ -123,7 +123,7 @@ impl<'a> Fault<'a> {
     /// Tells the user, and answers the status. A fault that can't be told is still the program's.
     pub fn tell<E: Sink>(&self, error: &mut E) -> u8
         ensures status { result ≡ fault_status self.now }
-        ensures told { IsPut (E.taken error.old) (E.taken error.new) (E.failed error.old) (E.failed error.new) (fault_text self.now) }
+        ensures told { IsPut (E.state error.old) (E.state error.new) (fault_text self.now) }
     {
         let _ = self.put(error);
         self.status()
@@ -131,13 +131,13 @@ impl<'a> Fault<'a> {
 }
 
 pub(crate) fn put_line<S: Sink>(sink: &mut S, what: &[u8], name: &str) -> Result<(), SinkFault>
-    ensures { Puts (S.taken sink.old) (S.taken sink.new) (S.failed sink.old) (S.failed sink.new) (line what.now name.now) result }
+    ensures { Puts (S.state sink.old) (S.state sink.new) (line what.now name.now) result }
 {
     put_all(sink, &[b"logtm: ", what, name.as_bytes(), b"\n"])
 }
 
 fn put_refusal<S: Sink>(sink: &mut S, what: &[u8], number: u32, name: &str) -> Result<(), SinkFault>
-    ensures { Puts (S.taken sink.old) (S.taken sink.new) (S.failed sink.old) (S.failed sink.new) (refusal_line what.now number name.now) result }
+    ensures { Puts (S.state sink.old) (S.state sink.new) (refusal_line what.now number name.now) result }
 {
     let mut digits = Buffer::new();
     put_all(
@@ -155,7 +155,7 @@ fn put_refusal<S: Sink>(sink: &mut S, what: &[u8], number: u32, name: &str) -> R
 
 /// Puts that a line of source is refused, and the line.
 fn put_refused<S: Sink>(sink: &mut S, refused: &RefusedLine<'_>) -> Result<(), SinkFault>
-    ensures { Puts (S.taken sink.old) (S.taken sink.new) (S.failed sink.old) (S.failed sink.new) (refused_line refused.now) result }
+    ensures { Puts (S.state sink.old) (S.state sink.new) (refused_line refused.now) result }
 {
     let why = refused.why;
     put_place(sink, why.line, why.fault.number(), why.fault.name())?;
@@ -167,7 +167,7 @@ fn put_refused<S: Sink>(sink: &mut S, refused: &RefusedLine<'_>) -> Result<(), S
 
 /// Puts where a source is refused, and why.
 fn put_place<S: Sink>(sink: &mut S, line: usize, number: u32, name: &str) -> Result<(), SinkFault>
-    ensures { Puts (S.taken sink.old) (S.taken sink.new) (S.failed sink.old) (S.failed sink.new) (refused_text line number name.now) result }
+    ensures { Puts (S.state sink.old) (S.state sink.new) (refused_text line number name.now) result }
 {
     let mut place = Buffer::new();
     let mut digits = Buffer::new();
@@ -187,7 +187,7 @@ fn put_place<S: Sink>(sink: &mut S, line: usize, number: u32, name: &str) -> Res
 
 /// Puts that a line of a schedule spells no step.
 fn put_unspelled<S: Sink>(sink: &mut S, line: usize) -> Result<(), SinkFault>
-    ensures { Puts (S.taken sink.old) (S.taken sink.new) (S.failed sink.old) (S.failed sink.new) (unspelled_text line) result }
+    ensures { Puts (S.state sink.old) (S.state sink.new) (unspelled_text line) result }
 {
     let mut place = Buffer::new();
     put_all(

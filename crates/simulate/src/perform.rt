@@ -1,5 +1,6 @@
 //! An order, carried out: all but reading and writing files.
-ghost use Rattle.std.specs.Prelude.{◌≡◌, ◌≢◌, ◌<◌, ◌*◌, ◌^◌, ◌↔◌, ◌⊎◌, ℕ, List, MatchOption, MatchResult, IfOk, IfErr, IsTrue};
+ghost use Rattle.std.specs.Prelude.{◌≡◌, ◌≢◌, ◌<◌, ◌*◌, ◌^◌, ◌⊎◌, ℕ, List, MatchOption, MatchResult, IfOk, IfErr};
+ghost use Rattle.words.specs.Sinks.{IsUntouched};
 ghost use Rattle.loader.specs.Programs.{Program};
 ghost use Rattle.loader.specs.Writing.{elf_of};
 ghost use Rattle.machine.specs.States.{geometry};
@@ -9,7 +10,6 @@ ghost use Rattle.simulate.specs.Answers.{IsAnswerTo, IsListingOf, IsImageFor, As
 ghost use Rattle.simulate.specs.Refusals.{IsFaultOf, IsListingFault, IsRunFault, IsUnreported, IsTold};
 ghost use Rattle.simulate.specs.Runs.{IsReportOf};
 ghost use Rattle.simulate.specs.Sources.{IsSourceOf, IsSourceFault};
-ghost use Rattle.simulate.specs.Sinks.{IsUntouched};
 ghost use Rattle.simulate.specs.Starts.{IsStartOf, IsStartFault};
 ghost use Rattle.simulate.specs.Statuses.{IsReported, IsRefused};
 ghost use Rattle.simulate.specs.declared.fault.Fault.TheVariants.{Unwritten};
@@ -36,18 +36,6 @@ pub struct Outcome {
     pub image: Option<Vec<u8>>,
 }
 
-impl Outcome {
-    /// Whether the whole answer was put.
-    pub fn is_report(&self) -> bool
-        ensures { IsTrue result ↔ IsReported self.now.status }
-    {
-        match self.status {
-            0 | 1 | 5 => true,
-            _ => false,
-        }
-    }
-}
-
 /// Carries out an order, given the bytes of its file and those of its schedule, none where it has none: all but reading and writing files. It puts the report, with the run's counts
 /// behind it where they are asked for, or the listing into `out`, or
 /// what the user is told of a fault into `error`. The progress of a run is told while it goes on.
@@ -63,16 +51,16 @@ pub fn perform<P: Progress, O: Sink, E: Sink>(
     error: &mut E,
 ) -> Outcome
     // 0, 1 or 5: the whole answer was put, and nothing is told.
-    ensures reported { IsReported result.status → IsGiven (IsAnswerTo order.now file.now schedule.now) result.status (O.taken out.old) (O.taken out.new) (O.failed out.old) (O.failed out.new) }
-    ensures quiet { IsReported result.status → IsUntouched (E.taken error.old) (E.taken error.new) (E.failed error.old) (E.failed error.new) }
+    ensures reported { IsReported result.status → IsGiven (IsAnswerTo order.now file.now schedule.now) result.status (O.state out.old) (O.state out.new) }
+    ensures quiet { IsReported result.status → IsUntouched (E.state error.old) (E.state error.new) }
 
     // 3: a put of that answer failed. 2, 4 or 6: there is none.
-    ensures cut { result.status ≡ 3 → IsCut (IsAnswerTo order.now file.now schedule.now) (O.taken out.old) (O.taken out.new) (O.failed out.old) (O.failed out.new) }
-    ensures refused { IsRefused result.status → IsUntouched (O.taken out.old) (O.taken out.new) (O.failed out.old) (O.failed out.new) }
+    ensures cut { result.status ≡ 3 → IsCut (IsAnswerTo order.now file.now schedule.now) (O.state out.old) (O.state out.new) }
+    ensures refused { IsRefused result.status → IsUntouched (O.state out.old) (O.state out.new) }
     ensures known { IsReported result.status ⊎ IsRefused result.status ⊎ (result.status ≡ 3) }
 
     // The user is told why there is no whole answer.
-    ensures told { (IsReported result.status → ⊥) → IsTold order.now file.now schedule.now result.status (E.taken error.old) (E.taken error.new) (E.failed error.old) (E.failed error.new) }
+    ensures told { (IsReported result.status → ⊥) → IsTold order.now file.now schedule.now result.status (E.state error.old) (E.state error.new) }
 
     // The file that is to be written is there just where the order asks for one and nothing was refused.
     ensures image { MatchOption result.image (AsksForFile order.now → IsRefused result.status) (λ image. IsImageFor order.now file.now image.items × (result.status ≡ 0)) }
@@ -86,7 +74,7 @@ pub fn perform<P: Progress, O: Sink, E: Sink>(
     }
 }
 
-/// The same, but for telling of a fault.
+/// Carries out an order, without telling of a fault.
 fn try_perform<'a, P: Progress, S: Sink>(
     alloc: Global,
     order: &Order<'a>,
@@ -95,11 +83,11 @@ fn try_perform<'a, P: Progress, S: Sink>(
     progress: &mut P,
     out: &mut S,
 ) -> Result<Outcome, Fault<'a>>
-    ensures reported { IfOk result (λ o. IsGiven (IsAnswerTo order.now file.now schedule.now) o.status (S.taken out.old) (S.taken out.new) (S.failed out.old) (S.failed out.new)) }
+    ensures reported { IfOk result (λ o. IsGiven (IsAnswerTo order.now file.now schedule.now) o.status (S.state out.old) (S.state out.new)) }
     ensures status { IfOk result (λ o. IsReported o.status) }
     ensures image { IfOk result (λ o. MatchOption o.image (AsksForFile order.now → ⊥) (λ image. IsImageFor order.now file.now image.items × (o.status ≡ 0))) }
-    ensures cut { IfErr result (λ fault. fault ≡ Unwritten → IsCut (IsAnswerTo order.now file.now schedule.now) (S.taken out.old) (S.taken out.new) (S.failed out.old) (S.failed out.new)) }
-    ensures refused { IfErr result (λ fault. fault ≢ Unwritten → IsUntouched (S.taken out.old) (S.taken out.new) (S.failed out.old) (S.failed out.new)) }
+    ensures cut { IfErr result (λ fault. fault ≡ Unwritten → IsCut (IsAnswerTo order.now file.now schedule.now) (S.state out.old) (S.state out.new)) }
+    ensures refused { IfErr result (λ fault. fault ≢ Unwritten → IsUntouched (S.state out.old) (S.state out.new)) }
     ensures why { IfErr result (IsFaultOf order.now file.now schedule.now) }
 {
     match order {
@@ -128,10 +116,10 @@ fn image(alloc: Global, source: &[u8]) -> Result<Vec<u8>, Fault<'_>>
 
 /// Puts the listing of the program in a file. It answers the status.
 fn list<'a, S: Sink>(alloc: Global, file: &[u8], out: &mut S) -> Result<u8, Fault<'a>>
-    ensures reported { IfOk result (λ status. IsGiven (IsListingOf file.now) status (S.taken out.old) (S.taken out.new) (S.failed out.old) (S.failed out.new)) }
+    ensures reported { IfOk result (λ status. IsGiven (IsListingOf file.now) status (S.state out.old) (S.state out.new)) }
     ensures status { IfOk result IsReported }
-    ensures cut { IfErr result (λ fault. fault ≡ Unwritten → IsCut (IsListingOf file.now) (S.taken out.old) (S.taken out.new) (S.failed out.old) (S.failed out.new)) }
-    ensures refused { IfErr result (λ fault. fault ≢ Unwritten → IsUntouched (S.taken out.old) (S.taken out.new) (S.failed out.old) (S.failed out.new)) }
+    ensures cut { IfErr result (λ fault. fault ≡ Unwritten → IsCut (IsListingOf file.now) (S.state out.old) (S.state out.new)) }
+    ensures refused { IfErr result (λ fault. fault ≢ Unwritten → IsUntouched (S.state out.old) (S.state out.new)) }
     ensures why { IfErr result (IsListingFault file.now) }
 {
     let program = read_elf(alloc, file)?;
@@ -149,8 +137,8 @@ fn run_and_report<'a, P: Progress, S: Sink>(
     out: &mut S,
 ) -> Result<u8, Fault<'a>>
     ensures { MatchResult result
-        (λ status. IsReported status × IsGiven (IsReportOf run.now file.now schedule.now) status (S.taken out.old) (S.taken out.new) (S.failed out.old) (S.failed out.new))
-        (IsUnreported run.now file.now schedule.now (S.taken out.old) (S.taken out.new) (S.failed out.old) (S.failed out.new)) }
+        (λ status. IsReported status × IsGiven (IsReportOf run.now file.now schedule.now) status (S.state out.old) (S.state out.new))
+        (IsUnreported run.now file.now schedule.now (S.state out.old) (S.state out.new)) }
 {
     match run.cache {
         Cache::Small => run_on::<2, 1, P, S>(alloc, run, file, schedule, progress, out),
@@ -158,7 +146,7 @@ fn run_and_report<'a, P: Progress, S: Sink>(
     }
 }
 
-/// The same on a machine with caches of SETS sets of WAYS ways, which the run asks for.
+/// Runs the program on a machine with caches of SETS sets of WAYS ways, which are the ones that the run asks for.
 fn run_on<'a, const SETS: usize, const WAYS: usize, P: Progress, S: Sink>(
     alloc: Global,
     run: &Run<'a>,
@@ -172,8 +160,8 @@ fn run_on<'a, const SETS: usize, const WAYS: usize, P: Progress, S: Sink>(
     requires lines { SETS * WAYS < 2 ^ 32 }
     requires cache { geometry_of run.now.cache ≡ geometry SETS WAYS }
     ensures { MatchResult result
-        (λ status. IsReported status × IsGiven (IsReportOf run.now file.now schedule.now) status (S.taken out.old) (S.taken out.new) (S.failed out.old) (S.failed out.new))
-        (IsUnreported run.now file.now schedule.now (S.taken out.old) (S.taken out.new) (S.failed out.old) (S.failed out.new)) }
+        (λ status. IsReported status × IsGiven (IsReportOf run.now file.now schedule.now) status (S.state out.old) (S.state out.new))
+        (IsUnreported run.now file.now schedule.now (S.state out.old) (S.state out.new)) }
 {
     let mut begun: Begun<SETS, WAYS> = begin(alloc, run, file, schedule)?;
     begun.finish(run, progress, out)
@@ -201,8 +189,8 @@ impl<const SETS: usize, const WAYS: usize> Begun<SETS, WAYS> {
         requires begun { HasBegun (geometry SETS WAYS) run.now self.old.machine self.old.addrs.items self.old.choices.items }
         ensures { OfBegun (geometry SETS WAYS) run.now self.old.machine self.old.addrs.items self.old.choices.items
             (λ file list. MatchResult result
-            (λ status. IsReported status × IsGiven (IsReportOf run.now file list) status (S.taken out.old) (S.taken out.new) (S.failed out.old) (S.failed out.new))
-            (IsUnreported run.now file list (S.taken out.old) (S.taken out.new) (S.failed out.old) (S.failed out.new))) }
+            (λ status. IsReported status × IsGiven (IsReportOf run.now file list) status (S.state out.old) (S.state out.new))
+            (IsUnreported run.now file list (S.state out.old) (S.state out.new))) }
     {
         let counts = play(
             &mut self.machine,

@@ -26,7 +26,7 @@ pub fn report<M: Engine, S: Sink>(
     sink: &mut S,
 ) -> Result<(), SinkFault>
     requires { AllReadable (M.setting machine.now) words.now }
-    ensures { (f : Flat) → M.belongs f machine.now → Puts (S.taken sink.old) (S.taken sink.new) (S.failed sink.old) (S.failed sink.new) (report_of f words.now) result }
+    ensures { (f : Flat) → M.belongs f machine.now → Puts (S.state sink.old) (S.state sink.new) (report_of f words.now) result }
 {
     put_harts(machine, sink)?;
     put_words(machine, words, sink)
@@ -40,8 +40,8 @@ pub fn conclude<'a, const SETS: usize, const WAYS: usize, S: Sink>(
 ) -> Result<u8, Fault<'a>>
     requires { AllReadable (setting_of machine.now) words.now }
     ensures { MatchResult result
-        (IsConcluded (geometry SETS WAYS) machine.now words.now (S.taken sink.old) (S.taken sink.new) (S.failed sink.old) (S.failed sink.new))
-        (IsHalfConcluded (geometry SETS WAYS) machine.now words.now (S.taken sink.old) (S.taken sink.new) (S.failed sink.old) (S.failed sink.new)) }
+        (IsConcluded (geometry SETS WAYS) machine.now words.now (S.state sink.old) (S.state sink.new))
+        (IsHalfConcluded (geometry SETS WAYS) machine.now words.now (S.state sink.old) (S.state sink.new)) }
 {
     let status = status(machine);
     report(machine, words, sink)?;
@@ -49,7 +49,7 @@ pub fn conclude<'a, const SETS: usize, const WAYS: usize, S: Sink>(
 }
 
 fn put_harts<M: Engine, S: Sink>(machine: &M, sink: &mut S) -> Result<(), SinkFault>
-    ensures { (f : Flat) → M.belongs f machine.now → Puts (S.taken sink.old) (S.taken sink.new) (S.failed sink.old) (S.failed sink.new) (harts_text f f.setting.count) result }
+    ensures { (f : Flat) → M.belongs f machine.now → Puts (S.state sink.old) (S.state sink.new) (harts_text f f.setting.count) result }
 {
     for number in 0..machine.harts() {
         put_hart(machine, HartId::new(number as u8), sink)?;
@@ -59,14 +59,14 @@ fn put_harts<M: Engine, S: Sink>(machine: &M, sink: &mut S) -> Result<(), SinkFa
 
 fn put_hart<M: Engine, S: Sink>(machine: &M, id: HartId, sink: &mut S) -> Result<(), SinkFault>
     requires { id < (M.setting machine.now).count }
-    ensures { (f : Flat) → M.belongs f machine.now → Puts (S.taken sink.old) (S.taken sink.new) (S.failed sink.old) (S.failed sink.new) (hart_text f id) result }
+    ensures { (f : Flat) → M.belongs f machine.now → Puts (S.state sink.old) (S.state sink.new) (hart_text f id) result }
 {
     put_output(id, machine.output(id), sink)?;
     put_status(id, status_of(machine, id), sink)
 }
 
 fn put_output<S: Sink>(id: HartId, bytes: &[u8], sink: &mut S) -> Result<(), SinkFault>
-    ensures { Puts (S.taken sink.old) (S.taken sink.new) (S.failed sink.old) (S.failed sink.new) (output_text id bytes.now) result }
+    ensures { Puts (S.state sink.old) (S.state sink.new) (output_text id bytes.now) result }
 {
     if bytes.is_empty() {
         return Ok(());
@@ -89,7 +89,7 @@ fn put_output<S: Sink>(id: HartId, bytes: &[u8], sink: &mut S) -> Result<(), Sin
 }
 
 fn put_status<S: Sink>(id: HartId, status: Status, sink: &mut S) -> Result<(), SinkFault>
-    ensures { Puts (S.taken sink.old) (S.taken sink.new) (S.failed sink.old) (S.failed sink.new) (status_text id status) result }
+    ensures { Puts (S.state sink.old) (S.state sink.new) (status_text id status) result }
 {
     let mut number = Buffer::new();
     let number = number.format(id.index()).as_bytes();
@@ -105,7 +105,7 @@ fn put_status<S: Sink>(id: HartId, status: Status, sink: &mut S) -> Result<(), S
 }
 
 fn put_trap<S: Sink>(id: HartId, cause: Cause, pc: Addr, sink: &mut S) -> Result<(), SinkFault>
-    ensures { Puts (S.taken sink.old) (S.taken sink.new) (S.failed sink.old) (S.failed sink.new) (status_text id (Stopped cause pc)) result }
+    ensures { Puts (S.state sink.old) (S.state sink.new) (status_text id (Stopped cause pc)) result }
 {
     let mut number = Buffer::new();
     let mut digits = Buffer::new();
@@ -127,7 +127,7 @@ fn put_trap<S: Sink>(id: HartId, cause: Cause, pc: Addr, sink: &mut S) -> Result
 
 fn put_words<M: Engine, S: Sink>(machine: &M, words: &[Addr], sink: &mut S) -> Result<(), SinkFault>
     requires { AllReadable (M.setting machine.now) words.now }
-    ensures { (f : Flat) → M.belongs f machine.now → Puts (S.taken sink.old) (S.taken sink.new) (S.failed sink.old) (S.failed sink.new) (words_text f words.now) result }
+    ensures { (f : Flat) → M.belongs f machine.now → Puts (S.state sink.old) (S.state sink.new) (words_text f words.now) result }
 {
     for addr in words {
         put_word(machine, *addr, sink)?;
@@ -137,7 +137,7 @@ fn put_words<M: Engine, S: Sink>(machine: &M, words: &[Addr], sink: &mut S) -> R
 
 fn put_word<M: Engine, S: Sink>(machine: &M, addr: Addr, sink: &mut S) -> Result<(), SinkFault>
     requires { is_readable (M.setting machine.now) addr ≡ true }
-    ensures { (f : Flat) → M.belongs f machine.now → Puts (S.taken sink.old) (S.taken sink.new) (S.failed sink.old) (S.failed sink.new) (word_text f addr) result }
+    ensures { (f : Flat) → M.belongs f machine.now → Puts (S.state sink.old) (S.state sink.new) (word_text f addr) result }
 {
     put_all(
         sink,

@@ -1,10 +1,10 @@
 //! A run of which more is shown than its report: all but reading and writing files. It is put while the run goes on, and then the report.
 ghost use Rattle.std.specs.Prelude.{◌≡◌, ◌<◌, ◌*◌, ◌^◌, [], MatchResult};
+ghost use Rattle.words.specs.Sinks.{IsUntouched};
 ghost use Rattle.machine.specs.States.{geometry};
 ghost use Rattle.texts.specs.Puts.{Puts};
 ghost use Rattle.simulate.specs.Begins.{HasBegun, OfBegun};
 ghost use Rattle.simulate.specs.Orders.{geometry_of};
-ghost use Rattle.simulate.specs.Sinks.{IsUntouched};
 ghost use Rattle.simulate.specs.Statuses.{IsReported};
 ghost use Rattle.simulate.specs.declared.showing.Form.TheVariants.{Trace, Timeline, Picture};
 ghost use Rattle.simulate.specs.Shown.{IsShown, IsCutShort, IsPutFault, IsGivenApart, IsApartFault, IsToldApart, IsGivenBefore, IsBeforeFault, IsToldBefore};
@@ -36,7 +36,7 @@ pub enum Form {
 pub trait Page: Sink {
     /// Writes out what was kept back. It takes no more bytes, and fails as a put does.
     fn flush(&mut self) -> Result<(), SinkFault>
-        ensures { Puts (Self.taken self.old) (Self.taken self.new) (Self.failed self.old) (Self.failed self.new) [] result };
+        ensures { Puts (Self.state self.old) (Self.state self.new) [] result };
 }
 
 impl<W: Write> Page for Counted<W> {
@@ -71,13 +71,13 @@ pub fn show_apart<P: Progress, T: Page, O: Sink, E: Sink>(
     error: &mut E,
 ) -> u8
     // 0, 1 or 5: the sink took what the form shows of all steps, and the report is that of the same run. Nothing is told.
-    ensures reported { IsReported result → IsGivenApart run.now file.now schedule.now form path.now (T.taken chart.old.sink) (T.taken chart.new.sink) (T.failed chart.old.sink) (T.failed chart.new.sink)
-        (O.taken out.old) (O.taken out.new) (O.failed out.old) (O.failed out.new) result }
-    ensures quiet { IsReported result → IsUntouched (E.taken error.old) (E.taken error.new) (E.failed error.old) (E.failed error.new) }
+    ensures reported { IsReported result → IsGivenApart run.now file.now schedule.now form path.now (T.state chart.old.sink) (T.state chart.new.sink)
+        (O.state out.old) (O.state out.new) result }
+    ensures quiet { IsReported result → IsUntouched (E.state error.old) (E.state error.new) }
 
     // Else the user is told why not; and what was put by then is a beginning of both.
-    ensures told { (IsReported result → ⊥) → IsToldApart run.now file.now schedule.now form path.now (T.taken chart.old.sink) (T.taken chart.new.sink) (T.failed chart.old.sink) (T.failed chart.new.sink)
-        (O.taken out.old) (O.taken out.new) (O.failed out.old) (O.failed out.new) result (E.taken error.old) (E.taken error.new) (E.failed error.old) (E.failed error.new) }
+    ensures told { (IsReported result → ⊥) → IsToldApart run.now file.now schedule.now form path.now (T.state chart.old.sink) (T.state chart.new.sink)
+        (O.state out.old) (O.state out.new) result (E.state error.old) (E.state error.new) }
 {
     match try_apart(alloc, run, form, path, file, schedule, progress, chart, out) {
         Ok(status) => status,
@@ -85,7 +85,7 @@ pub fn show_apart<P: Progress, T: Page, O: Sink, E: Sink>(
     }
 }
 
-/// The same, but for telling of a fault.
+/// Runs the program and puts what is shown of it, without telling of a fault.
 fn try_apart<'a, P: Progress, T: Page, O: Sink>(
     alloc: Global,
     run: &Run<'a>,
@@ -98,10 +98,10 @@ fn try_apart<'a, P: Progress, T: Page, O: Sink>(
     out: &mut O,
 ) -> Result<u8, Fault<'a>>
     ensures { MatchResult result
-        (λ status. IsReported status × IsGivenApart run.now file.now schedule.now form path.now (T.taken chart.old.sink) (T.taken chart.new.sink) (T.failed chart.old.sink) (T.failed chart.new.sink)
-        (O.taken out.old) (O.taken out.new) (O.failed out.old) (O.failed out.new) status)
-        (IsApartFault run.now file.now schedule.now form path.now (T.taken chart.old.sink) (T.taken chart.new.sink) (T.failed chart.old.sink) (T.failed chart.new.sink)
-        (O.taken out.old) (O.taken out.new) (O.failed out.old) (O.failed out.new)) }
+        (λ status. IsReported status × IsGivenApart run.now file.now schedule.now form path.now (T.state chart.old.sink) (T.state chart.new.sink)
+        (O.state out.old) (O.state out.new) status)
+        (IsApartFault run.now file.now schedule.now form path.now (T.state chart.old.sink) (T.state chart.new.sink)
+        (O.state out.old) (O.state out.new)) }
 {
     match run.cache {
         Cache::Small => {
@@ -117,7 +117,7 @@ fn try_apart<'a, P: Progress, T: Page, O: Sink>(
     }
 }
 
-/// The same on a machine with caches of SETS sets of WAYS ways, which the run asks for.
+/// Runs the program on a machine with caches of SETS sets of WAYS ways, which are the ones that the run asks for.
 fn show_apart_on<'a, const SETS: usize, const WAYS: usize, P: Progress, T: Page, O: Sink>(
     alloc: Global,
     run: &Run<'a>,
@@ -134,10 +134,10 @@ fn show_apart_on<'a, const SETS: usize, const WAYS: usize, P: Progress, T: Page,
     requires lines { SETS * WAYS < 2 ^ 32 }
     requires cache { geometry_of run.now.cache ≡ geometry SETS WAYS }
     ensures { MatchResult result
-        (λ status. IsReported status × IsGivenApart run.now file.now schedule.now form path.now (T.taken chart.old.sink) (T.taken chart.new.sink) (T.failed chart.old.sink) (T.failed chart.new.sink)
-        (O.taken out.old) (O.taken out.new) (O.failed out.old) (O.failed out.new) status)
-        (IsApartFault run.now file.now schedule.now form path.now (T.taken chart.old.sink) (T.taken chart.new.sink) (T.failed chart.old.sink) (T.failed chart.new.sink)
-        (O.taken out.old) (O.taken out.new) (O.failed out.old) (O.failed out.new)) }
+        (λ status. IsReported status × IsGivenApart run.now file.now schedule.now form path.now (T.state chart.old.sink) (T.state chart.new.sink)
+        (O.state out.old) (O.state out.new) status)
+        (IsApartFault run.now file.now schedule.now form path.now (T.state chart.old.sink) (T.state chart.new.sink)
+        (O.state out.old) (O.state out.new)) }
 {
     let mut begun: Begun<SETS, WAYS> = begin(alloc, run, file, schedule)?;
     begun.finish_apart(alloc, run, form, path, progress, chart, out)
@@ -155,8 +155,8 @@ fn put_view<'a, const SETS: usize, const WAYS: usize, P: Progress, T: Page>(
     chart: &mut Chart<T>,
 ) -> Result<(), Fault<'a>>
     ensures { MatchResult result
-        (λ _. IsShown form (geometry SETS WAYS) choices.now steps machine.old machine.new (T.taken chart.old.sink) (T.taken chart.new.sink) (T.failed chart.old.sink) (T.failed chart.new.sink))
-        (IsPutFault form (geometry SETS WAYS) choices.now steps path.now machine.old machine.new (T.taken chart.old.sink) (T.taken chart.new.sink) (T.failed chart.old.sink) (T.failed chart.new.sink)) }
+        (λ _. IsShown form (geometry SETS WAYS) choices.now steps machine.old machine.new (T.state chart.old.sink) (T.state chart.new.sink))
+        (IsPutFault form (geometry SETS WAYS) choices.now steps path.now machine.old machine.new (T.state chart.old.sink) (T.state chart.new.sink)) }
 {
     let put = put_form(alloc, machine, choices, steps, form, progress, chart);
     progress.end();
@@ -181,8 +181,8 @@ fn put_form<const SETS: usize, const WAYS: usize, P: Progress, T: Sink>(
     chart: &mut Chart<T>,
 ) -> Result<(), Halt>
     ensures { MatchResult result
-        (λ _. IsShown form (geometry SETS WAYS) choices.now steps machine.old machine.new (T.taken chart.old.sink) (T.taken chart.new.sink) (T.failed chart.old.sink) (T.failed chart.new.sink))
-        (IsCutShort form (geometry SETS WAYS) choices.now steps machine.old machine.new (T.taken chart.old.sink) (T.taken chart.new.sink) (T.failed chart.old.sink) (T.failed chart.new.sink)) }
+        (λ _. IsShown form (geometry SETS WAYS) choices.now steps machine.old machine.new (T.state chart.old.sink) (T.state chart.new.sink))
+        (IsCutShort form (geometry SETS WAYS) choices.now steps machine.old machine.new (T.state chart.old.sink) (T.state chart.new.sink)) }
 {
     match form {
         Form::Trace => put_lines(machine, choices, steps, progress, &mut chart.sink),
@@ -191,7 +191,7 @@ fn put_form<const SETS: usize, const WAYS: usize, P: Progress, T: Sink>(
     }
 }
 
-/// The same for a trace.
+/// Plays a run, and puts its trace.
 fn put_lines<const SETS: usize, const WAYS: usize, P: Progress, S: Sink>(
     machine: &mut Machine<SETS, WAYS>,
     choices: &[Choice],
@@ -200,13 +200,13 @@ fn put_lines<const SETS: usize, const WAYS: usize, P: Progress, S: Sink>(
     sink: &mut S,
 ) -> Result<(), Halt>
     ensures { MatchResult result
-        (λ _. IsShown Trace (geometry SETS WAYS) choices.now steps machine.old machine.new (S.taken sink.old) (S.taken sink.new) (S.failed sink.old) (S.failed sink.new))
-        (IsCutShort Trace (geometry SETS WAYS) choices.now steps machine.old machine.new (S.taken sink.old) (S.taken sink.new) (S.failed sink.old) (S.failed sink.new)) }
+        (λ _. IsShown Trace (geometry SETS WAYS) choices.now steps machine.old machine.new (S.state sink.old) (S.state sink.new))
+        (IsCutShort Trace (geometry SETS WAYS) choices.now steps machine.old machine.new (S.state sink.old) (S.state sink.new)) }
 {
     put_trace(machine, choices, steps, sink, progress)
 }
 
-/// The same for a timeline.
+/// Plays a run, and puts its timeline.
 fn put_events<const SETS: usize, const WAYS: usize, P: Progress, T: Sink>(
     machine: &mut Machine<SETS, WAYS>,
     choices: &[Choice],
@@ -215,13 +215,13 @@ fn put_events<const SETS: usize, const WAYS: usize, P: Progress, T: Sink>(
     chart: &mut Chart<T>,
 ) -> Result<(), Halt>
     ensures { MatchResult result
-        (λ _. IsShown Timeline (geometry SETS WAYS) choices.now steps machine.old machine.new (T.taken chart.old.sink) (T.taken chart.new.sink) (T.failed chart.old.sink) (T.failed chart.new.sink))
-        (IsCutShort Timeline (geometry SETS WAYS) choices.now steps machine.old machine.new (T.taken chart.old.sink) (T.taken chart.new.sink) (T.failed chart.old.sink) (T.failed chart.new.sink)) }
+        (λ _. IsShown Timeline (geometry SETS WAYS) choices.now steps machine.old machine.new (T.state chart.old.sink) (T.state chart.new.sink))
+        (IsCutShort Timeline (geometry SETS WAYS) choices.now steps machine.old machine.new (T.state chart.old.sink) (T.state chart.new.sink)) }
 {
     put_timeline(machine, choices, steps, chart, progress)
 }
 
-/// The same for a picture.
+/// Plays a run, and puts its picture.
 fn put_image<const SETS: usize, const WAYS: usize, S: Sink>(
     alloc: Global,
     machine: &mut Machine<SETS, WAYS>,
@@ -230,13 +230,13 @@ fn put_image<const SETS: usize, const WAYS: usize, S: Sink>(
     sink: &mut S,
 ) -> Result<(), Halt>
     ensures { MatchResult result
-        (λ _. IsShown Picture (geometry SETS WAYS) choices.now steps machine.old machine.new (S.taken sink.old) (S.taken sink.new) (S.failed sink.old) (S.failed sink.new))
-        (IsCutShort Picture (geometry SETS WAYS) choices.now steps machine.old machine.new (S.taken sink.old) (S.taken sink.new) (S.failed sink.old) (S.failed sink.new)) }
+        (λ _. IsShown Picture (geometry SETS WAYS) choices.now steps machine.old machine.new (S.state sink.old) (S.state sink.new))
+        (IsCutShort Picture (geometry SETS WAYS) choices.now steps machine.old machine.new (S.state sink.old) (S.state sink.new)) }
 {
     put_picture(alloc, machine, choices, steps, sink)
 }
 
-/// The same as [`show_apart`] of a trace, with one sink for both: it takes the line of each entry while the run goes on, and then the report.
+/// Does what [`show_apart`] does for a trace, with one sink for both: it takes the line of each entry while the run goes on, and then the report.
 pub fn trace_before<O: Sink, E: Sink>(
     alloc: Global,
     run: &Run<'_>,
@@ -246,12 +246,12 @@ pub fn trace_before<O: Sink, E: Sink>(
     error: &mut E,
 ) -> u8
     // 0, 1 or 5: the lines of all entries, in order, and then the report of the same run were put. Nothing is told.
-    ensures reported { IsReported result → IsGivenBefore run.now file.now schedule.now (O.taken out.old) (O.taken out.new) (O.failed out.old) (O.failed out.new) result }
-    ensures quiet { IsReported result → IsUntouched (E.taken error.old) (E.taken error.new) (E.failed error.old) (E.failed error.new) }
+    ensures reported { IsReported result → IsGivenBefore run.now file.now schedule.now (O.state out.old) (O.state out.new) result }
+    ensures quiet { IsReported result → IsUntouched (E.state error.old) (E.state error.new) }
 
     // Else the user is told why not.
-    ensures told { (IsReported result → ⊥) → IsToldBefore run.now file.now schedule.now (O.taken out.old) (O.taken out.new) (O.failed out.old) (O.failed out.new) result
-        (E.taken error.old) (E.taken error.new) (E.failed error.old) (E.failed error.new) }
+    ensures told { (IsReported result → ⊥) → IsToldBefore run.now file.now schedule.now (O.state out.old) (O.state out.new) result
+        (E.state error.old) (E.state error.new) }
 {
     match try_before(alloc, run, file, schedule, out) {
         Ok(status) => status,
@@ -259,7 +259,7 @@ pub fn trace_before<O: Sink, E: Sink>(
     }
 }
 
-/// The same, but for telling of a fault.
+/// Runs the program and puts what is shown of it, without telling of a fault.
 fn try_before<'a, O: Sink>(
     alloc: Global,
     run: &Run<'a>,
@@ -268,8 +268,8 @@ fn try_before<'a, O: Sink>(
     out: &mut O,
 ) -> Result<u8, Fault<'a>>
     ensures { MatchResult result
-        (λ status. IsReported status × IsGivenBefore run.now file.now schedule.now (O.taken out.old) (O.taken out.new) (O.failed out.old) (O.failed out.new) status)
-        (IsBeforeFault run.now file.now schedule.now (O.taken out.old) (O.taken out.new) (O.failed out.old) (O.failed out.new)) }
+        (λ status. IsReported status × IsGivenBefore run.now file.now schedule.now (O.state out.old) (O.state out.new) status)
+        (IsBeforeFault run.now file.now schedule.now (O.state out.old) (O.state out.new)) }
 {
     match run.cache {
         Cache::Small => trace_before_on::<2, 1, O>(alloc, run, file, schedule, out),
@@ -277,7 +277,7 @@ fn try_before<'a, O: Sink>(
     }
 }
 
-/// The same on a machine with caches of SETS sets of WAYS ways, which the run asks for.
+/// Runs the program on a machine with caches of SETS sets of WAYS ways, which are the ones that the run asks for.
 fn trace_before_on<'a, const SETS: usize, const WAYS: usize, O: Sink>(
     alloc: Global,
     run: &Run<'a>,
@@ -290,8 +290,8 @@ fn trace_before_on<'a, const SETS: usize, const WAYS: usize, O: Sink>(
     requires lines { SETS * WAYS < 2 ^ 32 }
     requires cache { geometry_of run.now.cache ≡ geometry SETS WAYS }
     ensures { MatchResult result
-        (λ status. IsReported status × IsGivenBefore run.now file.now schedule.now (O.taken out.old) (O.taken out.new) (O.failed out.old) (O.failed out.new) status)
-        (IsBeforeFault run.now file.now schedule.now (O.taken out.old) (O.taken out.new) (O.failed out.old) (O.failed out.new)) }
+        (λ status. IsReported status × IsGivenBefore run.now file.now schedule.now (O.state out.old) (O.state out.new) status)
+        (IsBeforeFault run.now file.now schedule.now (O.state out.old) (O.state out.new)) }
 {
     let mut begun: Begun<SETS, WAYS> = begin(alloc, run, file, schedule)?;
     begun.finish_before(run, out)
@@ -313,10 +313,10 @@ impl<const SETS: usize, const WAYS: usize> Begun<SETS, WAYS> {
         requires begun { HasBegun (geometry SETS WAYS) run.now self.old.machine self.old.addrs.items self.old.choices.items }
         ensures { OfBegun (geometry SETS WAYS) run.now self.old.machine self.old.addrs.items self.old.choices.items
             (λ file list. MatchResult result
-            (λ status. IsReported status × IsGivenApart run.now file list form path.now (T.taken chart.old.sink) (T.taken chart.new.sink) (T.failed chart.old.sink) (T.failed chart.new.sink)
-            (O.taken out.old) (O.taken out.new) (O.failed out.old) (O.failed out.new) status)
-            (IsApartFault run.now file list form path.now (T.taken chart.old.sink) (T.taken chart.new.sink) (T.failed chart.old.sink) (T.failed chart.new.sink)
-            (O.taken out.old) (O.taken out.new) (O.failed out.old) (O.failed out.new))) }
+            (λ status. IsReported status × IsGivenApart run.now file list form path.now (T.state chart.old.sink) (T.state chart.new.sink)
+            (O.state out.old) (O.state out.new) status)
+            (IsApartFault run.now file list form path.now (T.state chart.old.sink) (T.state chart.new.sink)
+            (O.state out.old) (O.state out.new))) }
     {
         put_view(
             alloc,
@@ -337,8 +337,8 @@ impl<const SETS: usize, const WAYS: usize> Begun<SETS, WAYS> {
         requires begun { HasBegun (geometry SETS WAYS) run.now self.old.machine self.old.addrs.items self.old.choices.items }
         ensures { OfBegun (geometry SETS WAYS) run.now self.old.machine self.old.addrs.items self.old.choices.items
             (λ file list. MatchResult result
-            (λ status. IsReported status × IsGivenBefore run.now file list (O.taken out.old) (O.taken out.new) (O.failed out.old) (O.failed out.new) status)
-            (IsBeforeFault run.now file list (O.taken out.old) (O.taken out.new) (O.failed out.old) (O.failed out.new))) }
+            (λ status. IsReported status × IsGivenBefore run.now file list (O.state out.old) (O.state out.new) status)
+            (IsBeforeFault run.now file list (O.state out.old) (O.state out.new))) }
     {
         put_trace(
             &mut self.machine,

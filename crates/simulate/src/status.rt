@@ -1,10 +1,20 @@
 //! The status that the program ends with after a report.
-ghost use Rattle.std.specs.Prelude.{◌≡◌, ◌<◌};
+ghost use Rattle.std.specs.Prelude.{◌≡◌, ◌<◌, ◌↔◌, IsTrue};
 ghost use Rattle.flat.specs.State.{Flat};
 ghost use Rattle.simulate.specs.Statuses.{status_for, IsStatusOf, IsReported};
 
 use flat::Engine;
 use words::{HartId, Status};
+
+/// Whether a status goes with a report: the whole of it was put.
+pub(crate) fn is_report(status: u8) -> bool
+    ensures { IsTrue result ↔ IsReported status }
+{
+    match status {
+        0 | 1 | 5 => true,
+        _ => false,
+    }
+}
 
 /// Whether a hart runs, or how it ended.
 pub(crate) fn status_of<M: Engine>(machine: &M, id: HartId) -> Status

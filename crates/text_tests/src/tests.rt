@@ -1,4 +1,5 @@
 mod assembling;
+mod formats;
 mod large;
 mod listings;
 mod memory;

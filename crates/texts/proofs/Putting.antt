@@ -5,7 +5,7 @@ use Rattle.std.proofs.lemmas.List.{take-append-le}
 use Rattle.std.specs.Option.{option_map}
 use Rattle.std.specs.List.{flat_map, range_with_len}
 use Rattle.words.specs.declared.sink.SinkFault.{SinkFault}
-use Rattle.words.specs.Taken.{TookBeginning}
+use Rattle.words.specs.Sinks.{SinkState, TookBeginning}
 use Rattle.texts.specs.Puts.{Puts}
 use Rattle.texts.proofs.Pieces.{one-more, split-at, one-more_number, first-numbers}
 
@@ -31,45 +31,45 @@ nothing_more None = refl
 nothing_more (Some bytes) = ap (λ l. Some l) (sym (append-nil bytes))
 
 -- no text
-pub puts-nothing : (a : Option (List ℕ)) (f : ℕ) → Puts a a f f [] (Ok tt)
-puts-nothing a f = record { whole = nothing_more a; clean = refl; part = tt; fault = tt }
+pub puts-nothing : (a : SinkState) → Puts a a [] (Ok tt)
+puts-nothing a = record { whole = nothing_more a.taken; clean = refl; part = tt; fault = tt }
 
 -- the same text by another name
-pub puts-same : {a b : Option (List ℕ)} {fa fb : ℕ} {xs ys : List ℕ} {r : Result Unit SinkFault} → xs ≡ ys → Puts a b fa fb xs r → Puts a b fa fb ys r
-puts-same {a} {b} {fa} {fb} {xs} {ys} {r} e puts = subst (λ (l : List ℕ). Puts a b fa fb l r) e puts
+pub puts-same : {a b : SinkState} {xs ys : List ℕ} {r : Result Unit SinkFault} → xs ≡ ys → Puts a b xs r → Puts a b ys r
+puts-same {a} {b} {xs} {ys} {r} e puts = subst (λ (l : List ℕ). Puts a b l r) e puts
 
-both : (a b c : Option (List ℕ)) (fa fb fc : ℕ) (xs ys : List ℕ) (r : Result Unit SinkFault) → Puts a b fa fb xs (Ok tt) → Puts b c fb fc ys r → Puts a c fa fc (xs ++ ys) r
-both a b c fa fb fc xs ys (Ok _) first second = record { whole = appended xs ys a b c first.whole second.whole; clean = second.clean ∙ first.clean; part = tt; fault = tt }
-both a b c fa fb fc xs ys (Err _) first second = record { whole = tt; clean = tt; part = begun xs ys a b c first.whole second.part; fault = second.fault ∙ ap (λ n. min (n + 1) 18446744073709551615) first.clean }
+both : (a b c : SinkState) (xs ys : List ℕ) (r : Result Unit SinkFault) → Puts a b xs (Ok tt) → Puts b c ys r → Puts a c (xs ++ ys) r
+both a b c xs ys (Ok _) first second = record { whole = appended xs ys a.taken b.taken c.taken first.whole second.whole; clean = second.clean ∙ first.clean; part = tt; fault = tt }
+both a b c xs ys (Err _) first second = record { whole = tt; clean = tt; part = begun xs ys a.taken b.taken c.taken first.whole second.part; fault = second.fault ∙ ap (λ n. min (n + 1) 18446744073709551615) first.clean }
 
 -- a text, and then another
-pub puts-both : {a b c : Option (List ℕ)} {fa fb fc : ℕ} {xs ys : List ℕ} {r : Result Unit SinkFault} → Puts a b fa fb xs (Ok tt) → Puts b c fb fc ys r → Puts a c fa fc (xs ++ ys) r
-puts-both {a} {b} {c} {fa} {fb} {fc} {xs} {ys} {r} first second = both a b c fa fb fc xs ys r first second
+pub puts-both : {a b c : SinkState} {xs ys : List ℕ} {r : Result Unit SinkFault} → Puts a b xs (Ok tt) → Puts b c ys r → Puts a c (xs ++ ys) r
+puts-both {a} {b} {c} {xs} {ys} {r} first second = both a b c xs ys r first second
 
-cut_short : (a b : Option (List ℕ)) (fa fb : ℕ) (xs ys : List ℕ) (r s : Result Unit SinkFault) (e : SinkFault) → r ≡ Err e → Puts a b fa fb xs r → IsErr s → Puts a b fa fb (xs ++ ys) s
-cut_short a b fa fb xs ys (Ok _) s e failed puts given = absurd (cc)
-cut_short a b fa fb xs ys (Err _) (Ok _) e failed puts given = absurd (cc)
-cut_short a b fa fb xs ys (Err _) (Err _) e failed puts given = record { whole = tt; clean = tt; part = begun-longer xs ys a b puts.part; fault = puts.fault }
+cut_short : (a b : SinkState) (xs ys : List ℕ) (r s : Result Unit SinkFault) (e : SinkFault) → r ≡ Err e → Puts a b xs r → IsErr s → Puts a b (xs ++ ys) s
+cut_short a b xs ys (Ok _) s e failed puts given = absurd (cc)
+cut_short a b xs ys (Err _) (Ok _) e failed puts given = absurd (cc)
+cut_short a b xs ys (Err _) (Err _) e failed puts given = record { whole = tt; clean = tt; part = begun-longer xs ys a.taken b.taken puts.part; fault = puts.fault }
 
 -- a text that was not taken whole, where another was to come: this fault is given on
-pub puts-cut : {a b : Option (List ℕ)} {fa fb : ℕ} {xs : List ℕ} (ys : List ℕ) {r s : Result Unit SinkFault} {e : SinkFault} → r ≡ Err e → Puts a b fa fb xs r → IsErr s → Puts a b fa fb (xs ++ ys) s
-puts-cut {a} {b} {fa} {fb} {xs} ys {r} {s} {e} failed puts given = cut_short a b fa fb xs ys r s e failed puts given
+pub puts-cut : {a b : SinkState} {xs : List ℕ} (ys : List ℕ) {r s : Result Unit SinkFault} {e : SinkFault} → r ≡ Err e → Puts a b xs r → IsErr s → Puts a b (xs ++ ys) s
+puts-cut {a} {b} {xs} ys {r} {s} {e} failed puts given = cut_short a b xs ys r s e failed puts given
 
 -- the texts of a list, of which one was not taken whole
-pub puts-cut_at : {X : Type 0} (text : X → List ℕ) (xs : List X) (n : ℕ) (d : X) {a b c : Option (List ℕ)} {fa fb fc : ℕ} {r s : Result Unit SinkFault} {e : SinkFault} → n < length xs → Puts a b fa fb (flat_map text (take n xs)) (Ok tt) → r ≡ Err e → Puts b c fb fc (text (get_or xs n d)) r → IsErr s → Puts a c fa fc (flat_map text xs) s
+pub puts-cut_at : {X : Type 0} (text : X → List ℕ) (xs : List X) (n : ℕ) (d : X) {a b c : SinkState} {r s : Result Unit SinkFault} {e : SinkFault} → n < length xs → Puts a b (flat_map text (take n xs)) (Ok tt) → r ≡ Err e → Puts b c (text (get_or xs n d)) r → IsErr s → Puts a c (flat_map text xs) s
 puts-cut_at text xs n d h before failed piece given =
     puts-same (ap (λ l. l ++ flat_map text (drop (n + 1) xs)) (sym (one-more text xs n d h)) ∙ split-at text xs (n + 1)) (puts-cut (flat_map text (drop (n + 1) xs)) failed (puts-both before piece) given)
 
 -- one more text of a list
-pub puts-one_more : {X : Type 0} (text : X → List ℕ) (xs : List X) (n : ℕ) (d : X) {a b c : Option (List ℕ)} {fa fb fc : ℕ} → n < length xs → Puts a b fa fb (flat_map text (take n xs)) (Ok tt) → Puts b c fb fc (text (get_or xs n d)) (Ok tt) → Puts a c fa fc (flat_map text (take (n + 1) xs)) (Ok tt)
+pub puts-one_more : {X : Type 0} (text : X → List ℕ) (xs : List X) (n : ℕ) (d : X) {a b c : SinkState} → n < length xs → Puts a b (flat_map text (take n xs)) (Ok tt) → Puts b c (text (get_or xs n d)) (Ok tt) → Puts a c (flat_map text (take (n + 1) xs)) (Ok tt)
 puts-one_more text xs n d h before piece = puts-same (sym (one-more text xs n d h)) (puts-both before piece)
 
 -- the texts of the first n numbers, of which one was not taken whole
-pub puts-cut_first : (text : ℕ → List ℕ) {n k : ℕ} {a b c : Option (List ℕ)} {fa fb fc : ℕ} {r s : Result Unit SinkFault} {e : SinkFault} → k < n → Puts a b fa fb (flat_map text (range_with_len 0 k)) (Ok tt) → r ≡ Err e → Puts b c fb fc (text k) r → IsErr s → Puts a c fa fc (flat_map text (range_with_len 0 n)) s
+pub puts-cut_first : (text : ℕ → List ℕ) {n k : ℕ} {a b c : SinkState} {r s : Result Unit SinkFault} {e : SinkFault} → k < n → Puts a b (flat_map text (range_with_len 0 k)) (Ok tt) → r ≡ Err e → Puts b c (text k) r → IsErr s → Puts a c (flat_map text (range_with_len 0 n)) s
 puts-cut_first text {n} {k} h before failed piece given =
     let rest = flat_map text (drop (k + 1) (range_with_len 0 n)) in
     puts-same (ap (λ l. l ++ rest) (sym (one-more_number text k)) ∙ first-numbers text n (k + 1) (omega arith)) (puts-cut rest failed (puts-both before piece) given)
 
 -- the text of one more number
-pub puts-one_first : (text : ℕ → List ℕ) {k : ℕ} {a b c : Option (List ℕ)} {fa fb fc : ℕ} → Puts a b fa fb (flat_map text (range_with_len 0 k)) (Ok tt) → Puts b c fb fc (text k) (Ok tt) → Puts a c fa fc (flat_map text (range_with_len 0 (k + 1))) (Ok tt)
+pub puts-one_first : (text : ℕ → List ℕ) {k : ℕ} {a b c : SinkState} → Puts a b (flat_map text (range_with_len 0 k)) (Ok tt) → Puts b c (text k) (Ok tt) → Puts a c (flat_map text (range_with_len 0 (k + 1))) (Ok tt)
 puts-one_first text {k} before piece = puts-same (sym (one-more_number text k)) (puts-both before piece)

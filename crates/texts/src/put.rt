@@ -6,7 +6,7 @@ use words::{Sink, SinkFault};
 
 /// Puts pieces one after another, up to the first that the sink fails to take.
 pub fn put_all<S: Sink>(sink: &mut S, pieces: &[&[u8]]) -> Result<(), SinkFault>
-    ensures { Puts (S.taken sink.old) (S.taken sink.new) (S.failed sink.old) (S.failed sink.new) (flat_map (λ p. p.now) pieces.now) result }
+    ensures { Puts (S.state sink.old) (S.state sink.new) (flat_map (λ p. p.now) pieces.now) result }
 {
     for piece in pieces {
         sink.put(piece)?;

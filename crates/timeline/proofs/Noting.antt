@@ -2,6 +2,7 @@
 use Rattle.std.proofs.Common.{◌≡◌, ◌≤◌, ◌+◌, ◌++◌, ℕ, zero, suc, List, [], ◌∷◌, length, Option, Result, Ok, Err, IsOk, OnErr, refl, sym, ap, ◌∙◌, arith, append_assoc, append-nil, length-append, Vec, vec_len, vec_capacity}
 use Rattle.std.specs.List.{FoldsTo}
 use Rattle.words.specs.declared.sink.SinkFault.{SinkFault}
+use Rattle.words.specs.Sinks.{SinkState}
 use Rattle.texts.specs.Puts.{Puts}
 use Rattle.texts.proofs.Putting.{puts-same}
 use Rattle.protocol.specs.Caches.{Geometry}
@@ -72,14 +73,14 @@ module _ {Z : Type 0} (g : Geometry) (choices : List Choice) (n : ℕ) (v w : St
       let kept = room_kept g.sets x ms z folds in
       omega (arith, enough, less, few, long, counted, kept, full, empty)
 
-module _ (g : Geometry) (choices : List Choice) (n : ℕ) (v w : State) (rows : List Row) (a b : Option (List ℕ)) (fa fb : ℕ) where
+module _ (g : Geometry) (choices : List Choice) (n : ℕ) (v w : State) (rows : List Row) (a b : SinkState) where
   -- the drawing of noted rows is the picture of their steps
-  pub pictured : IsNoted g choices n v w rows → Puts a b fa fb (drawn (setting_of v).count rows) (Ok tt) → IsPictured g choices n v w a b fa fb
+  pub pictured : IsNoted g choices n v w rows → Puts a b (drawn (setting_of v).count rows) (Ok tt) → IsPictured g choices n v w a b
   pictured (ms, plays, is) puts =
       let all = puts-same {r = Ok tt} (ap (drawn (setting_of v).count) is) puts in
-      (ms, plays, (all.whole, all.clean))
+      (ms, plays, record { whole = all.whole; clean = all.clean })
 
-  pub broken : (fault : SinkFault) → IsNoted g choices n v w rows → Puts a b fa fb (drawn (setting_of v).count rows) (Err fault) → IsNotPictured g choices n v w a b fa fb Untold
+  pub broken : (fault : SinkFault) → IsNoted g choices n v w rows → Puts a b (drawn (setting_of v).count rows) (Err fault) → IsNotPictured g choices n v w a b Untold
   broken fault (ms, plays, is) puts =
       let all = puts-same {r = Err fault} (ap (drawn (setting_of v).count) is) puts in
-      (ms, plays, (all.part, all.fault))
+      (ms, plays, record { part = all.part; fault = all.fault })

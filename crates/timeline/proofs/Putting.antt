@@ -3,6 +3,7 @@ use Rattle.std.proofs.Common.{◌≡◌, ◌++◌, ℕ, List, [], ◌∷◌, Opt
 use Rattle.std.specs.List.{FoldsTo}
 use Rattle.std.proofs.lemmas.List.{append-nil}
 use Rattle.words.specs.declared.sink.SinkFault.{SinkFault}
+use Rattle.words.specs.Sinks.{SinkState}
 use Rattle.texts.specs.Puts.{Puts}
 use Rattle.texts.proofs.Putting.{puts-nothing, puts-both, puts-same}
 use Rattle.machine.specs.States.{shown}
@@ -19,19 +20,19 @@ events_by time lane edge m =
 pub same_events : (sets time lane : ℕ) (edge : Edge) (m : Moment) → lane ≡ lane_of m.step m.arrival → edge ≡ edge_of m.entry (shown sets m.after) → events_by time lane edge m ≡ events_of sets time m
 same_events sets time lane edge m lane_is edge_is = ap₂ (λ (l : ℕ) (e : Edge). events_by time l e m) lane_is edge_is
 
-module _ {L : Type 0} (sets : ℕ) (taken : L → Option (List ℕ)) (failed : L → ℕ) (time : L → ℕ) where
+module _ {L : Type 0} (sets : ℕ) (state : L → SinkState) (time : L → ℕ) where
   -- the events of a moment were put, or not all of them
   abbrev pub Notes : L → Moment → L → Type 0
-  Notes before m after = Puts (taken before) (taken after) (failed before) (failed after) (events_of sets (time before) m) (Ok tt) × (time after ≡ next_time (time before))
+  Notes before m after = Puts (state before) (state after) (events_of sets (time before) m) (Ok tt) × (time after ≡ next_time (time before))
 
   abbrev pub Misses : L → Moment → L → Type 0
-  Misses before m after = (fault : SinkFault) × Puts (taken before) (taken after) (failed before) (failed after) (events_of sets (time before) m) (Err fault)
+  Misses before m after = (fault : SinkFault) × Puts (state before) (state after) (events_of sets (time before) m) (Err fault)
 
   abbrev PutsFrom : L → L → ℕ → List Moment → Result Unit SinkFault → Type 0
-  PutsFrom x y t ms r = Puts (taken x) (taken y) (failed x) (failed y) (events_from sets t ms) r
+  PutsFrom x y t ms r = Puts (state x) (state y) (events_from sets t ms) r
 
   pub noted : (x : L) (ms : List Moment) (y : L) → FoldsTo Notes x ms y → PutsFrom x y (time x) ms (Ok tt)
-  noted x [] y same = subst (λ (s : L). PutsFrom x s (time x) [] (Ok tt)) same (puts-nothing (taken x) (failed x))
+  noted x [] y same = subst (λ (s : L). PutsFrom x s (time x) [] (Ok tt)) same (puts-nothing (state x))
   noted x (m ∷ ms) y (l, first, rest) = puts-both first.0 (subst (λ (t : ℕ). PutsFrom l y t ms (Ok tt)) first.1 (noted l ms y rest))
 
   -- and those of a last one weren't, all of them

@@ -1,5 +1,6 @@
 -- The picture of a run.
 use Rattle.std.specs.Prelude.{ℕ, ◌≡◌, ◌<◌, List, Option}
+use Rattle.words.specs.Sinks.{SinkState, TookAll, TookPart}
 use Rattle.protocol.specs.Caches.{Geometry}
 use Rattle.machine.specs.States.{State, setting_of}
 use Rattle.schedule.specs.declared.choices.Choice.{Choice}
@@ -7,7 +8,6 @@ use Rattle.watch.specs.Moments.{Moment}
 use Rattle.watch.specs.Watched.{PlaysWith}
 use Rattle.watch.specs.declared.halt.Halt.{Halt}
 use Rattle.watch.specs.declared.halt.Halt.TheVariants.{NoMemory, Untold}
-use Rattle.timeline.specs.Timelines.{Took, TookPart}
 use Rattle.timeline.specs.declared.row.Row.{Row}
 use Rattle.timeline.specs.Rows.{rows_from}
 use Rattle.timeline.specs.Drawings.{drawn}
@@ -25,12 +25,12 @@ abbrev pub IsCut : Geometry → List Choice → ℕ → State → State → Type
 IsCut g choices n v w = (m : ℕ) × (m < n) × (ms : List Moment) × PlaysWith g choices m v ms w
 
 -- n steps by a schedule were made, and the sink took their picture
-abbrev pub IsPictured : Geometry → List Choice → ℕ → State → State → Option (List ℕ) → Option (List ℕ) → ℕ → ℕ → Type 0
-IsPictured g choices n v w before after failed_before failed_after =
-    (ms : List Moment) × PlaysWith g choices n v ms w × Took before after failed_before failed_after (picture_of g.sets (setting_of v).count ms)
+abbrev pub IsPictured : Geometry → List Choice → ℕ → State → State → SinkState → SinkState → Type 0
+IsPictured g choices n v w before after =
+    (ms : List Moment) × PlaysWith g choices n v ms w × TookAll before after (picture_of g.sets (setting_of v).count ms)
 
 -- memory ran out: fewer steps were made, and nothing was drawn. A put failed: all were made, and the sink took a beginning of their picture
-abbrev pub IsNotPictured : Geometry → List Choice → ℕ → State → State → Option (List ℕ) → Option (List ℕ) → ℕ → ℕ → Halt → Type 0
-IsNotPictured g choices n v w before after failed_before failed_after NoMemory = IsCut g choices n v w × (after ≡ before) × (failed_after ≡ failed_before)
-IsNotPictured g choices n v w before after failed_before failed_after Untold =
-    (ms : List Moment) × PlaysWith g choices n v ms w × TookPart before after failed_before failed_after (picture_of g.sets (setting_of v).count ms)
+abbrev pub IsNotPictured : Geometry → List Choice → ℕ → State → State → SinkState → SinkState → Halt → Type 0
+IsNotPictured g choices n v w before after NoMemory = IsCut g choices n v w × (after ≡ before)
+IsNotPictured g choices n v w before after Untold =
+    (ms : List Moment) × PlaysWith g choices n v ms w × TookPart before after (picture_of g.sets (setting_of v).count ms)

@@ -2,7 +2,7 @@
 use Rattle.std.specs.Prelude.{ℕ, ◌≡◌, ◌<◌, ◌+◌, ◌++◌, List, [], ◌∷◌, Option, codes, decimal, min}
 use Rattle.std.specs.List.{concat, flat_map, range_with_len}
 use Rattle.std.specs.Option.{option_map}
-use Rattle.words.specs.Taken.{TookBeginning}
+use Rattle.words.specs.Sinks.{SinkState, TookAll, TookPart}
 use Rattle.protocol.specs.Caches.{Geometry}
 use Rattle.machine.specs.States.{State, setting_of}
 use Rattle.schedule.specs.declared.choices.Choice.{Choice}
@@ -37,21 +37,14 @@ begun_timeline sets harts ms = opening harts ++ events_from sets 0 ms
 abbrev pub timeline_of : ℕ → ℕ → List Moment → List ℕ
 timeline_of sets harts ms = opening harts ++ (events_from sets 0 ms ++ closing)
 
--- the sink took a text; or a beginning of it, and one put more failed
-abbrev pub Took : Option (List ℕ) → Option (List ℕ) → ℕ → ℕ → List ℕ → Type 0
-Took before after failed_before failed_after text = (after ≡ option_map (λ bytes. bytes ++ text) before) × (failed_after ≡ failed_before)
-
-abbrev pub TookPart : Option (List ℕ) → Option (List ℕ) → ℕ → ℕ → List ℕ → Type 0
-TookPart before after failed_before failed_after text = TookBeginning before after text × (failed_after ≡ min (failed_before + 1) 18446744073709551615)
-
 -- n steps by a schedule were made, and the sink took their timeline
-abbrev pub IsShown : Geometry → List Choice → ℕ → State → State → Option (List ℕ) → Option (List ℕ) → ℕ → ℕ → Type 0
-IsShown g choices n v w before after failed_before failed_after =
-    (ms : List Moment) × PlaysWith g choices n v ms w × Took before after failed_before failed_after (timeline_of g.sets (setting_of v).count ms)
+abbrev pub IsShown : Geometry → List Choice → ℕ → State → State → SinkState → SinkState → Type 0
+IsShown g choices n v w before after =
+    (ms : List Moment) × PlaysWith g choices n v ms w × TookAll before after (timeline_of g.sets (setting_of v).count ms)
 
 -- what was made of n steps. Memory ran out: fewer, and the sink took the events of all of them, with no end. A put failed: some, or all, and it took a beginning of their timeline
-abbrev pub IsCutShort : Geometry → List Choice → ℕ → State → State → Option (List ℕ) → Option (List ℕ) → ℕ → ℕ → Halt → Type 0
-IsCutShort g choices n v w before after failed_before failed_after NoMemory = (m : ℕ) × (m < n) × (ms : List Moment) × PlaysWith g choices m v ms w
-    × Took before after failed_before failed_after (begun_timeline g.sets (setting_of v).count ms)
-IsCutShort g choices n v w before after failed_before failed_after Untold = (m : ℕ) × (m < n + 1) × (ms : List Moment) × PlaysWith g choices m v ms w
-    × TookPart before after failed_before failed_after (timeline_of g.sets (setting_of v).count ms)
+abbrev pub IsCutShort : Geometry → List Choice → ℕ → State → State → SinkState → SinkState → Halt → Type 0
+IsCutShort g choices n v w before after NoMemory = (m : ℕ) × (m < n) × (ms : List Moment) × PlaysWith g choices m v ms w
+    × TookAll before after (begun_timeline g.sets (setting_of v).count ms)
+IsCutShort g choices n v w before after Untold = (m : ℕ) × (m < n + 1) × (ms : List Moment) × PlaysWith g choices m v ms w
+    × TookPart before after (timeline_of g.sets (setting_of v).count ms)

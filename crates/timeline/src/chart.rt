@@ -50,11 +50,11 @@ struct Drawer;
 impl<const SETS: usize, const WAYS: usize, S: Sink> Watcher<Machine<SETS, WAYS>, Chart<S>>
     for Drawer {
     ghost notes = { λ _ before sent step arrival entry w after.
-        Puts (S.taken before.sink) (S.taken after.sink) (S.failed before.sink) (S.failed after.sink) (events_of SETS before.time (record { sent = sent; step = step; arrival = arrival; entry = entry; after = w })) (Ok tt)
+        Puts (S.state before.sink) (S.state after.sink) (events_of SETS before.time (record { sent = sent; step = step; arrival = arrival; entry = entry; after = w })) (Ok tt)
         × (after.time ≡ next_time before.time) };
 
     ghost misses = { λ _ before sent step arrival entry w after. (fault : SinkFault)
-        × Puts (S.taken before.sink) (S.taken after.sink) (S.failed before.sink) (S.failed after.sink) (events_of SETS before.time (record { sent = sent; step = step; arrival = arrival; entry = entry; after = w })) (Err fault) };
+        × Puts (S.state before.sink) (S.state after.sink) (events_of SETS before.time (record { sent = sent; step = step; arrival = arrival; entry = entry; after = w })) (Err fault) };
 
     fn note(
         &self,
@@ -86,7 +86,7 @@ fn put_events<const SETS: usize, const WAYS: usize, S: Sink>(
     entry: &Option<Entry>,
     machine: &Machine<SETS, WAYS>,
 ) -> Result<(), SinkFault>
-    ensures { Puts (S.taken sink.old) (S.taken sink.new) (S.failed sink.old) (S.failed sink.new)
+    ensures { Puts (S.state sink.old) (S.state sink.new)
         (events_of SETS time (record { sent = sent; step = step.now; arrival = arrival.now; entry = entry.now; after = machine.now })) result }
 {
     let place = Place {
@@ -103,7 +103,7 @@ fn put_events<const SETS: usize, const WAYS: usize, S: Sink>(
 
 /// Puts the name of a hart's lane.
 fn put_hart<S: Sink>(sink: &mut S, hart: usize) -> Result<(), SinkFault>
-    ensures { Puts (S.taken sink.old) (S.taken sink.new) (S.failed sink.old) (S.failed sink.new) (spec.hart_lane hart) result }
+    ensures { Puts (S.state sink.old) (S.state sink.new) (spec.hart_lane hart) result }
 {
     let mut number = Buffer::new();
     let digits = number.format(hart).as_bytes();
@@ -121,7 +121,7 @@ fn put_hart<S: Sink>(sink: &mut S, hart: usize) -> Result<(), SinkFault>
 
 /// Puts the name of the directory's lane.
 fn put_directory<S: Sink>(sink: &mut S) -> Result<(), SinkFault>
-    ensures { Puts (S.taken sink.old) (S.taken sink.new) (S.failed sink.old) (S.failed sink.new) (spec.last_lane) result }
+    ensures { Puts (S.state sink.old) (S.state sink.new) (spec.last_lane) result }
 {
     let mut number = Buffer::new();
     put_all(
@@ -136,7 +136,7 @@ fn put_directory<S: Sink>(sink: &mut S) -> Result<(), SinkFault>
 
 /// Puts what comes before the events: the names of the lanes.
 fn put_opening<S: Sink>(sink: &mut S, harts: usize) -> Result<(), SinkFault>
-    ensures { Puts (S.taken sink.old) (S.taken sink.new) (S.failed sink.old) (S.failed sink.new) (spec.opening harts) result }
+    ensures { Puts (S.state sink.old) (S.state sink.new) (spec.opening harts) result }
 {
     put_all(
         sink,
@@ -149,7 +149,7 @@ fn put_opening<S: Sink>(sink: &mut S, harts: usize) -> Result<(), SinkFault>
 }
 
 fn put_harts<S: Sink>(sink: &mut S, harts: usize) -> Result<(), SinkFault>
-    ensures { Puts (S.taken sink.old) (S.taken sink.new) (S.failed sink.old) (S.failed sink.new) (flat_map spec.hart_lane (range_with_len 0 harts)) result }
+    ensures { Puts (S.state sink.old) (S.state sink.new) (flat_map spec.hart_lane (range_with_len 0 harts)) result }
 {
     for hart in 0..harts {
         put_hart(sink, hart)?;
@@ -170,8 +170,8 @@ pub fn put_timeline<const SETS: usize, const WAYS: usize, S: Sink, P: Progress>(
     progress: &mut P,
 ) -> Result<(), Halt>
     ensures { MatchResult result
-        (λ _. IsShown (geometry SETS WAYS) choices.now steps machine.old machine.new (S.taken chart.old.sink) (S.taken chart.new.sink) (S.failed chart.old.sink) (S.failed chart.new.sink))
-        (IsCutShort (geometry SETS WAYS) choices.now steps machine.old machine.new (S.taken chart.old.sink) (S.taken chart.new.sink) (S.failed chart.old.sink) (S.failed chart.new.sink)) }
+        (λ _. IsShown (geometry SETS WAYS) choices.now steps machine.old machine.new (S.state chart.old.sink) (S.state chart.new.sink))
+        (IsCutShort (geometry SETS WAYS) choices.now steps machine.old machine.new (S.state chart.old.sink) (S.state chart.new.sink)) }
 {
     chart.time = 0;
     let harts = machine.harts();

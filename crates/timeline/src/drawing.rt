@@ -30,7 +30,7 @@ fn put_bar_to<S: Sink>(
     begin: &Row,
     end: &Option<Row>,
 ) -> Result<(), SinkFault>
-    ensures { Puts (S.taken sink.old) (S.taken sink.new) (S.failed sink.old) (S.failed sink.new) (spec.bar_to harts rows begin.now end.now) result }
+    ensures { Puts (S.state sink.old) (S.state sink.new) (spec.bar_to harts rows begin.now end.now) result }
 {
     let x = x_of(harts, begin);
     let from = y_at(begin.number);
@@ -42,7 +42,7 @@ fn put_bar_to<S: Sink>(
 
 /// Puts the bar of the transaction that a row begins, if it does.
 fn put_bar_if<S: Sink>(sink: &mut S, harts: usize, rows: &[Row], row: &Row) -> Result<(), SinkFault>
-    ensures { Puts (S.taken sink.old) (S.taken sink.new) (S.failed sink.old) (S.failed sink.new) (spec.bar_of harts rows.now row.now) result }
+    ensures { Puts (S.state sink.old) (S.state sink.new) (spec.bar_of harts rows.now row.now) result }
 {
     match row.edge {
         Edge::Begun => put_bar_to(sink, harts, rows.len(), row, &end(rows, row)),
@@ -52,7 +52,7 @@ fn put_bar_if<S: Sink>(sink: &mut S, harts: usize, rows: &[Row], row: &Row) -> R
 
 /// Puts the bars of all transactions.
 fn put_bars<S: Sink>(sink: &mut S, harts: usize, rows: &[Row]) -> Result<(), SinkFault>
-    ensures { Puts (S.taken sink.old) (S.taken sink.new) (S.failed sink.old) (S.failed sink.new) (flat_map (spec.bar_of harts rows.now) rows.now) result }
+    ensures { Puts (S.state sink.old) (S.state sink.new) (flat_map (spec.bar_of harts rows.now) rows.now) result }
 {
     for row in rows {
         put_bar_if(sink, harts, rows, row)?;
@@ -67,7 +67,7 @@ fn put_arrow_if<S: Sink>(
     rows: &[Row],
     row: &Row,
 ) -> Result<(), SinkFault>
-    ensures { Puts (S.taken sink.old) (S.taken sink.new) (S.failed sink.old) (S.failed sink.new) (spec.arrow_of harts rows.now row.now) result }
+    ensures { Puts (S.state sink.old) (S.state sink.new) (spec.arrow_of harts rows.now row.now) result }
 {
     match &row.arrival {
         Some(flight) => put_arrow_from(sink, harts, &sender(rows, flight.number), row),
@@ -82,7 +82,7 @@ fn put_arrow_from<S: Sink>(
     from: &Option<Row>,
     to: &Row,
 ) -> Result<(), SinkFault>
-    ensures { Puts (S.taken sink.old) (S.taken sink.new) (S.failed sink.old) (S.failed sink.new) (spec.arrow_from harts from.now to.now) result }
+    ensures { Puts (S.state sink.old) (S.state sink.new) (spec.arrow_from harts from.now to.now) result }
 {
     match from {
         Some(from) => put_arrow(sink, harts, from, to),
@@ -92,7 +92,7 @@ fn put_arrow_from<S: Sink>(
 
 /// Puts the arrows of all messages that arrived.
 fn put_arrows<S: Sink>(sink: &mut S, harts: usize, rows: &[Row]) -> Result<(), SinkFault>
-    ensures { Puts (S.taken sink.old) (S.taken sink.new) (S.failed sink.old) (S.failed sink.new) (flat_map (spec.arrow_of harts rows.now) rows.now) result }
+    ensures { Puts (S.state sink.old) (S.state sink.new) (flat_map (spec.arrow_of harts rows.now) rows.now) result }
 {
     for row in rows {
         put_arrow_if(sink, harts, rows, row)?;
@@ -102,7 +102,7 @@ fn put_arrows<S: Sink>(sink: &mut S, harts: usize, rows: &[Row]) -> Result<(), S
 
 /// Puts the marks and texts of all steps.
 fn put_steps<S: Sink>(sink: &mut S, harts: usize, rows: &[Row]) -> Result<(), SinkFault>
-    ensures { Puts (S.taken sink.old) (S.taken sink.new) (S.failed sink.old) (S.failed sink.new) (flat_map (step_of harts) rows.now) result }
+    ensures { Puts (S.state sink.old) (S.state sink.new) (flat_map (step_of harts) rows.now) result }
 {
     for row in rows {
         put_step(sink, harts, row)?;
@@ -112,7 +112,7 @@ fn put_steps<S: Sink>(sink: &mut S, harts: usize, rows: &[Row]) -> Result<(), Si
 
 /// Puts a hart's lane.
 fn put_hart<S: Sink>(sink: &mut S, rows: usize, hart: usize) -> Result<(), SinkFault>
-    ensures { Puts (S.taken sink.old) (S.taken sink.new) (S.failed sink.old) (S.failed sink.new) (spec.hart_lane rows hart) result }
+    ensures { Puts (S.state sink.old) (S.state sink.new) (spec.hart_lane rows hart) result }
 {
     let mut number = Buffer::new();
     put_lifeline(sink, rows, hart)?;
@@ -123,7 +123,7 @@ fn put_hart<S: Sink>(sink: &mut S, rows: usize, hart: usize) -> Result<(), SinkF
 }
 
 fn put_harts<S: Sink>(sink: &mut S, harts: usize, rows: usize) -> Result<(), SinkFault>
-    ensures { Puts (S.taken sink.old) (S.taken sink.new) (S.failed sink.old) (S.failed sink.new) (flat_map (spec.hart_lane rows) (range_with_len 0 harts)) result }
+    ensures { Puts (S.state sink.old) (S.state sink.new) (flat_map (spec.hart_lane rows) (range_with_len 0 harts)) result }
 {
     for hart in 0..harts {
         put_hart(sink, rows, hart)?;
@@ -133,7 +133,7 @@ fn put_harts<S: Sink>(sink: &mut S, harts: usize, rows: usize) -> Result<(), Sin
 
 /// Puts the lanes of so many harts, and the directory's behind them.
 fn put_lanes<S: Sink>(sink: &mut S, harts: usize, rows: usize) -> Result<(), SinkFault>
-    ensures { Puts (S.taken sink.old) (S.taken sink.new) (S.failed sink.old) (S.failed sink.new) (spec.lanes harts rows) result }
+    ensures { Puts (S.state sink.old) (S.state sink.new) (spec.lanes harts rows) result }
 {
     put_harts(sink, harts, rows)?;
     put_last(sink, harts, rows)
@@ -141,7 +141,7 @@ fn put_lanes<S: Sink>(sink: &mut S, harts: usize, rows: usize) -> Result<(), Sin
 
 /// Puts the directory's lane.
 fn put_last<S: Sink>(sink: &mut S, harts: usize, rows: usize) -> Result<(), SinkFault>
-    ensures { Puts (S.taken sink.old) (S.taken sink.new) (S.failed sink.old) (S.failed sink.new) (spec.last_lane harts rows) result }
+    ensures { Puts (S.state sink.old) (S.state sink.new) (spec.last_lane harts rows) result }
 {
     put_lifeline(sink, rows, harts)?;
     put_all(sink, &[b"directory</text></g>\n"])
@@ -149,7 +149,7 @@ fn put_last<S: Sink>(sink: &mut S, harts: usize, rows: usize) -> Result<(), Sink
 
 /// Puts the size of a picture.
 fn put_size<S: Sink>(sink: &mut S, harts: usize, rows: usize) -> Result<(), SinkFault>
-    ensures { Puts (S.taken sink.old) (S.taken sink.new) (S.failed sink.old) (S.failed sink.new) (spec.size harts rows) result }
+    ensures { Puts (S.state sink.old) (S.state sink.new) (spec.size harts rows) result }
 {
     let mut width = Buffer::new();
     let mut height = Buffer::new();
@@ -167,7 +167,7 @@ fn put_size<S: Sink>(sink: &mut S, harts: usize, rows: usize) -> Result<(), Sink
 
 /// Puts how each class looks, the head of an arrow, and the ground.
 fn put_style<S: Sink>(sink: &mut S) -> Result<(), SinkFault>
-    ensures { Puts (S.taken sink.old) (S.taken sink.new) (S.failed sink.old) (S.failed sink.new) (spec.style) result }
+    ensures { Puts (S.state sink.old) (S.state sink.new) (spec.style) result }
 {
     put_all(
         sink,
@@ -190,7 +190,7 @@ pub(crate) fn put_drawing<S: Sink>(
     harts: usize,
     rows: &[Row],
 ) -> Result<(), SinkFault>
-    ensures { Puts (S.taken sink.old) (S.taken sink.new) (S.failed sink.old) (S.failed sink.new) (spec.drawn harts rows.now) result }
+    ensures { Puts (S.state sink.old) (S.state sink.new) (spec.drawn harts rows.now) result }
 {
     put_size(sink, harts, rows.len())?;
     put_style(sink)?;

@@ -27,7 +27,7 @@ pub(crate) fn put_slice<S: Sink>(
     arrival: &Option<Flight>,
     entry: &Option<Entry>,
 ) -> Result<(), SinkFault>
-    ensures { Puts (S.taken sink.old) (S.taken sink.new) (S.failed sink.old) (S.failed sink.new) (spec.slice_event place.time place.lane (label_of step.now arrival.now entry.now)) result }
+    ensures { Puts (S.state sink.old) (S.state sink.new) (spec.slice_event place.time place.lane (label_of step.now arrival.now entry.now)) result }
 {
     put_slice_head(sink, place)?;
     put_label(sink, step, arrival, entry)?;
@@ -35,7 +35,7 @@ pub(crate) fn put_slice<S: Sink>(
 }
 
 fn put_slice_head<S: Sink>(sink: &mut S, place: Place) -> Result<(), SinkFault>
-    ensures { Puts (S.taken sink.old) (S.taken sink.new) (S.failed sink.old) (S.failed sink.new) (spec.slice_head place.time place.lane) result }
+    ensures { Puts (S.state sink.old) (S.state sink.new) (spec.slice_head place.time place.lane) result }
 {
     let mut time = Buffer::new();
     let mut lane = Buffer::new();
@@ -53,7 +53,7 @@ fn put_slice_head<S: Sink>(sink: &mut S, place: Place) -> Result<(), SinkFault>
 
 /// Puts the begin of the transaction that a step begins, if it does.
 pub(crate) fn put_begin<S: Sink>(sink: &mut S, place: Place, edge: Edge) -> Result<(), SinkFault>
-    ensures { Puts (S.taken sink.old) (S.taken sink.new) (S.failed sink.old) (S.failed sink.new) (spec.events_before place.time place.lane edge) result }
+    ensures { Puts (S.state sink.old) (S.state sink.new) (spec.events_before place.time place.lane edge) result }
 {
     match edge {
         Edge::Begun => put_transaction(sink, place),
@@ -62,7 +62,7 @@ pub(crate) fn put_begin<S: Sink>(sink: &mut S, place: Place, edge: Edge) -> Resu
 }
 
 fn put_transaction<S: Sink>(sink: &mut S, place: Place) -> Result<(), SinkFault>
-    ensures { Puts (S.taken sink.old) (S.taken sink.new) (S.failed sink.old) (S.failed sink.new) (spec.begin_event place.time place.lane) result }
+    ensures { Puts (S.state sink.old) (S.state sink.new) (spec.begin_event place.time place.lane) result }
 {
     let mut time = Buffer::new();
     let mut lane = Buffer::new();
@@ -80,7 +80,7 @@ fn put_transaction<S: Sink>(sink: &mut S, place: Place) -> Result<(), SinkFault>
 
 /// Puts the end of the transaction that a step ends, if it does: it ends with the step.
 pub(crate) fn put_end<S: Sink>(sink: &mut S, place: Place, edge: Edge) -> Result<(), SinkFault>
-    ensures { Puts (S.taken sink.old) (S.taken sink.new) (S.failed sink.old) (S.failed sink.new) (spec.events_behind place.time place.lane edge) result }
+    ensures { Puts (S.state sink.old) (S.state sink.new) (spec.events_behind place.time place.lane edge) result }
 {
     match edge {
         Edge::Committed => put_outcome(sink, place, "committed"),
@@ -90,7 +90,7 @@ pub(crate) fn put_end<S: Sink>(sink: &mut S, place: Place, edge: Edge) -> Result
 }
 
 fn put_outcome<S: Sink>(sink: &mut S, place: Place, outcome: &'static str) -> Result<(), SinkFault>
-    ensures { Puts (S.taken sink.old) (S.taken sink.new) (S.failed sink.old) (S.failed sink.new) (spec.end_event place.time place.lane outcome.now) result }
+    ensures { Puts (S.state sink.old) (S.state sink.new) (spec.end_event place.time place.lane outcome.now) result }
 {
     let mut time = Buffer::new();
     let mut lane = Buffer::new();
@@ -115,7 +115,7 @@ fn put_flow<S: Sink>(
     place: Place,
     flight: &Flight,
 ) -> Result<(), SinkFault>
-    ensures { Puts (S.taken sink.old) (S.taken sink.new) (S.failed sink.old) (S.failed sink.new) (spec.flow_event phase.now place.time place.lane flight.now) result }
+    ensures { Puts (S.state sink.old) (S.state sink.new) (spec.flow_event phase.now place.time place.lane flight.now) result }
 {
     let mut number = Buffer::new();
     let mut time = Buffer::new();
@@ -144,7 +144,7 @@ pub(crate) fn put_arrival<S: Sink>(
     place: Place,
     arrival: &Option<Flight>,
 ) -> Result<(), SinkFault>
-    ensures { Puts (S.taken sink.old) (S.taken sink.new) (S.failed sink.old) (S.failed sink.new) (spec.arrival_event place.time place.lane arrival.now) result }
+    ensures { Puts (S.state sink.old) (S.state sink.new) (spec.arrival_event place.time place.lane arrival.now) result }
 {
     match arrival {
         Some(flight) => put_flow(sink, "f\",\"bp\":\"e", place, flight),
@@ -159,7 +159,7 @@ fn put_sent<S: Sink>(
     sent: u64,
     flight: &Option<Flight>,
 ) -> Result<(), SinkFault>
-    ensures { Puts (S.taken sink.old) (S.taken sink.new) (S.failed sink.old) (S.failed sink.new) (spec.sent_event place.time place.lane sent flight.now) result }
+    ensures { Puts (S.state sink.old) (S.state sink.new) (spec.sent_event place.time place.lane sent flight.now) result }
 {
     match flight {
         Some(flight) if sent <= flight.number => put_flow(sink, "s", place, flight),
@@ -174,7 +174,7 @@ pub(crate) fn put_all_sent<const SETS: usize, const WAYS: usize, S: Sink>(
     sent: u64,
     machine: &Machine<SETS, WAYS>,
 ) -> Result<(), SinkFault>
-    ensures { Puts (S.taken sink.old) (S.taken sink.new) (S.failed sink.old) (S.failed sink.new) (spec.sent_events place.time place.lane sent machine.now.flights) result }
+    ensures { Puts (S.state sink.old) (S.state sink.new) (spec.sent_events place.time place.lane sent machine.now.flights) result }
 {
     for key in 0..machine.keys() {
         put_sent(sink, place, sent, &machine.flight(key))?;

@@ -47,7 +47,7 @@ pub(crate) fn put_label<S: Sink>(
     arrival: &Option<Flight>,
     entry: &Option<Entry>,
 ) -> Result<(), SinkFault>
-    ensures { Puts (S.taken sink.old) (S.taken sink.new) (S.failed sink.old) (S.failed sink.new) (spec.label_of step.now arrival.now entry.now) result }
+    ensures { Puts (S.state sink.old) (S.state sink.new) (spec.label_of step.now arrival.now entry.now) result }
 {
     match entry {
         Some(entry) => put_entry_label(sink, entry),
@@ -56,7 +56,7 @@ pub(crate) fn put_label<S: Sink>(
 }
 
 fn put_entry_label<S: Sink>(sink: &mut S, entry: &Entry) -> Result<(), SinkFault>
-    ensures { Puts (S.taken sink.old) (S.taken sink.new) (S.failed sink.old) (S.failed sink.new) (spec.entry_label entry.now) result }
+    ensures { Puts (S.state sink.old) (S.state sink.new) (spec.entry_label entry.now) result }
 {
     match entry {
         Entry::Retire { word, .. } => put_all(sink, &[text(*word).as_bytes()]),
@@ -88,7 +88,7 @@ fn put_step_label<S: Sink>(
     step: &Step,
     arrival: &Option<Flight>,
 ) -> Result<(), SinkFault>
-    ensures { Puts (S.taken sink.old) (S.taken sink.new) (S.failed sink.old) (S.failed sink.new) (spec.step_label step.now arrival.now) result }
+    ensures { Puts (S.state sink.old) (S.state sink.new) (spec.step_label step.now arrival.now) result }
 {
     match (step, arrival) {
         (Step::Core(_), _) => put_all(sink, &[b"core"]),

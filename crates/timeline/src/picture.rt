@@ -81,8 +81,8 @@ pub fn put_picture<const SETS: usize, const WAYS: usize, S: Sink>(
     sink: &mut S,
 ) -> Result<(), Halt>
     ensures { MatchResult result
-        (λ _. IsPictured (geometry SETS WAYS) choices.now steps machine.old machine.new (S.taken sink.old) (S.taken sink.new) (S.failed sink.old) (S.failed sink.new))
-        (IsNotPictured (geometry SETS WAYS) choices.now steps machine.old machine.new (S.taken sink.old) (S.taken sink.new) (S.failed sink.old) (S.failed sink.new)) }
+        (λ _. IsPictured (geometry SETS WAYS) choices.now steps machine.old machine.new (S.state sink.old) (S.state sink.new))
+        (IsNotPictured (geometry SETS WAYS) choices.now steps machine.old machine.new (S.state sink.old) (S.state sink.new)) }
 {
     let harts = machine.harts();
     let rows = noted(alloc, machine, choices, steps)?;

@@ -35,7 +35,7 @@ pub(crate) fn put_lifeline<S: Sink>(
     rows: usize,
     column: usize,
 ) -> Result<(), SinkFault>
-    ensures { Puts (S.taken sink.old) (S.taken sink.new) (S.failed sink.old) (S.failed sink.new) (spec.lifeline rows column) result }
+    ensures { Puts (S.state sink.old) (S.state sink.new) (spec.lifeline rows column) result }
 {
     let mut x = Buffer::new();
     let mut bottom = Buffer::new();
@@ -59,7 +59,7 @@ pub(crate) fn put_bar<S: Sink>(
     from: u128,
     to: u128,
 ) -> Result<(), SinkFault>
-    ensures { Puts (S.taken sink.old) (S.taken sink.new) (S.failed sink.old) (S.failed sink.new) (spec.bar class.now x from to) result }
+    ensures { Puts (S.state sink.old) (S.state sink.new) (spec.bar class.now x from to) result }
 {
     let mut across = Buffer::new();
     let mut top = Buffer::new();
@@ -87,7 +87,7 @@ pub(crate) fn put_arrow<S: Sink>(
     from: &Row,
     to: &Row,
 ) -> Result<(), SinkFault>
-    ensures { Puts (S.taken sink.old) (S.taken sink.new) (S.failed sink.old) (S.failed sink.new) (spec.arrow harts from.now to.now) result }
+    ensures { Puts (S.state sink.old) (S.state sink.new) (spec.arrow harts from.now to.now) result }
 {
     let mut x = Buffer::new();
     let mut y = Buffer::new();
@@ -127,7 +127,7 @@ fn class_of(step: &Step, entry: &Option<Entry>) -> &'static str
 
 /// Puts a row's number.
 fn put_number<S: Sink>(sink: &mut S, row: &Row) -> Result<(), SinkFault>
-    ensures { Puts (S.taken sink.old) (S.taken sink.new) (S.failed sink.old) (S.failed sink.new) (spec.number_mark row.now) result }
+    ensures { Puts (S.state sink.old) (S.state sink.new) (spec.number_mark row.now) result }
 {
     let mut y = Buffer::new();
     let mut number = Buffer::new();
@@ -145,7 +145,7 @@ fn put_number<S: Sink>(sink: &mut S, row: &Row) -> Result<(), SinkFault>
 
 /// Puts the mark of a row's step, up to its text.
 fn put_mark<S: Sink>(sink: &mut S, harts: usize, row: &Row) -> Result<(), SinkFault>
-    ensures { Puts (S.taken sink.old) (S.taken sink.new) (S.failed sink.old) (S.failed sink.new) (spec.mark harts row.now) result }
+    ensures { Puts (S.state sink.old) (S.state sink.new) (spec.mark harts row.now) result }
 {
     let mut x = Buffer::new();
     let mut y = Buffer::new();
@@ -165,7 +165,7 @@ fn put_mark<S: Sink>(sink: &mut S, harts: usize, row: &Row) -> Result<(), SinkFa
 
 /// Puts a row's number, its mark and the text of its step.
 pub(crate) fn put_step<S: Sink>(sink: &mut S, harts: usize, row: &Row) -> Result<(), SinkFault>
-    ensures { Puts (S.taken sink.old) (S.taken sink.new) (S.failed sink.old) (S.failed sink.new) (spec.step_of harts row.now) result }
+    ensures { Puts (S.state sink.old) (S.state sink.new) (spec.step_of harts row.now) result }
 {
     put_number(sink, row)?;
     put_mark(sink, harts, row)?;

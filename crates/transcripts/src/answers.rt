@@ -1,7 +1,7 @@
 use crate::echo::Echoed;
-use answering::answer;
 use debugger::{LineInput, Typed};
 use machine::Silent;
+use simulate::answer;
 use std::io::Read;
 use std::rt::Files;
 use std::sync::Wait;

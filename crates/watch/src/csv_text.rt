@@ -15,7 +15,7 @@ use words::{HartId, Sink, SinkFault};
 /// Puts the counts of so many harts as lines for scripts, a line for each count of each hart, behind one that names the columns.
 pub fn put_csv<S: Sink>(counts: &Counts, harts: usize, sink: &mut S) -> Result<(), SinkFault>
     requires { harts ≤ most_harts }
-    ensures { Puts (S.taken sink.old) (S.taken sink.new) (S.failed sink.old) (S.failed sink.new) (csv (count_at counts.now) harts) result }
+    ensures { Puts (S.state sink.old) (S.state sink.new) (csv (count_at counts.now) harts) result }
 {
     put_all(sink, &[b"hart,what,count\n"])?;
     put_harts(counts, harts, sink)
@@ -23,7 +23,7 @@ pub fn put_csv<S: Sink>(counts: &Counts, harts: usize, sink: &mut S) -> Result<(
 
 fn put_harts<S: Sink>(counts: &Counts, harts: usize, sink: &mut S) -> Result<(), SinkFault>
     requires { harts ≤ most_harts }
-    ensures { Puts (S.taken sink.old) (S.taken sink.new) (S.failed sink.old) (S.failed sink.new)
+    ensures { Puts (S.state sink.old) (S.state sink.new)
         (flat_map (csv_lines (count_at counts.now)) (range_with_len 0 harts)) result }
 {
     for number in 0..harts {
@@ -33,7 +33,7 @@ fn put_harts<S: Sink>(counts: &Counts, harts: usize, sink: &mut S) -> Result<(),
 }
 
 fn put_hart<S: Sink>(counts: &Counts, hart: HartId, sink: &mut S) -> Result<(), SinkFault>
-    ensures { Puts (S.taken sink.old) (S.taken sink.new) (S.failed sink.old) (S.failed sink.new) (csv_lines (count_at counts.now) hart) result }
+    ensures { Puts (S.state sink.old) (S.state sink.new) (csv_lines (count_at counts.now) hart) result }
 {
     put_kinds(&kinds(), counts, hart, sink)
 }
@@ -44,7 +44,7 @@ fn put_kinds<S: Sink>(
     hart: HartId,
     sink: &mut S,
 ) -> Result<(), SinkFault>
-    ensures { Puts (S.taken sink.old) (S.taken sink.new) (S.failed sink.old) (S.failed sink.new)
+    ensures { Puts (S.state sink.old) (S.state sink.new)
         (flat_map (csv_line (count_at counts.now) hart) kinds.now) result }
 {
     for kind in kinds {
@@ -59,7 +59,7 @@ fn put_line<S: Sink>(
     hart: HartId,
     sink: &mut S,
 ) -> Result<(), SinkFault>
-    ensures { Puts (S.taken sink.old) (S.taken sink.new) (S.failed sink.old) (S.failed sink.new) (csv_line (count_at counts.now) hart kind) result }
+    ensures { Puts (S.state sink.old) (S.state sink.new) (csv_line (count_at counts.now) hart kind) result }
 {
     let mut number = Buffer::new();
     let mut digits = Buffer::new();

@@ -50,14 +50,14 @@ fn figure_name(figure: Figure) -> &'static str
 
 /// Puts a table of what is told of the machine: a row for each figure, under a row with the head of their column.
 pub fn put_machine_table<S: Sink>(traffic: &Traffic, sink: &mut S) -> Result<(), SinkFault>
-    ensures { Puts (S.taken sink.old) (S.taken sink.new) (S.failed sink.old) (S.failed sink.new) (machine_table (figure_at traffic.now)) result }
+    ensures { Puts (S.state sink.old) (S.state sink.new) (machine_table (figure_at traffic.now)) result }
 {
     put_all(sink, &[b"                     machine\n"])?;
     put_rows(&figures(), traffic, sink)
 }
 
 fn put_rows<S: Sink>(figures: &[Figure], traffic: &Traffic, sink: &mut S) -> Result<(), SinkFault>
-    ensures { Puts (S.taken sink.old) (S.taken sink.new) (S.failed sink.old) (S.failed sink.new) (flat_map (figure_row (figure_at traffic.now)) figures.now) result }
+    ensures { Puts (S.state sink.old) (S.state sink.new) (flat_map (figure_row (figure_at traffic.now)) figures.now) result }
 {
     for figure in figures {
         put_row(*figure, traffic, sink)?;
@@ -66,7 +66,7 @@ fn put_rows<S: Sink>(figures: &[Figure], traffic: &Traffic, sink: &mut S) -> Res
 }
 
 fn put_row<S: Sink>(figure: Figure, traffic: &Traffic, sink: &mut S) -> Result<(), SinkFault>
-    ensures { Puts (S.taken sink.old) (S.taken sink.new) (S.failed sink.old) (S.failed sink.new) (figure_row (figure_at traffic.now) figure) result }
+    ensures { Puts (S.state sink.old) (S.state sink.new) (figure_row (figure_at traffic.now) figure) result }
 {
     put_label(figure, sink)?;
     put_count(traffic.figure(figure), sink)?;
@@ -74,7 +74,7 @@ fn put_row<S: Sink>(figure: Figure, traffic: &Traffic, sink: &mut S) -> Result<(
 }
 
 fn put_label<S: Sink>(figure: Figure, sink: &mut S) -> Result<(), SinkFault>
-    ensures { Puts (S.taken sink.old) (S.taken sink.new) (S.failed sink.old) (S.failed sink.new) (figure_label figure) result }
+    ensures { Puts (S.state sink.old) (S.state sink.new) (figure_label figure) result }
 {
     let name = figure_name(figure).as_bytes();
     put_all(sink, &[name, padding(17, name.len())])
@@ -82,13 +82,13 @@ fn put_label<S: Sink>(figure: Figure, sink: &mut S) -> Result<(), SinkFault>
 
 /// Puts what is told of the machine as lines for scripts, a line for each figure.
 pub fn put_machine_csv<S: Sink>(traffic: &Traffic, sink: &mut S) -> Result<(), SinkFault>
-    ensures { Puts (S.taken sink.old) (S.taken sink.new) (S.failed sink.old) (S.failed sink.new) (machine_lines (figure_at traffic.now)) result }
+    ensures { Puts (S.state sink.old) (S.state sink.new) (machine_lines (figure_at traffic.now)) result }
 {
     put_lines(&figures(), traffic, sink)
 }
 
 fn put_lines<S: Sink>(figures: &[Figure], traffic: &Traffic, sink: &mut S) -> Result<(), SinkFault>
-    ensures { Puts (S.taken sink.old) (S.taken sink.new) (S.failed sink.old) (S.failed sink.new) (flat_map (figure_line (figure_at traffic.now)) figures.now) result }
+    ensures { Puts (S.state sink.old) (S.state sink.new) (flat_map (figure_line (figure_at traffic.now)) figures.now) result }
 {
     for figure in figures {
         put_line(*figure, traffic, sink)?;
@@ -97,7 +97,7 @@ fn put_lines<S: Sink>(figures: &[Figure], traffic: &Traffic, sink: &mut S) -> Re
 }
 
 fn put_line<S: Sink>(figure: Figure, traffic: &Traffic, sink: &mut S) -> Result<(), SinkFault>
-    ensures { Puts (S.taken sink.old) (S.taken sink.new) (S.failed sink.old) (S.failed sink.new) (figure_line (figure_at traffic.now) figure) result }
+    ensures { Puts (S.state sink.old) (S.state sink.new) (figure_line (figure_at traffic.now) figure) result }
 {
     let mut buffer = Buffer::new();
     put_all(

@@ -18,9 +18,9 @@ use words::{Entry, Sink, Step};
 struct Recorder;
 
 impl<M, S: Sink> Watcher<M, S> for Recorder {
-    ghost notes = { λ _ before _ _ _ entry _ after. Puts (S.taken before) (S.taken after) (S.failed before) (S.failed after) (line_if entry) (Ok tt) };
+    ghost notes = { λ _ before _ _ _ entry _ after. Puts (S.state before) (S.state after) (line_if entry) (Ok tt) };
 
-    ghost misses = { λ _ before _ _ _ entry _ after. (fault : SinkFault) × Puts (S.taken before) (S.taken after) (S.failed before) (S.failed after) (line_if entry) (Err fault) };
+    ghost misses = { λ _ before _ _ _ entry _ after. (fault : SinkFault) × Puts (S.state before) (S.state after) (line_if entry) (Err fault) };
 
     fn note(
         &self,
@@ -54,8 +54,8 @@ pub fn put_trace<const SETS: usize, const WAYS: usize, S: Sink, P: Progress>(
     progress: &mut P,
 ) -> Result<(), Halt>
     ensures { MatchResult result
-        (λ _. IsTraced (geometry SETS WAYS) choices.now steps machine.old machine.new (S.taken sink.old) (S.taken sink.new) (S.failed sink.old) (S.failed sink.new))
-        (IsCut (geometry SETS WAYS) choices.now steps machine.old machine.new (S.taken sink.old) (S.taken sink.new) (S.failed sink.old) (S.failed sink.new)) }
+        (λ _. IsTraced (geometry SETS WAYS) choices.now steps machine.old machine.new (S.state sink.old) (S.state sink.new))
+        (IsCut (geometry SETS WAYS) choices.now steps machine.old machine.new (S.state sink.old) (S.state sink.new)) }
 {
     follow_watched(machine, choices, steps, &Recorder, sink, progress)
 }

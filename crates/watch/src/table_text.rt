@@ -15,7 +15,7 @@ use words::{HartId, Sink, SinkFault};
 /// Puts a table of the counts of so many harts: a column for each hart, under its number, and a row for each kind.
 pub fn put_table<S: Sink>(counts: &Counts, harts: usize, sink: &mut S) -> Result<(), SinkFault>
     requires { harts ≤ most_harts }
-    ensures { Puts (S.taken sink.old) (S.taken sink.new) (S.failed sink.old) (S.failed sink.new) (table (count_at counts.now) harts) result }
+    ensures { Puts (S.state sink.old) (S.state sink.new) (table (count_at counts.now) harts) result }
 {
     put_rows(&rows(), counts, harts, sink)
 }
@@ -47,7 +47,7 @@ fn put_rows<S: Sink>(
     sink: &mut S,
 ) -> Result<(), SinkFault>
     requires { harts ≤ most_harts }
-    ensures { Puts (S.taken sink.old) (S.taken sink.new) (S.failed sink.old) (S.failed sink.new) (flat_map (row_text (count_at counts.now) harts) rows.now) result }
+    ensures { Puts (S.state sink.old) (S.state sink.new) (flat_map (row_text (count_at counts.now) harts) rows.now) result }
 {
     for row in rows {
         put_row(*row, counts, harts, sink)?;
@@ -62,7 +62,7 @@ fn put_row<S: Sink>(
     sink: &mut S,
 ) -> Result<(), SinkFault>
     requires { harts ≤ most_harts }
-    ensures { Puts (S.taken sink.old) (S.taken sink.new) (S.failed sink.old) (S.failed sink.new) (row_text (count_at counts.now) harts row) result }
+    ensures { Puts (S.state sink.old) (S.state sink.new) (row_text (count_at counts.now) harts row) result }
 {
     put_name(row, sink)?;
     put_cells(row, counts, harts, sink)?;
@@ -70,7 +70,7 @@ fn put_row<S: Sink>(
 }
 
 fn put_name<S: Sink>(row: Option<Kind>, sink: &mut S) -> Result<(), SinkFault>
-    ensures { Puts (S.taken sink.old) (S.taken sink.new) (S.failed sink.old) (S.failed sink.new) (row_name row) result }
+    ensures { Puts (S.state sink.old) (S.state sink.new) (row_name row) result }
 {
     let name = match row {
         Some(kind) => kind_name(kind).as_bytes(),
@@ -86,7 +86,7 @@ fn put_cells<S: Sink>(
     sink: &mut S,
 ) -> Result<(), SinkFault>
     requires { harts ≤ most_harts }
-    ensures { Puts (S.taken sink.old) (S.taken sink.new) (S.failed sink.old) (S.failed sink.new)
+    ensures { Puts (S.state sink.old) (S.state sink.new)
         (flat_map (cell (count_at counts.now) row) (range_with_len 0 harts)) result }
 {
     for number in 0..harts {
@@ -101,7 +101,7 @@ fn put_cell<S: Sink>(
     hart: HartId,
     sink: &mut S,
 ) -> Result<(), SinkFault>
-    ensures { Puts (S.taken sink.old) (S.taken sink.new) (S.failed sink.old) (S.failed sink.new) (cell (count_at counts.now) row hart) result }
+    ensures { Puts (S.state sink.old) (S.state sink.new) (cell (count_at counts.now) row hart) result }
 {
     match row {
         Some(kind) => put_count(counts.count(hart, kind), sink),
@@ -110,7 +110,7 @@ fn put_cell<S: Sink>(
 }
 
 pub(crate) fn put_count<S: Sink>(count: u64, sink: &mut S) -> Result<(), SinkFault>
-    ensures { Puts (S.taken sink.old) (S.taken sink.new) (S.failed sink.old) (S.failed sink.new) (count_cell count) result }
+    ensures { Puts (S.state sink.old) (S.state sink.new) (count_cell count) result }
 {
     let mut buffer = Buffer::new();
     let digits = buffer.format(count).as_bytes();
@@ -118,7 +118,7 @@ pub(crate) fn put_count<S: Sink>(count: u64, sink: &mut S) -> Result<(), SinkFau
 }
 
 fn put_head<S: Sink>(hart: HartId, sink: &mut S) -> Result<(), SinkFault>
-    ensures { Puts (S.taken sink.old) (S.taken sink.new) (S.failed sink.old) (S.failed sink.new) (head hart) result }
+    ensures { Puts (S.state sink.old) (S.state sink.new) (head hart) result }
 {
     let mut buffer = Buffer::new();
     put_all(

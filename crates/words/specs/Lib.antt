@@ -5,5 +5,5 @@ pub mod Harts
 pub mod Limits
 pub mod LineStates
 pub mod Marks
+pub mod Sinks
 pub mod Stamps
-pub mod Taken

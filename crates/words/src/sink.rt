@@ -1,7 +1,7 @@
 ghost use Rattle.std.specs.Prelude.{◌≡◌, ◌+◌, ◌≤◌, ◌++◌, ℕ, List, Option, Some, None, min, length, take, OnOk, OnErr, codes};
 ghost use Rattle.std.specs.Option.{option_map};
 ghost use Rattle.std.specs.Io.KnownBytes.{Appends};
-ghost use Rattle.words.specs.Taken.{TookBeginning};
+ghost use Rattle.words.specs.Sinks.{SinkState, TookBeginning};
 
 use std::fmt;
 use std::io::Write;
@@ -20,18 +20,15 @@ impl fmt::Display for SinkFault {
 
 /// What bytes are put into.
 pub trait Sink {
-    /// How many puts failed, up to the greatest number that the sink counts to.
-    ghost failed: { Self → ℕ };
-
-    /// All bytes taken so far, where the sink tells them.
-    ghost taken: { Self → Option (List ℕ) };
+    /// What it has taken, and how often it failed.
+    ghost state: { Self → SinkState };
 
     /// Takes all the bytes, or a beginning of them.
     fn put(&mut self, bytes: &[u8]) -> Result<(), SinkFault>
-        ensures clean { OnOk result (failed self.new ≡ failed self.old) }
-        ensures fault { OnErr result (failed self.new ≡ min (failed self.old + 1) 18446744073709551615) }
-        ensures all { OnOk result (taken self.new ≡ option_map (λ before. before ++ bytes.now) (taken self.old)) }
-        ensures part { OnErr result (TookBeginning (taken self.old) (taken self.new) bytes.now) };
+        ensures clean { OnOk result ((state self.new).failed ≡ (state self.old).failed) }
+        ensures fault { OnErr result ((state self.new).failed ≡ min ((state self.old).failed + 1) 18446744073709551615) }
+        ensures all { OnOk result ((state self.new).taken ≡ option_map (λ before. before ++ bytes.now) (state self.old).taken) }
+        ensures part { OnErr result (TookBeginning (state self.old).taken (state self.new).taken bytes.now) };
 }
 
 /// A sink in memory, which tells its bytes.
@@ -42,9 +39,7 @@ pub struct Taken {
 }
 
 impl Sink for Taken {
-    ghost failed = { λ t. t.failed };
-
-    ghost taken = { λ t. Some t.bytes.items };
+    ghost state = { λ t. record { taken = Some t.bytes.items; failed = t.failed } };
 
     fn put(&mut self, bytes: &[u8]) -> Result<(), SinkFault> {
         match self.bytes.extend_from_slice(bytes) {
@@ -65,9 +60,7 @@ pub struct Counted<W> {
 }
 
 impl<W: Write> Sink for Counted<W> {
-    ghost failed = { λ c. c.failed };
-
-    ghost taken = { λ _. None };
+    ghost state = { λ c. record { taken = None; failed = c.failed } };
 
     fn put(&mut self, bytes: &[u8]) -> Result<(), SinkFault>
         ensures clean { OnOk result (self.new.failed ≡ self.old.failed) }

@@ -1,6 +1,6 @@
 //! Each command with a put that fails, and with memory that runs out.
 use super::booted::{LOADS_AND_STORES, booted_in};
-use commands::{Command, DebugFault, command_of};
+use debugger::commands::{Command, DebugFault, command_of};
 use debugger::{Flow, Session};
 use elf_samples::{Breaking, COMMITS, EXIT};
 use std::alloc::Global;

@@ -1,6 +1,6 @@
 //! Looks at programs on the coherent machine, with each put refused in turn.
 use super::booted::{STORES_ONCE, booted_in};
-use commands::{DebugFault, Look, help, look};
+use debugger::commands::{DebugFault, Look, help, look};
 use elf_samples::{Breaking, COMMITS};
 use machine::Machine;
 use std::alloc::{AllocError, Global};

@@ -10,9 +10,7 @@ pub(crate) struct Refusing {
 impl Sink for Refusing {
     ghost use Rattle.std.specs.Prelude.{None};
 
-    ghost failed = { λ r. r.failed };
-
-    ghost taken = { λ _. None };
+    ghost state = { λ r. record { taken = None; failed = r.failed } };
 
     fn put(&mut self, _bytes: &[u8]) -> Result<(), SinkFault> {
         if self.left == 0 {

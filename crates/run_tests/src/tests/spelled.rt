@@ -1,5 +1,5 @@
 //! Lines with what they spell, and the texts of faults.
-use commands::{Command, DebugFault, Look, command_of};
+use debugger::commands::{Command, DebugFault, Look, command_of};
 use schedule::Sort;
 use std::alloc::AllocError;
 use std::process::Abort;

@@ -1,5 +1,5 @@
 //! Lines that are typed, with what the user is told and how often they are asked for.
-use commands::{Command, DebugFault};
+use debugger::commands::{Command, DebugFault};
 use debugger::{ConsoleFault, Debugged, Typed, play};
 use std::alloc::Global;
 use std::io;
@@ -14,7 +14,7 @@ struct Steps;
 impl Debugged for Steps {
     ghost use Rattle.std.specs.Prelude.{⊤};
 
-    ghost answers = { λ _ _ _ _ _ _ _ _. ⊤ };
+    ghost answers = { λ _ _ _ _ _ _. ⊤ };
 
     fn command<S: Sink>(&mut self, command: Command, sink: &mut S) -> Result<bool, DebugFault> {
         match command {
@@ -38,9 +38,7 @@ struct Closed {
 impl Sink for Closed {
     ghost use Rattle.std.specs.Prelude.{None};
 
-    ghost failed = { λ c. c.failed };
-
-    ghost taken = { λ _. None };
+    ghost state = { λ c. record { taken = None; failed = c.failed } };
 
     fn put(&mut self, _bytes: &[u8]) -> Result<(), SinkFault> {
         self.failed = self.failed.saturating_add(1);

@@ -53,9 +53,7 @@ impl Paper {
 }
 
 impl Sink for Paper {
-    ghost failed = { λ p. p.failed };
-
-    ghost taken = { λ _. None };
+    ghost state = { λ p. record { taken = None; failed = p.failed } };
 
     fn put(&mut self, bytes: &[u8]) -> Result<(), SinkFault> {
         let taken = if self.left > 0 {

@@ -4,8 +4,8 @@ mod refusals;
 mod runs;
 
 use super::paper::Paper;
-use answering::threads::{run_kept, run_threaded};
 use command_line::{Request, Run, parse};
+use simulate::threads::{run_kept, run_threaded};
 use std::alloc::Global;
 use std::process::Abort;
 use std::sync::Wait;

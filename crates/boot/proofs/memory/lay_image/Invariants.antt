@@ -1,6 +1,6 @@
 use Rattle.std.proofs.Common.{◌≡◌, ◌-◌, ℕ, drop, length}
 use Rattle.table.specs.Program.{AreBytes, image_at}
-use Rattle.overlay.specs.Memory.{mem_of}
+use Rattle.boot.specs.Memory.{mem_of}
 use Rattle.boot.proofs.memory.lay_image.Given as goal
 
 -- the last k segments stand

@@ -1,7 +1,7 @@
 use Rattle.std.proofs.Common.{◌≡◌, ◌<◌, ◌+◌, ℕ, cond, slice_index}
 use Rattle.std.specs.Prelude.{◌&&◌, nat_le, nat_lt}
 use Rattle.table.specs.Program.{byte_in}
-use Rattle.overlay.specs.Memory.{mem_of}
+use Rattle.boot.specs.Memory.{mem_of}
 use Rattle.boot.proofs.memory.lay_segment.Given as goal
 
 -- the first k bytes of the segment stand

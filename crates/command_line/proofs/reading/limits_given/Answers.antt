@@ -1,7 +1,7 @@
 use Rattle.std.proofs.Common.{codes}
 use Rattle.std.proofs.lemmas.Result.{err_from_is_err_and}
 use Rattle.clap.specs.Words.{found_of, rows_of}
-use Rattle.numerals.specs.Numbers.{number_of}
+use Rattle.texts.specs.Numbers.{number_of}
 use Rattle.command_line.specs.Reading.{cache_of, given, malformed, malformed_of_size}
 use Rattle.command_line.proofs.Values.{first_behind, first_of_more, size_none, steps_none}
 use Rattle.command_line.proofs.reading.limits_given.Goals as goal

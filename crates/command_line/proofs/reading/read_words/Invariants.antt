@@ -1,5 +1,5 @@
 use Rattle.std.proofs.Common.{◌≡◌, drop, map, take}
-use Rattle.numerals.specs.Numbers.{number_of}
+use Rattle.texts.specs.Numbers.{number_of}
 use Rattle.command_line.specs.Reading.{IsReadingOfWords, malformed}
 use Rattle.command_line.proofs.reading.read_words.Given as goal
 

@@ -9,7 +9,7 @@ pub returns : goal.returns
 returns g c = (
   c.play.new.session,
   subst (λ (s : Session). IsPlayed (answers (geometry g.row.SETS g.row.WAYS)) g.I.LineInput.gives c.args.prompt.now
-      (record { session = s; input = c.args.input.now; told = g.S.Sink.taken c.args.out.now; untold = g.S.Sink.failed c.args.out.now; asked = g.P.Sink.taken c.args.prompts.now; unasked = g.P.Sink.failed c.args.prompts.now })
-      (record { session = c.play.new.session; input = c.play.new.input; told = g.S.Sink.taken c.play.new.out; untold = g.S.Sink.failed c.play.new.out; asked = g.P.Sink.taken c.play.new.prompts; unasked = g.P.Sink.failed c.play.new.prompts }) c.play.result)
+      (record { session = s; input = c.args.input.now; told = g.S.Sink.state c.args.out.now; asked = g.P.Sink.state c.args.prompts.now })
+      (record { session = c.play.new.session; input = c.play.new.input; told = g.S.Sink.state c.play.new.out; asked = g.P.Sink.state c.play.new.prompts }) c.play.result)
       c.new-session.ensures c.play.ensures,
 )

@@ -5,4 +5,4 @@ use Rattle.debugger.proofs.tell.put_numbered.Given as goal
 
 abbrev pub invariant-loop-key : goal.invariant-loop-key
 invariant-loop-key g l =
-    Puts (g.S.Sink.taken l.initial.sink) (g.S.Sink.taken l.sink) (g.S.Sink.failed l.initial.sink) (g.S.Sink.failed l.sink) (numbered l.machine.flights l.key l.number) (Ok tt)
+    Puts (g.S.Sink.state l.initial.sink) (g.S.Sink.state l.sink) (numbered l.machine.flights l.key l.number) (Ok tt)

@@ -6,5 +6,5 @@ use Rattle.debugger.proofs.tell.put_sent_from.Given as goal
 
 abbrev pub invariant-loop-sent : goal.invariant-loop-sent
 invariant-loop-sent g l =
-    Puts (g.S.Sink.taken l.initial.sink) (g.S.Sink.taken l.sink) (g.S.Sink.failed l.initial.sink) (g.S.Sink.failed l.sink)
+    Puts (g.S.Sink.state l.initial.sink) (g.S.Sink.state l.sink)
     (flat_map (λ k. numbered l.machine.flights l.keys (l.from + k)) (range_with_len 0 l.sent)) (Ok tt)

@@ -13,7 +13,7 @@ next ss ts w same =
     ap (λ (l : List Segment). lines ss (4096 * w) ++ lines_from l (4096 * w) 4096) same ∙ sym (lines-more ss (4096 * w) 4096) ∙ ap (lines ss) end
 
 pub loop-window-init : goal.loop-window-init
-loop-window-init g c = lines-none _ _ _
+loop-window-init g c = lines-none _ _
 
 pub loop-window-preserved : goal.loop-window-preserved
 loop-window-preserved g c =

@@ -6,5 +6,5 @@ use Rattle.disassembler.proofs.lister.put_words.Given as goal
 
 abbrev pub invariant-loop-i : goal.invariant-loop-i
 invariant-loop-i g l =
-    Puts (g.S.Sink.taken l.initial.out) (g.S.Sink.taken l.out) (g.S.Sink.failed l.initial.out) (g.S.Sink.failed l.out)
+    Puts (g.S.Sink.state l.initial.out) (g.S.Sink.state l.out)
     (flat_map (λ i. line_if (4 * (l.start + i)) (slice_index_or l.words i None)) (range_with_len 0 l.i)) (Ok tt)

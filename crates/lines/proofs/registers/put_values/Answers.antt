@@ -5,7 +5,7 @@ use Rattle.lines.proofs.registers.put_values.Goals as goal
 
 pub loop-number-init : goal.loop-number-init
 unfolding registers_text
-loop-number-init g c = puts-nothing _ _
+loop-number-init g c = puts-nothing _
 
 pub returns-in_err-put_register : goal.returns-in_err-put_register
 unfolding registers_text

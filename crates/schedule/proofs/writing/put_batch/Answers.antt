@@ -5,7 +5,7 @@ use Rattle.schedule.proofs.Repeats.{once_more, rest_of}
 use Rattle.schedule.proofs.writing.put_batch.Goals as goal
 
 pub loop-made-init : goal.loop-made-init
-loop-made-init g c = puts-nothing _ _
+loop-made-init g c = puts-nothing _
 
 pub returns-in_err-put_line : goal.returns-in_err-put_line
 returns-in_err-put_line g c =

@@ -5,4 +5,4 @@ use Rattle.schedule.proofs.writing.put_batch.Given as goal
 
 abbrev pub invariant-loop-made : goal.invariant-loop-made
 invariant-loop-made g l =
-    Puts (g.S.Sink.taken l.initial.sink) (g.S.Sink.taken l.sink) (g.S.Sink.failed l.initial.sink) (g.S.Sink.failed l.sink) (text_of (replicate l._made l.batch.choice)) (Ok tt)
+    Puts (g.S.Sink.state l.initial.sink) (g.S.Sink.state l.sink) (text_of (replicate l._made l.batch.choice)) (Ok tt)

@@ -5,7 +5,7 @@ use Rattle.schedule.proofs.Repeats.{batch_text, by_batch}
 use Rattle.schedule.proofs.writing.put_batches.Goals as goal
 
 pub loop-batch-init : goal.loop-batch-init
-loop-batch-init g c = puts-nothing _ _
+loop-batch-init g c = puts-nothing _
 
 pub returns-in_err-put_batch : goal.returns-in_err-put_batch
 returns-in_err-put_batch g c =

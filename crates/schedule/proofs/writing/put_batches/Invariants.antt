@@ -6,4 +6,4 @@ use Rattle.schedule.proofs.writing.put_batches.Given as goal
 
 abbrev pub invariant-loop-batch : goal.invariant-loop-batch
 invariant-loop-batch g l =
-    Puts (g.S.Sink.taken l.initial.sink) (g.S.Sink.taken l.sink) (g.S.Sink.failed l.initial.sink) (g.S.Sink.failed l.sink) (flat_map batch_text (take l.batch-index l.batches)) (Ok tt)
+    Puts (g.S.Sink.state l.initial.sink) (g.S.Sink.state l.sink) (flat_map batch_text (take l.batch-index l.batches)) (Ok tt)

@@ -8,10 +8,10 @@ use Rattle.simulate.proofs.counting.put_form.Goals as goal
 
 pub returns-in-Table : goal.returns-in-Table
 returns-in-Table g c =
-    subst (λ (form : Stats). Puts (g.S.Sink.taken c.args.sink.now) (g.S.Sink.taken c.put_tables.new.sink) (g.S.Sink.failed c.args.sink.now) (g.S.Sink.failed c.put_tables.new.sink)
+    subst (λ (form : Stats). Puts (g.S.Sink.state c.args.sink.now) (g.S.Sink.state c.put_tables.new.sink)
     (counts_text form (count_at c.args.tally.now.harts) c.args.harts (figure_at c.args.tally.now.machine)) c.put_tables.result) (sym c.in-Table.is) c.put_tables.ensures
 
 pub returns-in-Csv : goal.returns-in-Csv
 returns-in-Csv g c =
-    subst (λ (form : Stats). Puts (g.S.Sink.taken c.args.sink.now) (g.S.Sink.taken c.put_lines.new.sink) (g.S.Sink.failed c.args.sink.now) (g.S.Sink.failed c.put_lines.new.sink)
+    subst (λ (form : Stats). Puts (g.S.Sink.state c.args.sink.now) (g.S.Sink.state c.put_lines.new.sink)
     (counts_text form (count_at c.args.tally.now.harts) c.args.harts (figure_at c.args.tally.now.machine)) c.put_lines.result) (sym c.in-Csv.is) c.put_lines.ensures

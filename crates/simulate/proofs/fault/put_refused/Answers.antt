@@ -22,4 +22,4 @@ pub returns-in-None : goal.returns-in-None
 returns-in-None g c =
     let why = c.args.refused.now.why in
     let text = ap (λ n. refused_text why.line n c.name.result.now) c.number.ensures ∙ ap (λ name. refused_text why.line (asm_number why.fault) name) c.name.ensures in
-    puts-both (puts-same text c.in_ok-put_place.ensures) (puts-same (ap (λ line. quotation (option_map (λ l. l.now) line)) (sym c.in-None.is)) (puts-nothing _ _))
+    puts-both (puts-same text c.in_ok-put_place.ensures) (puts-same (ap (λ line. quotation (option_map (λ l. l.now) line)) (sym c.in-None.is)) (puts-nothing _))

@@ -12,5 +12,5 @@ returns-in_err-run_and_report-in-Run-clause-cut g c =
 pub returns-in_ok-image-in-Asm-clause-reported : goal.returns-in_ok-image-in-Asm-clause-reported
 returns-in_ok-image-in-Asm-clause-reported g c =
     let made = c.in_ok-image-in-Asm.ensures in
-    let nothing = puts-nothing (g.S.Sink.taken c.args.out.now) (g.S.Sink.failed c.args.out.now) in
+    let nothing = puts-nothing (g.S.Sink.state c.args.out.now) in
     rw c.in-Asm.is ([], ((made.0, made.1), refl, refl), record { whole = nothing.whole; clean = nothing.clean })

@@ -5,7 +5,7 @@ use Rattle.texts.proofs.Putting.{puts-nothing, puts-same, puts-cut_first, puts-o
 use Rattle.simulate.proofs.report.put_harts.Goals as goal
 
 pub loop-number-init : goal.loop-number-init
-loop-number-init g c = λ f belongs. puts-nothing _ _
+loop-number-init g c = λ f belongs. puts-nothing _
 
 pub returns-in_err-put_hart : goal.returns-in_err-put_hart
 returns-in_err-put_hart g c = λ f belongs.

@@ -6,4 +6,4 @@ use Rattle.simulate.proofs.report.put_harts.Given as goal
 
 abbrev pub invariant-loop-number : goal.invariant-loop-number
 invariant-loop-number g l = (f : Flat) → g.M.Engine.belongs f l.machine
-    → Puts (g.S.Sink.taken l.initial.sink) (g.S.Sink.taken l.sink) (g.S.Sink.failed l.initial.sink) (g.S.Sink.failed l.sink) (harts_text f l.number) (Ok tt)
+    → Puts (g.S.Sink.state l.initial.sink) (g.S.Sink.state l.sink) (harts_text f l.number) (Ok tt)

@@ -4,7 +4,7 @@ use Rattle.texts.proofs.Putting.{puts-nothing, puts-same, puts-cut_at, puts-one_
 use Rattle.simulate.proofs.report.put_words.Goals as goal
 
 pub loop-addr-init : goal.loop-addr-init
-loop-addr-init g c = λ f belongs. puts-nothing _ _
+loop-addr-init g c = λ f belongs. puts-nothing _
 
 pub returns-in_err-put_word : goal.returns-in_err-put_word
 returns-in_err-put_word g c = λ f belongs.

@@ -6,4 +6,4 @@ use Rattle.simulate.proofs.report.put_words.Given as goal
 
 abbrev pub invariant-loop-addr : goal.invariant-loop-addr
 invariant-loop-addr g l = (f : Flat) → g.M.Engine.belongs f l.machine
-    → Puts (g.S.Sink.taken l.initial.sink) (g.S.Sink.taken l.sink) (g.S.Sink.failed l.initial.sink) (g.S.Sink.failed l.sink) (words_text f (take l.addr-index l.words)) (Ok tt)
+    → Puts (g.S.Sink.state l.initial.sink) (g.S.Sink.state l.sink) (words_text f (take l.addr-index l.words)) (Ok tt)

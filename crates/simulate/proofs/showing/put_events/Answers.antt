@@ -4,5 +4,4 @@ use Rattle.simulate.proofs.showing.put_events.Goals as goal
 
 pub returns : goal.returns
 returns g c =
-    as_timeline (geometry g.row.SETS g.row.WAYS) c.args.choices.now c.args.steps c.args.machine.now c.put_timeline.new.machine (g.T.Sink.taken c.args.chart.now.sink) (g.T.Sink.taken c.put_timeline.new.chart.sink)
-    (g.T.Sink.failed c.args.chart.now.sink) (g.T.Sink.failed c.put_timeline.new.chart.sink) c.put_timeline.result c.put_timeline.ensures
+    as_timeline (geometry g.row.SETS g.row.WAYS) c.args.choices.now c.args.steps c.args.machine.now c.put_timeline.new.machine (g.T.Sink.state c.args.chart.now.sink) (g.T.Sink.state c.put_timeline.new.chart.sink) c.put_timeline.result c.put_timeline.ensures

@@ -4,5 +4,4 @@ use Rattle.simulate.proofs.showing.put_image.Goals as goal
 
 pub returns : goal.returns
 returns g c =
-    as_picture (geometry g.row.SETS g.row.WAYS) c.args.choices.now c.args.steps c.args.machine.now c.put_picture.new.machine (g.S.Sink.taken c.args.sink.now) (g.S.Sink.taken c.put_picture.new.sink)
-    (g.S.Sink.failed c.args.sink.now) (g.S.Sink.failed c.put_picture.new.sink) c.put_picture.result c.put_picture.ensures
+    as_picture (geometry g.row.SETS g.row.WAYS) c.args.choices.now c.args.steps c.args.machine.now c.put_picture.new.machine (g.S.Sink.state c.args.sink.now) (g.S.Sink.state c.put_picture.new.sink) c.put_picture.result c.put_picture.ensures

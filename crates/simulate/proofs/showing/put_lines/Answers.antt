@@ -4,5 +4,4 @@ use Rattle.simulate.proofs.showing.put_lines.Goals as goal
 
 pub returns : goal.returns
 returns g c =
-    as_trace (geometry g.row.SETS g.row.WAYS) c.args.choices.now c.args.steps c.args.machine.now c.put_trace.new.machine (g.S.Sink.taken c.args.sink.now) (g.S.Sink.taken c.put_trace.new.sink)
-    (g.S.Sink.failed c.args.sink.now) (g.S.Sink.failed c.put_trace.new.sink) c.put_trace.result c.put_trace.ensures
+    as_trace (geometry g.row.SETS g.row.WAYS) c.args.choices.now c.args.steps c.args.machine.now c.put_trace.new.machine (g.S.Sink.state c.args.sink.now) (g.S.Sink.state c.put_trace.new.sink) c.put_trace.result c.put_trace.ensures

@@ -7,7 +7,6 @@ use Rattle.simulate.proofs.showing.put_view.Goals as goal
 pub returns-in-Err : goal.returns-in-Err
 returns-in-Err g c = (
   refl,
-  unflushed c.args.form (geometry g.row.SETS g.row.WAYS) c.args.choices.now c.args.steps c.args.machine.now c.put_form-put.new.machine (g.T.Sink.taken c.args.chart.now.sink) (g.T.Sink.taken c.put_form-put.new.chart.sink) (g.T.Sink.taken c.flush.new.self)
-      (g.T.Sink.failed c.args.chart.now.sink) (g.T.Sink.failed c.put_form-put.new.chart.sink) (g.T.Sink.failed c.flush.new.self) c.in-Err.field-0 c.in-Ok.ensures
+  unflushed c.args.form (geometry g.row.SETS g.row.WAYS) c.args.choices.now c.args.steps c.args.machine.now c.put_form-put.new.machine (g.T.Sink.state c.args.chart.now.sink) (g.T.Sink.state c.put_form-put.new.chart.sink) (g.T.Sink.state c.flush.new.self) c.in-Err.field-0 c.in-Ok.ensures
       (record { whole = tt; clean = tt; part = c.in-Err.ensures.part; fault = c.in-Err.ensures.fault }),
 )

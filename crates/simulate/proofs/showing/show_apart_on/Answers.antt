@@ -6,8 +6,7 @@ use Rattle.simulate.proofs.showing.show_apart_on.Goals as goal
 pub returns-in_err-begun : goal.returns-in_err-begun
 returns-in_err-begun g c =
     let p = err_from_is_err_and c.from_residual.result c.from_residual.ensures.1 in
-    rw (p.1, p.2) (not_begun_apart c.args.run.now c.args.file.now c.args.schedule.now c.args.form c.args.path.now (g.T.Sink.taken c.args.chart.now.sink) (g.O.Sink.taken c.args.out.now)
-    (g.T.Sink.failed c.args.chart.now.sink) (g.O.Sink.failed c.args.out.now) c.in_err-begun.field-0.0 c.in_err-begun.ensures.why c.in_err-begun.ensures.unput)
+    rw (p.1, p.2) (not_begun_apart c.args.run.now c.args.file.now c.args.schedule.now c.args.form c.args.path.now (g.T.Sink.state c.args.chart.now.sink) (g.O.Sink.state c.args.out.now) c.in_err-begun.field-0.0 c.in_err-begun.ensures.why c.in_err-begun.ensures.unput)
 
 pub finish_apart-requires : goal.finish_apart-requires
 finish_apart-requires g c = (omega arith, (c.requires.cache, (c.args.file.now, c.args.schedule.now, c.in_ok-begun.ensures.begun)))

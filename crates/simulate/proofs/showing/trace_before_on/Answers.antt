@@ -6,7 +6,7 @@ use Rattle.simulate.proofs.showing.trace_before_on.Goals as goal
 pub returns-in_err-begun : goal.returns-in_err-begun
 returns-in_err-begun g c =
     let p = err_from_is_err_and c.from_residual.result c.from_residual.ensures.1 in
-    rw (p.1, p.2) (not_begun_before c.args.run.now c.args.file.now c.args.schedule.now (g.O.Sink.taken c.args.out.now) (g.O.Sink.failed c.args.out.now)
+    rw (p.1, p.2) (not_begun_before c.args.run.now c.args.file.now c.args.schedule.now (g.O.Sink.state c.args.out.now)
     c.in_err-begun.field-0.0 c.in_err-begun.ensures.why c.in_err-begun.ensures.unput)
 
 pub finish_before-requires : goal.finish_before-requires

@@ -1,7 +1,7 @@
 //! The line that shows a run's progress.
 use super::taken;
-use answering::Meter;
 use machine::Progress;
+use simulate::Meter;
 use std::io;
 use std::process::Abort;
 use std::sync::atomic::{AtomicU64, Ordering};

@@ -2,7 +2,7 @@ use Rattle.texts.proofs.Putting.{puts-nothing, puts-cut_at}
 use Rattle.texts.proofs.put.put_all.Goals as goal
 
 pub loop-piece-init : goal.loop-piece-init
-loop-piece-init g c = puts-nothing _ _
+loop-piece-init g c = puts-nothing _
 
 pub returns-in_err-put : goal.returns-in_err-put
 returns-in_err-put g c =

@@ -5,4 +5,4 @@ use Rattle.texts.proofs.put.put_all.Given as goal
 
 abbrev pub invariant-loop-piece : goal.invariant-loop-piece
 invariant-loop-piece g l =
-    Puts (g.S.Sink.taken l.initial.sink) (g.S.Sink.taken l.sink) (g.S.Sink.failed l.initial.sink) (g.S.Sink.failed l.sink) (flat_map (λ p. p.now) (take l.piece-index l.pieces)) (Ok tt)
+    Puts (g.S.Sink.state l.initial.sink) (g.S.Sink.state l.sink) (flat_map (λ p. p.now) (take l.piece-index l.pieces)) (Ok tt)

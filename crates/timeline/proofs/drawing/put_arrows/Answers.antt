@@ -4,7 +4,7 @@ use Rattle.timeline.specs.Drawings.{arrow_of}
 use Rattle.timeline.proofs.drawing.put_arrows.Goals as goal
 
 pub loop-row-init : goal.loop-row-init
-loop-row-init g c = puts-nothing _ _
+loop-row-init g c = puts-nothing _
 
 pub returns-in_err-put_arrow_if : goal.returns-in_err-put_arrow_if
 returns-in_err-put_arrow_if g c =

@@ -4,7 +4,7 @@ use Rattle.timeline.specs.Drawings.{bar_of}
 use Rattle.timeline.proofs.drawing.put_bars.Goals as goal
 
 pub loop-row-init : goal.loop-row-init
-loop-row-init g c = puts-nothing _ _
+loop-row-init g c = puts-nothing _
 
 pub returns-in_err-put_bar_if : goal.returns-in_err-put_bar_if
 returns-in_err-put_bar_if g c =

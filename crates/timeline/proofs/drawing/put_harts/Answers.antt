@@ -3,7 +3,7 @@ use Rattle.timeline.specs.Drawings.{hart_lane}
 use Rattle.timeline.proofs.drawing.put_harts.Goals as goal
 
 pub loop-hart-init : goal.loop-hart-init
-loop-hart-init g c = puts-nothing _ _
+loop-hart-init g c = puts-nothing _
 
 pub returns-in_err-put_hart : goal.returns-in_err-put_hart
 returns-in_err-put_hart g c = puts-cut_first (hart_lane c.args.rows) c.loop-hart-test.true c.loop-hart.invariant c.in_err-put_hart.was c.put_hart.ensures c.from_residual.ensures.0

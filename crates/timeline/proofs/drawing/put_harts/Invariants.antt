@@ -6,4 +6,4 @@ use Rattle.timeline.proofs.drawing.put_harts.Given as goal
 
 abbrev pub invariant-loop-hart : goal.invariant-loop-hart
 invariant-loop-hart g l =
-    Puts (g.S.Sink.taken l.initial.sink) (g.S.Sink.taken l.sink) (g.S.Sink.failed l.initial.sink) (g.S.Sink.failed l.sink) (flat_map (hart_lane l.rows) (range_with_len 0 l.hart)) (Ok tt)
+    Puts (g.S.Sink.state l.initial.sink) (g.S.Sink.state l.sink) (flat_map (hart_lane l.rows) (range_with_len 0 l.hart)) (Ok tt)

@@ -4,7 +4,7 @@ use Rattle.timeline.specs.Shapes.{step_of}
 use Rattle.timeline.proofs.drawing.put_steps.Goals as goal
 
 pub loop-row-init : goal.loop-row-init
-loop-row-init g c = puts-nothing _ _
+loop-row-init g c = puts-nothing _
 
 pub returns-in_err-put_step : goal.returns-in_err-put_step
 returns-in_err-put_step g c =

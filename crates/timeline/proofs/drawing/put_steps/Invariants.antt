@@ -6,4 +6,4 @@ use Rattle.timeline.proofs.drawing.put_steps.Given as goal
 
 abbrev pub invariant-loop-row : goal.invariant-loop-row
 invariant-loop-row g l =
-    Puts (g.S.Sink.taken l.initial.sink) (g.S.Sink.taken l.sink) (g.S.Sink.failed l.initial.sink) (g.S.Sink.failed l.sink) (flat_map (step_of l.harts) (take l.row-index l.rows)) (Ok tt)
+    Puts (g.S.Sink.state l.initial.sink) (g.S.Sink.state l.sink) (flat_map (step_of l.harts) (take l.row-index l.rows)) (Ok tt)

@@ -5,7 +5,7 @@ use Rattle.timeline.proofs.Sending.{rest_from, one_more, all, both}
 use Rattle.timeline.proofs.events.put_all_sent.Goals as goal
 
 pub loop-key-init : goal.loop-key-init
-loop-key-init g c = puts-nothing _ _
+loop-key-init g c = puts-nothing _
 
 pub returns-in_err-put_sent : goal.returns-in_err-put_sent
 returns-in_err-put_sent g c =

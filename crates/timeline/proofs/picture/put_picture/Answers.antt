@@ -7,12 +7,12 @@ use Rattle.timeline.proofs.picture.put_picture.Goals as goal
 
 pub returns-in-Ok : goal.returns-in-Ok
 returns-in-Ok g c =
-    pictured (geometry g.row.SETS g.row.WAYS) c.args.choices.now c.args.steps c.args.machine.now c.noted.new.machine c.in_ok-rows.rows.items (g.S.Sink.taken c.args.sink.now) (g.S.Sink.taken c.put_drawing.new.sink) (g.S.Sink.failed c.args.sink.now) (g.S.Sink.failed c.put_drawing.new.sink)
+    pictured (geometry g.row.SETS g.row.WAYS) c.args.choices.now c.args.steps c.args.machine.now c.noted.new.machine c.in_ok-rows.rows.items (g.S.Sink.state c.args.sink.now) (g.S.Sink.state c.put_drawing.new.sink)
     c.in_ok-rows.ensures.ok
     (puts-same (ap₂ drawn c.harts-harts.ensures.value c.deref.ensures.value) c.in-Ok.ensures)
 
 pub returns : goal.returns
 returns g c =
-    broken (geometry g.row.SETS g.row.WAYS) c.args.choices.now c.args.steps c.args.machine.now c.noted.new.machine c.in_ok-rows.rows.items (g.S.Sink.taken c.args.sink.now) (g.S.Sink.taken c.put_drawing.new.sink) (g.S.Sink.failed c.args.sink.now) (g.S.Sink.failed c.put_drawing.new.sink)
+    broken (geometry g.row.SETS g.row.WAYS) c.args.choices.now c.args.steps c.args.machine.now c.noted.new.machine c.in_ok-rows.rows.items (g.S.Sink.state c.args.sink.now) (g.S.Sink.state c.put_drawing.new.sink)
     c.in-Err.field-0 c.in_ok-rows.ensures.ok
     (puts-same (ap₂ drawn c.harts-harts.ensures.value c.deref.ensures.value) c.in-Err.ensures)

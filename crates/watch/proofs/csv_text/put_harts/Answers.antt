@@ -5,7 +5,7 @@ use Rattle.watch.specs.CountTexts.{csv_lines}
 use Rattle.watch.proofs.csv_text.put_harts.Goals as goal
 
 pub loop-number-init : goal.loop-number-init
-loop-number-init g c = puts-nothing _ _
+loop-number-init g c = puts-nothing _
 
 pub returns-in_err-put_hart : goal.returns-in_err-put_hart
 returns-in_err-put_hart g c =

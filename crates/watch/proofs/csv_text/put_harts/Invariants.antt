@@ -7,4 +7,4 @@ use Rattle.watch.proofs.csv_text.put_harts.Given as goal
 
 abbrev pub invariant-loop-number : goal.invariant-loop-number
 invariant-loop-number g l =
-    Puts (g.S.Sink.taken l.initial.sink) (g.S.Sink.taken l.sink) (g.S.Sink.failed l.initial.sink) (g.S.Sink.failed l.sink) (flat_map (csv_lines (count_at l.counts)) (range_with_len 0 l.number)) (Ok tt)
+    Puts (g.S.Sink.state l.initial.sink) (g.S.Sink.state l.sink) (flat_map (csv_lines (count_at l.counts)) (range_with_len 0 l.number)) (Ok tt)

@@ -4,7 +4,7 @@ use Rattle.watch.specs.CountTexts.{csv_line}
 use Rattle.watch.proofs.csv_text.put_kinds.Goals as goal
 
 pub loop-kind-init : goal.loop-kind-init
-loop-kind-init g c = puts-nothing _ _
+loop-kind-init g c = puts-nothing _
 
 pub returns-in_err-put_line : goal.returns-in_err-put_line
 returns-in_err-put_line g c =

@@ -7,4 +7,4 @@ use Rattle.watch.proofs.csv_text.put_kinds.Given as goal
 
 abbrev pub invariant-loop-kind : goal.invariant-loop-kind
 invariant-loop-kind g l =
-    Puts (g.S.Sink.taken l.initial.sink) (g.S.Sink.taken l.sink) (g.S.Sink.failed l.initial.sink) (g.S.Sink.failed l.sink) (flat_map (csv_line (count_at l.counts) l.hart) (take l.kind-index l.kinds)) (Ok tt)
+    Puts (g.S.Sink.state l.initial.sink) (g.S.Sink.state l.sink) (flat_map (csv_line (count_at l.counts) l.hart) (take l.kind-index l.kinds)) (Ok tt)

@@ -4,7 +4,7 @@ use Rattle.watch.specs.MachineTexts.{figure_line}
 use Rattle.watch.proofs.machine_text.put_lines.Goals as goal
 
 pub loop-figure-init : goal.loop-figure-init
-loop-figure-init g c = puts-nothing _ _
+loop-figure-init g c = puts-nothing _
 
 pub returns-in_err-put_line : goal.returns-in_err-put_line
 returns-in_err-put_line g c =

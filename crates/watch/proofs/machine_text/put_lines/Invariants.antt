@@ -7,4 +7,4 @@ use Rattle.watch.proofs.machine_text.put_lines.Given as goal
 
 abbrev pub invariant-loop-figure : goal.invariant-loop-figure
 invariant-loop-figure g l =
-    Puts (g.S.Sink.taken l.initial.sink) (g.S.Sink.taken l.sink) (g.S.Sink.failed l.initial.sink) (g.S.Sink.failed l.sink) (flat_map (figure_line (figure_at l.traffic)) (take l.figure-index l.figures)) (Ok tt)
+    Puts (g.S.Sink.state l.initial.sink) (g.S.Sink.state l.sink) (flat_map (figure_line (figure_at l.traffic)) (take l.figure-index l.figures)) (Ok tt)

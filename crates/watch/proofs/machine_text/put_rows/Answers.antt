@@ -4,7 +4,7 @@ use Rattle.watch.specs.MachineTexts.{figure_row}
 use Rattle.watch.proofs.machine_text.put_rows.Goals as goal
 
 pub loop-figure-init : goal.loop-figure-init
-loop-figure-init g c = puts-nothing _ _
+loop-figure-init g c = puts-nothing _
 
 pub returns-in_err-put_row : goal.returns-in_err-put_row
 returns-in_err-put_row g c =

@@ -5,7 +5,7 @@ use Rattle.watch.specs.CountTexts.{cell}
 use Rattle.watch.proofs.table_text.put_cells.Goals as goal
 
 pub loop-number-init : goal.loop-number-init
-loop-number-init g c = puts-nothing _ _
+loop-number-init g c = puts-nothing _
 
 pub returns-in_err-put_cell : goal.returns-in_err-put_cell
 returns-in_err-put_cell g c =

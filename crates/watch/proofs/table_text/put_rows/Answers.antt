@@ -4,7 +4,7 @@ use Rattle.watch.specs.CountTexts.{row_text}
 use Rattle.watch.proofs.table_text.put_rows.Goals as goal
 
 pub loop-row-init : goal.loop-row-init
-loop-row-init g c = puts-nothing _ _
+loop-row-init g c = puts-nothing _
 
 pub returns-in_err-put_row : goal.returns-in_err-put_row
 returns-in_err-put_row g c =

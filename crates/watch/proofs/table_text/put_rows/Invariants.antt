@@ -7,4 +7,4 @@ use Rattle.watch.proofs.table_text.put_rows.Given as goal
 
 abbrev pub invariant-loop-row : goal.invariant-loop-row
 invariant-loop-row g l =
-    Puts (g.S.Sink.taken l.initial.sink) (g.S.Sink.taken l.sink) (g.S.Sink.failed l.initial.sink) (g.S.Sink.failed l.sink) (flat_map (row_text (count_at l.counts) l.harts) (take l.row-index l.rows)) (Ok tt)
+    Puts (g.S.Sink.state l.initial.sink) (g.S.Sink.state l.sink) (flat_map (row_text (count_at l.counts) l.harts) (take l.row-index l.rows)) (Ok tt)

@@ -1,8 +1,8 @@
 use Rattle.machine.specs.States.{geometry}
-use Rattle.board.proofs.Replays.{replay_flat}
+use Rattle.board.proofs.Courses.{kept_end}
 use Rattle.board.proofs.board.Board.finish.Goals as goal
 
-pub returns-clause-flat : goal.returns-clause-flat
-returns-clause-flat g c =
+pub returns-clause-end : goal.returns-clause-end
+returns-clause-end g c =
     let b = c.self.inside in
-    replay_flat (geometry g.row.SETS g.row.WAYS) b.program.now b.harts b.size b.history.items b.machine b.entries.items c.self.invariant.2 c.self.invariant.0
+    kept_end (geometry g.row.SETS g.row.WAYS) b.code.program.now b.harts b.size (g.J.Journal.tells b.journal) b.machine c.self.invariant.2 c.self.invariant.0

@@ -3,4 +3,4 @@ use Rattle.board.specs.Visits.{IsVisitOf}
 use Rattle.board.proofs.board.Board.visit.Given as goal
 
 abbrev pub invariant-loop-made : goal.invariant-loop-made
-invariant-loop-made g l = IsVisitOf (geometry g.row.SETS g.row.WAYS) l.id l.made l.fn.self l.self
+invariant-loop-made g l = IsVisitOf (geometry g.row.SETS g.row.WAYS) g.J.Journal.tells l.id l.made l.fn.self l.self

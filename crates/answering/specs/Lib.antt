@@ -1,3 +1,0 @@
-pub mod Stops
-pub mod Threaded
-pub mod ProgressLines

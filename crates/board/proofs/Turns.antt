@@ -1,0 +1,35 @@
+-- What was made of a board's machine and journal is a turn, or a lease that is settled.
+use Rattle.std.proofs.Common.{◌≡◌, ℕ, List, length, Option, Some, Result, Ok, Err, refl, sym, subst, ◌∙◌}
+use Rattle.std.specs.Prelude.{OnOk}
+use Rattle.words.specs.declared.entry.Entry.{Entry}
+use Rattle.words.specs.declared.entry.Step.{Step}
+use Rattle.protocol.specs.Caches.{Geometry}
+use Rattle.machine.specs.States.{State}
+use Rattle.machine.specs.Lent.{with_hart}
+use Rattle.schedule.specs.declared.choices.Choice.{Choice}
+use Rattle.schedule.specs.Follows.{Makes}
+use Rattle.board.specs.Leases.{Lent}
+use Rattle.board.specs.Histories.{Told, TellsMore, IsChoiceOf, LeadsAlone, one_step, core_steps}
+use Rattle.board.specs.Boards.{Held, IsTurn, IsSettled}
+
+module _ {J : Type 0} (g : Geometry) (tells : J → Told → Type 0) (b : Held J) (m : State) (j : J) where
+  same_choice : (step : Step) (c x : Choice) → IsChoiceOf g.sets b.machine step c → Some c ≡ Some x → IsChoiceOf g.sets b.machine step x
+  same_choice step c x chosen same = let is : c ≡ x = cc in subst (IsChoiceOf g.sets b.machine step) is chosen
+
+  pub turned : {E : Type 0} (step : Step) (c : Choice) (r : Result Unit E) → IsChoiceOf g.sets b.machine step c
+      → OnOk r ((e : Option Entry) × Makes g b.machine (Some step) e m × TellsMore tells b.journal (one_step step e (Some c)) j)
+      → OnOk r ((e : Option Entry) × IsTurn g tells b step e (record b { machine = m; journal = j }))
+  turned step c (Ok _) chosen (e, made, told) = (e, record { made = made; choice = Some c; chosen = λ x same. same_choice step c x chosen same; told = told; rest = refl })
+  turned step c (Err _) chosen made = tt {0}
+
+  pub settled : {T : Type 0} (traces : T → List Entry → Type 0) (l : Lent T) → m ≡ with_hart b.machine l.id l.after → LeadsAlone g traces b.machine l m
+      → ((es : List Entry) → traces l.trace es → length es ≡ l.steps → TellsMore tells b.journal (core_steps l.id es) j)
+      → IsSettled tells traces b l (record b { machine = m; journal = j })
+  settled traces l is (es, traced, count, runs, leads) noted =
+      record { entries = es; traced = traced; count = count; told = noted es traced count; rest = λ k. record b { machine = is k; journal = j } }
+
+-- what is noted of a lease's number, steps and trace is noted of the lease
+pub noted_of : {J T : Type 0} (traces : T → List Entry → Type 0) (tells : J → Told → Type 0) (x y : J) (l : Lent T) (i n : ℕ) (t : T) → i ≡ l.id → n ≡ l.steps → t ≡ l.trace
+    → ((es : List Entry) → traces t es → length es ≡ n → TellsMore tells x (core_steps i es) y) → (es : List Entry) → traces l.trace es → length es ≡ l.steps → TellsMore tells x (core_steps l.id es) y
+noted_of traces tells x y l i n t is_id is_steps is_trace noted es traced count =
+    subst (λ (k : ℕ). TellsMore tells x (core_steps k es) y) is_id (noted es (subst (λ u. traces u es) (sym is_trace) traced) (count ∙ sym is_steps))

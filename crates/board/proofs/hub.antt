@@ -1,4 +1,0 @@
-mod Courses
-mod Locals
-mod Names
-mod Payments

@@ -1,0 +1,163 @@
+ghost use Rattle.std.specs.Prelude.{◌≡◌, ◌<◌, ◌∷◌, [], List, length, IsTrue, IsFalse};
+ghost use Rattle.words.specs.declared.entry.Entry.{Entry as EntryValue};
+ghost use Rattle.hart.specs.declared.reply.Local.TheVariants.{NeedsHub};
+ghost use Rattle.hart.specs.Locals.{FollowsAlone};
+ghost use Rattle.hart.specs.Rows.{setting_of};
+ghost use Rattle.machine.specs.Lent.{RetiresAlone};
+ghost use Rattle.board.specs.Leases.{most_steps, TracesMore};
+
+use arrayvec::ArrayVec;
+use hart::{Hart, Local};
+use std::marker::Model;
+use table::Text;
+use words::{AbortCause, Entry, HartId};
+
+/// The most steps that a lease has.
+pub const STEPS: usize = 64;
+
+/// The place where the quick steps of a hart that is lent are inlined.
+const LENT: usize = 3;
+
+/// What a lease keeps of the entries of its steps.
+pub trait Trace<const SETS: usize, const WAYS: usize>: Drop {
+    /// These are the entries, as the trace tells them.
+    ghost traces: { Self → List EntryValue → Type 0 };
+
+    /// That of no step.
+    fn new() -> Self
+        ensures { traces result [] };
+
+    /// Becomes that of no step.
+    fn clear(&mut self)
+        ensures { traces self.new [] };
+
+    /// Has a hart retire a word by itself, and keeps its entry. The answer is whether there was a word that the hart retires so.
+    fn retire(&mut self, hart: &mut Hart<SETS, WAYS>, text: &Text<'_>) -> bool
+        requires { (es : List EntryValue) × traces self.old es × (length es < most_steps) }
+        ensures made { IsTrue result → (e : EntryValue) × RetiresAlone SETS text.now.segments.now hart.old e hart.new × TracesMore traces self.old (e ∷ []) self.new }
+        ensures none { IsFalse result → FollowsAlone SETS (setting_of text.now.segments.now hart.old) hart.old hart.new NeedsHub × (self.new ≡ self.old) };
+}
+
+/// Keeps no entry, and tells of any.
+#[derive(Clone, Copy, Debug, PartialEq, Eq)]
+pub struct Untraced;
+
+impl<const SETS: usize, const WAYS: usize> Trace<SETS, WAYS> for Untraced {
+    ghost traces = { λ _ es. Unit {0} };
+
+    fn new() -> Self {
+        Untraced
+    }
+
+    fn clear(&mut self) {}
+
+    #[inline(always)]
+    fn retire(&mut self, hart: &mut Hart<SETS, WAYS>, text: &Text<'_>) -> bool {
+        retire(hart, text)
+    }
+}
+
+/// Has a hart retire a word by itself, quickly if the hart takes it so. The answer is whether there was one.
+#[inline(always)]
+fn retire<const SETS: usize, const WAYS: usize>(
+    hart: &mut Hart<SETS, WAYS>,
+    text: &Text<'_>,
+) -> bool
+    ensures made { IsTrue result → (e : EntryValue) × RetiresAlone SETS text.now.segments.now hart.old e hart.new }
+    ensures none { IsFalse result → FollowsAlone SETS (setting_of text.now.segments.now hart.old) hart.old hart.new NeedsHub }
+{
+    match hart.advance::<LENT>(text) {
+        Some(_) => true,
+        None => retire_any(hart, text),
+    }
+}
+
+/// Has a hart retire any word that it retires by itself. The answer is whether there was one.
+#[inline(never)]
+fn retire_any<const SETS: usize, const WAYS: usize>(
+    hart: &mut Hart<SETS, WAYS>,
+    text: &Text<'_>,
+) -> bool
+    ensures made { IsTrue result → (e : EntryValue) × RetiresAlone SETS text.now.segments.now hart.old e hart.new }
+    ensures none { IsFalse result → FollowsAlone SETS (setting_of text.now.segments.now hart.old) hart.old hart.new NeedsHub }
+{
+    match hart.local(text) {
+        Local::Retired(_) => true,
+        Local::NeedsHub => false,
+    }
+}
+
+/// The entry of a step. `Entry` has no default value, which the places of a list that aren't used yet have to have.
+#[derive(Clone, Copy, Debug, PartialEq, Eq)]
+pub(crate) struct Retired {
+    pub(crate) entry: Entry,
+}
+
+impl Model for Retired {
+    ghost use Rattle.words.specs.declared.entry.Entry.{Entry};
+
+    ghost Value = { Entry };
+
+    ghost view = { λ r. r.entry };
+
+    ghost inverse = { λ e. record { entry = e } };
+}
+
+impl Default for Retired {
+    fn default() -> Self {
+        let nobody = HartId::new(0);
+        Retired {
+            entry: Entry::Abort {
+                hart: nobody,
+                cause: AbortCause::Asked,
+            },
+        }
+    }
+}
+
+/// Keeps all entries.
+#[derive(Drop)]
+pub struct Traced {
+    entries: ArrayVec<Retired, STEPS>,
+}
+
+impl Model for Traced {
+    ghost use Rattle.std.specs.Prelude.{List};
+    ghost use Rattle.words.specs.declared.entry.Entry.{Entry};
+
+    ghost Value = { List Entry };
+
+    ghost view = { λ t. t.entries.items };
+}
+
+impl Traced {
+    pub(crate) fn entries(&self) -> &[Retired]
+        ensures { result.now ≡ self.now }
+    {
+        self.entries.as_slice()
+    }
+}
+
+impl<const SETS: usize, const WAYS: usize> Trace<SETS, WAYS> for Traced {
+    ghost traces = { λ t es. t ≡ es };
+
+    fn new() -> Self {
+        Traced {
+            entries: ArrayVec::new(),
+        }
+    }
+
+    fn clear(&mut self) {
+        self.entries.clear();
+    }
+
+    fn retire(&mut self, hart: &mut Hart<SETS, WAYS>, text: &Text<'_>) -> bool {
+        match hart.local(text) {
+            Local::Retired(entry) => {
+                self.entries.push(Retired { entry });
+                true
+            }
+            Local::NeedsHub => false,
+        }
+    }
+}

@@ -1,5 +1,0 @@
-mod Words
-mod Lists
-mod Reading
-mod Sent
-mod Showing

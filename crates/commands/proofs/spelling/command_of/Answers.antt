@@ -1,9 +1,0 @@
-use Rattle.std.proofs.Common.{◌∙◌, sym, ◌∷◌}
-use Rattle.schedule.specs.Spelling.{words_of}
-use Rattle.commands.proofs.Words.{told}
-use Rattle.commands.proofs.spelling.command_of.Goals as goal
-
-pub returns-in-Some : goal.returns-in-Some
-returns-in-Some c =
-    c.with_words.ensures
-    ∙ told c.args.line.now (c.in-Some.verb.now ∷ words_of c.in-Some.words.now) (sym c.is_comment.ensures ∙ c.if-is_comment.false) c.in-Some.ensures

@@ -1,0 +1,96 @@
+-- What each look at a machine shows.
+use Rattle.std.specs.Prelude.{ℕ, ◌≡◌, ◌/◌, ◌++◌, List, [], ◌∷◌, Option, Some, None, IfSome, Result, Ok, Err, false, codes}
+use Rattle.std.specs.Option.{option_map, option_map_or, option_or}
+use Rattle.std.specs.List.{flat_map, range_with_len, slice_index_or}
+use Rattle.words.specs.Limits.{block_bytes}
+use Rattle.words.specs.Bytes.{number_at}
+use Rattle.words.specs.declared.entry.Width.TheVariants.{Word as word_wide}
+use Rattle.words.specs.declared.sink.SinkFault.{SinkFault}
+use Rattle.words.specs.Sinks.{SinkState}
+use Rattle.table.specs.Program.{word_at}
+use Rattle.network.specs.declared.net.Flight.{Flight}
+use Rattle.network.specs.Flights.{IsNext, NoneAfter}
+use Rattle.directory.specs.declared.entry.DirEntry.{DirEntry}
+use Rattle.directory.specs.Entries.{shown_entry}
+use Rattle.protocol.specs.Machine.{Machine}
+use Rattle.protocol.specs.Network.{LiesBelow}
+use Rattle.protocol.specs.Values.{peek, raw, view}
+use Rattle.texts.specs.Puts.{Puts}
+use Rattle.disassembler.specs.Listing.{line}
+use Rattle.lines.specs.Blocks.{directory_text, word_line}
+use Rattle.lines.specs.Registers.{registers_lines, status_text}
+use Rattle.machine.specs.States.{State, setting_of, shown}
+use Rattle.machine.specs.Reads.{info_of, log_word}
+use Rattle.machine.specs.Turns.{is_held}
+use Rattle.debugger.specs.declared.commands.command.Look.{Look}
+use Rattle.debugger.specs.declared.commands.command.Look.TheVariants.{Regs, Word, Raw, View, Line, Dir, Dirs, Tx, Log, Dis, Messages, Harts, Help}
+use Rattle.debugger.specs.declared.commands.fault.DebugFault.{DebugFault}
+use Rattle.debugger.specs.declared.commands.fault.DebugFault.TheVariants.{Device}
+use Rattle.debugger.specs.Manual.{help_text}
+use Rattle.debugger.specs.Refusals.{hart_fault, word_fault, log_fault, text_fault}
+use Rattle.debugger.specs.LookTexts.{cached_line, tx_line, entry_line, message_line, hart_line}
+
+-- why a look is refused, if it is: its hart is tested first, and then its address
+abbrev pub refusal : State → Look → Option DebugFault
+refusal m (Regs h) = hart_fault (setting_of m) h
+refusal m (Word a) = word_fault (setting_of m) a
+refusal m (Raw a) = word_fault (setting_of m) a
+refusal m (View h a) = option_or (hart_fault (setting_of m) h) (word_fault (setting_of m) a)
+refusal m (Line h a) = option_or (hart_fault (setting_of m) h) (word_fault (setting_of m) a)
+refusal m (Dir a) = word_fault (setting_of m) a
+refusal m Dirs = None
+refusal m (Tx h) = hart_fault (setting_of m) h
+refusal m (Log a) = log_fault m a
+refusal m (Dis b) = text_fault (setting_of m) b
+refusal m Messages = None
+refusal m Harts = None
+refusal m Help = None
+
+-- these are the keys of the messages in flight that were sent after one, the oldest first: each was sent next after the one before
+abbrev pub AreSentAfter : List (Option Flight) → Option ℕ → List ℕ → Type 0
+AreSentAfter flights last [] = NoneAfter flights last
+AreSentAfter flights last (key ∷ keys) = IsNext flights last key × AreSentAfter flights (Some key) keys
+
+-- the line of an entry that the directory keeps. It keeps just those that aren't the first one, by rising block (see `Machine::kept` and `used`)
+abbrev pub kept_line : ℕ × DirEntry → List ℕ
+kept_line e = entry_line e.0 (shown_entry e.1)
+
+-- the line of the message under a key
+abbrev pub flight_line : ℕ → State → ℕ → List ℕ
+flight_line sets m key = message_line (option_map (λ f. f.message) (slice_index_or m.flights key None))
+    (option_map_or (is_held (shown sets m)) ((shown sets m).net key) false)
+
+-- the line of hart i
+abbrev pub line_of_hart : Machine → ℕ → List ℕ
+line_of_hart w i = hart_line i (w.harts i).pc (status_text (w.harts i).status) (option_map info_of (w.harts i).tx) (option_map (λ r. r.block) (w.harts i).request)
+
+-- the line of a word at an address, where bytes are read so
+abbrev pub word_text : ℕ → (ℕ → ℕ) → List ℕ
+word_text a bytes = word_line a (number_at bytes a word_wide)
+
+-- the text that a look shows. The keys are any number below which all messages in flight lie
+abbrev pub IsTextOf : ℕ → State → Look → List ℕ → Type 0
+IsTextOf sets m (Regs h) t = t ≡ registers_lines ((shown sets m).harts h).regs ((shown sets m).harts h).pc ((shown sets m).harts h).status
+IsTextOf sets m (Word a) t = (keys : ℕ) → LiesBelow keys (shown sets m).net → t ≡ word_text a (peek keys (shown sets m))
+IsTextOf sets m (Raw a) t = (keys : ℕ) → LiesBelow keys (shown sets m).net → t ≡ word_text a (raw keys (shown sets m))
+IsTextOf sets m (View h a) t = (keys : ℕ) → LiesBelow keys (shown sets m).net → t ≡ word_text a (view keys (shown sets m) h)
+IsTextOf sets m (Line h a) t = t ≡ cached_line (((shown sets m).harts h).lines (a / block_bytes))
+IsTextOf sets m (Dir a) t = t ≡ directory_text ((shown sets m).entries (a / block_bytes)) ++ codes "\n"
+IsTextOf sets m Dirs t = t ≡ flat_map kept_line m.directory.kept
+IsTextOf sets m (Tx h) t = t ≡ tx_line (option_map info_of ((shown sets m).harts h).tx)
+IsTextOf sets m (Log a) t = IfSome (log_word m a) (λ v. t ≡ word_line a v)
+IsTextOf sets m (Dis b) t = IfSome (word_at (setting_of m).segments b) (λ w. t ≡ line b w)
+IsTextOf sets m Messages t = (keys : List ℕ) × AreSentAfter m.flights None keys × (t ≡ flat_map (flight_line sets m) keys)
+IsTextOf sets m Harts t = t ≡ flat_map (line_of_hart (shown sets m)) (range_with_len 0 (setting_of m).count)
+IsTextOf sets m Help t = t ≡ help_text
+
+-- what a look shows was put, and that came out so
+pub record Shows (sets : ℕ) (m : State) (look : Look) (before after : SinkState) (put : Result Unit SinkFault) : Type 0 where
+  pub text : List ℕ
+  pub is : IsTextOf sets m look text
+  pub puts : Puts before after text put
+
+-- a put that failed is told as Device
+abbrev pub told : Result Unit SinkFault → Result Unit DebugFault
+told (Ok done) = Ok done
+told (Err fault) = Err Device

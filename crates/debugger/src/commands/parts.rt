@@ -1,0 +1,42 @@
+//! Parts of lines.
+ghost use Rattle.std.specs.Prelude.{◌≡◌};
+ghost use Rattle.debugger.specs.LookTexts as spec;
+
+use arrayvec::ArrayString;
+use itoa::Buffer;
+use lines::first_byte;
+use machine::TxInfo;
+use texts::ascii;
+use words::BlockNo;
+
+/// A word that stands only where something holds.
+pub(crate) fn if_so(holds: bool, word: &str) -> &str
+    ensures { result.now ≡ spec.if_so holds word.now }
+{
+    if holds { word } else { "" }
+}
+
+/// How deep a transaction is nested, if one runs.
+pub(crate) fn depth_part(tx: Option<TxInfo>) -> ArrayString<10>
+    ensures { result.bytes ≡ spec.depth_part tx }
+{
+    let mut part = ArrayString::new();
+    if let Some(info) = tx {
+        let mut digits = Buffer::new();
+        part.push_str(" depth ");
+        part.push_str(digits.format(info.depth));
+    }
+    part
+}
+
+/// The block that is waited for, if one is.
+pub(crate) fn waits_part(block: Option<BlockNo>) -> ArrayString<17>
+    ensures { result.bytes ≡ spec.waits_part block }
+{
+    let mut part = ArrayString::new();
+    if let Some(block) = block {
+        part.push_str(" waits 0x");
+        part.push_str(ascii(&first_byte(block)));
+    }
+    part
+}

@@ -1,0 +1,5 @@
+mod checks;
+mod moves;
+mod runs;
+mod schedules;
+mod traps;

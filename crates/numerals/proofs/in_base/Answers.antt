@@ -1,7 +1,0 @@
-use Rattle.std.proofs.Common.{◌∙◌, arith, sym}
-use Rattle.numerals.proofs.Numerals.{parsed_plain}
-use Rattle.numerals.proofs.in_base.Goals as goal
-
-pub returns : goal.returns
-returns c = c.ok.ensures.value ∙ parsed_plain c.args.base c.args.digits.now c.from_str_radix.result
-    (sym (c.starts_with.ensures.byte (omega arith) (omega arith) (λ w o h. h)) ∙ c.if-starts_with.false) c.from_str_radix.ensures.value

@@ -1,4 +1,0 @@
-mod checks;
-mod moves;
-mod runs;
-mod traps;

@@ -1,0 +1,10 @@
+mod calls;
+mod choices;
+mod counters;
+mod gates;
+mod histories;
+mod lending;
+mod memory;
+mod play;
+mod rows;
+mod stale;

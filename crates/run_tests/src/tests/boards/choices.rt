@@ -1,0 +1,146 @@
+//! Harts in threads over a board that keeps choices or nothing, and its choices, played again.
+
+use super::gates::Runs;
+use super::play::{SIZE, WAITS};
+use board::{Board, Code, End, Finished, Lease, Refusal, Unkept, Untraced, serve};
+use elf_samples::program;
+use machine::{Machine, Silent};
+use schedule::{Choice, History, follow, put_history, read};
+use std::alloc::{AllocError, Global};
+use std::process::Abort;
+use std::str;
+use std::sync::Mutex;
+use std::test::Fail;
+use table::DecodedText;
+use words::{Addr, HartId, Taken};
+
+/// The most turns of a hart.
+const TURNS: u64 = 100_000;
+
+/// More steps than a history here has.
+const STEPS: usize = 1_000_000_000;
+
+type Kept<'p> = Board<'p, 2, 1, History>;
+
+type Plain<'p> = Board<'p, 2, 1, Unkept>;
+
+type Counted<'p> = Lease<'p, 2, 1, Untraced>;
+
+/// Runs each lease as far as it goes.
+const WHOLE: Runs = Runs { most: 64 };
+
+/// The choices that the lines of what was noted spell.
+fn choices_of(rt: &(impl Abort + AllocGlobal), history: &History) -> Result<Vec<Choice>, Fail> {
+    let mut sink = Taken {
+        bytes: Vec::new(rt.alloc()),
+        failed: 0,
+    };
+    assert!(rt; put_history(&mut sink, history).is_ok());
+    Ok(read(rt.alloc(), str::from_utf8(&sink.bytes)?)?)
+}
+
+/// A machine that the program of a board begins in, as the board did.
+fn begun_again(alloc: Global, end: &Finished<'_, 2, 1, History>) -> Result<Machine<2, 1>, Fail> {
+    let program = end.program.copy(alloc)?;
+    Ok(Machine::boot(alloc, program, end.harts, end.size)?)
+}
+
+/// Makes the steps that are chosen.
+fn play(machine: &mut Machine<2, 1>, choices: &[Choice]) -> Result<(), AllocError> {
+    let steps = choices.len().min(STEPS) as u32;
+    follow(machine, choices, steps, &mut Silent)
+}
+
+/// That two machines have the same registers and memory.
+fn check_same(rt: &impl Abort, machine: &Machine<2, 1>, other: &Machine<2, 1>) {
+    for number in 0..8 {
+        let hart = HartId::new(number);
+        assert_eq!(rt; machine.regs(hart), other.regs(hart));
+    }
+    for word in 0..2048u32 {
+        let addr = Addr::new(0x1000 + 4 * word);
+        assert_eq!(rt; machine.peek(addr), other.peek(addr));
+    }
+}
+
+/// That the lines of what was noted, played from the start, lead to the same registers and memory.
+fn check_again(
+    rt: &(impl Abort + AllocGlobal),
+    end: &Finished<'_, 2, 1, History>,
+) -> Result<(), Fail> {
+    let choices = choices_of(rt, &end.journal)?;
+    let mut machine = begun_again(rt.alloc(), end)?;
+    play(&mut machine, &choices)?;
+    check_same(rt, &machine, &end.machine);
+    Ok(())
+}
+
+#[test]
+fn history_of_threads_plays_again(rt: HostRuntime) -> Result<(), Fail> {
+    let program = program(rt.alloc(), &WAITS)?;
+    let words = DecodedText::new(rt.alloc(), program.segments(), program.entry())?;
+    let code = Code::decoded(&program, &words);
+    let board: Kept = Board::boot_with(rt.alloc(), code, 4, SIZE, History::new(rt.alloc()))?;
+    let desk = Mutex::new(board);
+    let ends = serve::<Kept, Runs, HostRuntime>(&rt, &desk, 4, &WHOLE, TURNS).expect(&rt, "memory");
+    assert_eq!(rt; ends.as_slice(), [End::Stopped; 4].as_slice());
+    let end = desk.into_inner().finish();
+    assert_eq!(rt; end.machine.peek(Addr::new(0x2000)), Some(4));
+    check_again(&rt, &end)
+}
+
+#[test]
+fn threads_run_where_nothing_is_kept(rt: HostRuntime) -> Result<(), Fail> {
+    let program = program(rt.alloc(), &WAITS)?;
+    let board: Plain = Board::boot_with(rt.alloc(), Code::new(&program), 2, SIZE, Unkept)?;
+    let desk = Mutex::new(board);
+    let ends = serve::<Plain, Runs, HostRuntime>(&rt, &desk, 2, &WHOLE, TURNS).expect(
+        &rt, "memory",
+    );
+    assert_eq!(rt; ends.as_slice(), [End::Stopped; 2].as_slice());
+    assert_eq!(rt;
+        desk.into_inner().machine().peek(Addr::new(0x2000)),
+        Some(2)
+    );
+    Ok(())
+}
+
+/// That the lease which comes back first is settled, and then the late one is stale.
+fn check_settled<'p>(
+    rt: &impl Abort,
+    board: &mut Kept<'p>,
+    first: &mut Counted<'p>,
+    late: &Counted<'p>,
+) {
+    assert_eq!(rt; first.run(3), 3);
+    assert!(rt; board.settle(first).is_ok());
+    assert_eq!(rt; board.settle(late), Err(Refusal::Stale));
+}
+
+/// That a lease is lent again where its hart runs, and stays as it is where there is none.
+fn check_lent_again<'p>(rt: &impl Abort, board: &Kept<'p>, lease: &mut Counted<'p>) {
+    assert!(rt; !board.lend_again(HartId::new(1), lease));
+    assert_eq!(rt; lease.len(), 3);
+    assert!(rt; board.lend_again(HartId::new(0), lease));
+    assert!(rt; lease.is_empty());
+}
+
+/// Lends hart 0 twice, and settles both leases.
+fn check_leases<'p>(rt: &impl Abort, board: &mut Kept<'p>) {
+    let zero = HartId::new(0);
+    let late = board.lend(zero).expect(rt, "hart 0 runs");
+    let mut first = board.lend(zero).expect(rt, "hart 0 runs");
+    check_settled(rt, board, &mut first, &late);
+    check_lent_again(rt, board, &mut first);
+}
+
+#[test]
+fn a_stale_lease_is_refused(rt: HostRuntime) -> Result<(), Fail> {
+    let program = program(rt.alloc(), &WAITS)?;
+    let code = Code::new(&program);
+    let mut board: Kept = Board::boot_with(rt.alloc(), code, 1, SIZE, History::new(rt.alloc()))?;
+    assert!(rt; board.lend(HartId::new(1)).is_none());
+    check_leases(&rt, &mut board);
+    assert_eq!(rt; board.visit(HartId::new(0)), Ok(true));
+    check_again(&rt, &board.finish())
+}

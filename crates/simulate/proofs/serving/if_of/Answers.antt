@@ -1,0 +1,17 @@
+use Rattle.std.proofs.Common.{◌*◌, ◌≤◌, ◌<◌, ◌^◌, arith}
+use native.Mathlib.Nat.{mul-le-mul_left}
+use Rattle.machine.specs.States.{geometry}
+use Rattle.simulate.proofs.ThreadedRuns.{end_same}
+use Rattle.simulate.proofs.serving.if_of.Goals as goal
+
+pub returns-then-same-clause-end : goal.returns-then-same-clause-end
+returns-then-same-clause-end g c =
+    end_same (geometry g.row.SETS g.row.WAYS) c.args.program.now c.args.end.program.now c.args.harts c.args.end.harts c.args.size c.args.end.size
+    (g.J.Journal.tells c.args.end.journal) c.args.end.machine (c.same.ensures.0 c.if-same.true) c.if-end-harts.true c.if-end-size.true c.requires
+
+-- a machine has a size that fits: it has no more sets than lines
+pub drop-end-requires-3-room-T-Destruct : goal.drop-end-requires-3-room-T-Destruct
+drop-end-requires-3-room-T-Destruct g c κs =
+    let few : g.row.SETS * 1 ≤ g.row.SETS * g.row.WAYS = mul-le-mul_left g.row.SETS c.drop.invariant.some_way in
+    let fits : g.row.SETS * g.row.WAYS < 2 ^ 32 = c.drop.invariant.fits in
+    omega arith

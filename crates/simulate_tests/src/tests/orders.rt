@@ -1,0 +1,483 @@
+//! What the words of a command line ask for, and how they are refused.
+use command_line::{Cache, Debug, Order, OrderFault, Request, Run, Target, View, parse};
+use std::alloc::Global;
+use texts::number;
+
+#[test]
+fn reads_numbers(rt: HostRuntime) {
+    let cases = [
+        ("0", Some(0)),
+        ("0042", Some(42)),
+        ("4294967295", Some(4_294_967_295)),
+        ("4294967296", None),
+        ("0xdeadBEEF", Some(3_735_928_559)),
+        ("0x0000000010", Some(16)),
+        ("0x100000000", None),
+        ("", None),
+        ("0x", None),
+        ("0X10", None),
+        ("0x1g", None),
+        ("1a", None),
+        ("+1", None),
+        ("0x+1", None),
+        ("-1", None),
+        (" 1", None),
+        ("1 ", None),
+        ("1_000", None),
+        ("٣", None),
+    ];
+    for (text, value) in cases {
+        assert_eq!(rt; number(text), value, "at {text}");
+    }
+}
+
+// The run that the words ask for.
+fn run_of(alloc: Global, words: &'static [&'static str]) -> Option<Run<'static>> {
+    match parse(alloc, words) {
+        Ok(Request::Order(Order::Run(run))) => Some(run),
+        _ => None,
+    }
+}
+
+#[test]
+fn reads_a_run(rt: HostRuntime) {
+    let run = run_of(rt.alloc(), &["logtm", "run", "first.elf"]).expect(&rt, "a run");
+    assert_eq!(rt; run.file, "first.elf");
+    assert_eq!(rt;
+        (run.harts, run.memory, run.steps),
+        (1, 1_048_576, 10_000_000)
+    );
+    assert_eq!(rt; run.cache, Cache::Normal);
+    assert_eq!(rt; run.words.len(), 0);
+}
+
+static LONG: [&str; 13] = [
+    "logtm",
+    "run",
+    "--harts",
+    "2",
+    "first.elf",
+    "--memory=0x20aBcD",
+    "--cache",
+    "small",
+    "0x2000",
+    "--steps",
+    "007",
+    "8196",
+    "0",
+];
+
+#[test]
+fn reads_options_and_words(rt: HostRuntime) {
+    let run = run_of(rt.alloc(), LONG.as_slice()).expect(&rt, "a run");
+    assert_eq!(rt; run.file, "first.elf");
+    assert_eq!(rt; (run.harts, run.memory, run.steps), (2, 2_141_133, 7));
+    assert_eq!(rt; run.cache, Cache::Small);
+    let expected = [("0x2000", 8192), ("8196", 8196), ("0", 0)];
+    assert_eq!(rt; run.words.len(), expected.len());
+    for (word, (text, addr)) in run.words.iter().zip(expected) {
+        assert_eq!(rt; word.text, text);
+        assert_eq!(rt; word.addr, addr);
+    }
+}
+
+#[test]
+fn reads_the_name_of_a_cache(rt: HostRuntime) {
+    let cases: [(&[&str], Cache); 4] = [
+        (&["logtm", "run", "f"], Cache::Normal),
+        (&["logtm", "run", "f", "--cache", "normal"], Cache::Normal),
+        (&["logtm", "run", "--cache", "small", "f"], Cache::Small),
+        (&["logtm", "run", "f", "--cache=small"], Cache::Small),
+    ];
+    for (words, cache) in cases {
+        let run = run_of(rt.alloc(), words).expect(&rt, "a run");
+        assert_eq!(rt; run.cache, cache);
+    }
+}
+
+// The paths that an order to list or to assemble names.
+fn paths(alloc: Global, words: &'static [&'static str]) -> Option<(&'static str, &'static str)> {
+    match parse(alloc, words) {
+        Ok(Request::Order(Order::Dis { file })) => Some((file, "")),
+        Ok(Request::Order(Order::Asm { source, target })) => Some((source, target)),
+        _ => None,
+    }
+}
+
+#[test]
+fn reads_the_other_subcommands(rt: HostRuntime) {
+    let cases: [(&[&str], (&str, &str)); 5] = [
+        (&["logtm", "dis", "first.elf"], ("first.elf", "")),
+        (&["logtm", "dis", "--", "--help"], ("--help", "")),
+        (&["logtm", "dis", "run"], ("run", "")),
+        (&["logtm", "asm", "a.s", "a.elf"], ("a.s", "a.elf")),
+        (&["logtm", "asm", "dis", "asm"], ("dis", "asm")),
+    ];
+    for (words, named) in cases {
+        assert_eq!(rt; paths(rt.alloc(), words), Some(named));
+    }
+}
+
+// The text of a refusal.
+fn refusal(alloc: Global, words: &'static [&'static str]) -> Option<String> {
+    match parse(alloc, words) {
+        Err(OrderFault::Refused(text)) => Some(text),
+        _ => None,
+    }
+}
+
+#[test]
+fn refuses_as_clap_does(rt: HostRuntime) {
+    let cases: [(&[&str], &str); 34] = [
+        (&["logtm", "debug"], "<FILE>"),
+        (
+            &["logtm", "debug", "--help"],
+            "Usage: logtm debug [OPTIONS] <FILE>",
+        ),
+        (&["logtm", "debug", "f", "g"], "unexpected argument 'g'"),
+        (
+            &["logtm", "debug", "f", "--steps", "3"],
+            "unexpected argument '--steps'",
+        ),
+        (
+            &["logtm", "debug", "f", "--cache=small", "--cache=small"],
+            "cannot be used multiple times",
+        ),
+        (
+            &["logtm", "run", "f", "--trace"],
+            "a value is required for '--trace <FILE>'",
+        ),
+        (
+            &["logtm", "run", "f", "--trace=a", "--trace=b"],
+            "cannot be used multiple times",
+        ),
+        (&[], "requires a subcommand"),
+        (&["logtm"], "requires a subcommand"),
+        (&["logtm", "--help"], "Usage: logtm <COMMAND>"),
+        (&["logtm", "walk"], "unrecognized subcommand 'walk'"),
+        (&["logtm", "dis"], "<FILE>"),
+        (&["logtm", "dis", "--help"], "Usage: logtm dis <FILE>"),
+        (&["logtm", "dis", "f", "g"], "unexpected argument 'g'"),
+        (
+            &["logtm", "dis", "f", "--harts", "2"],
+            "unexpected argument '--harts'",
+        ),
+        (&["logtm", "asm", "a.s"], "<OUT>"),
+        (&["logtm", "asm", "--help"], "Usage: logtm asm <IN> <OUT>"),
+        (
+            &["logtm", "asm", "a.s", "a.elf", "b"],
+            "unexpected argument 'b'",
+        ),
+        (&["logtm", "help"], "unrecognized subcommand 'help'"),
+        (
+            &["logtm", "--harts", "2", "run", "f"],
+            "unexpected argument '--harts'",
+        ),
+        (&["logtm", "run"], "<FILE>"),
+        (
+            &["logtm", "run", "--help"],
+            "Usage: logtm run [OPTIONS] <FILE> [WORD]...",
+        ),
+        (
+            &["logtm", "run", "f", "--cache"],
+            "a value is required for '--cache <NAME>'",
+        ),
+        (
+            &["logtm", "run", "f", "--cache=small", "--cache=small"],
+            "cannot be used multiple times",
+        ),
+        (
+            &["logtm", "debug", "f", "--threads"],
+            "unexpected argument '--threads'",
+        ),
+        (
+            &["logtm", "run", "f", "--threads=yes"],
+            "unexpected value 'yes' for '--threads'",
+        ),
+        (
+            &["logtm", "run", "f", "--threads", "--threads"],
+            "cannot be used multiple times",
+        ),
+        (
+            &["logtm", "run", "f", "--threads", "--history"],
+            "a value is required for '--history <FILE>'",
+        ),
+        (
+            &["logtm", "run", "f", "--harts"],
+            "a value is required for '--harts <N>'",
+        ),
+        (
+            &["logtm", "run", "f", "--harts", "-1"],
+            "unexpected argument '-1'",
+        ),
+        (&["logtm", "run", "f", "-1"], "unexpected argument '-1'"),
+        (
+            &["logtm", "run", "f", "--steps=1", "--steps=1"],
+            "cannot be used multiple times",
+        ),
+        (
+            &["logtm", "run", "f", "x", "--nope"],
+            "unexpected argument '--nope'",
+        ),
+        (&["logtm", "run", "--harts", "x"], "<FILE>"),
+    ];
+    for (words, part) in cases {
+        let text = refusal(rt.alloc(), words).expect(&rt, "a refusal");
+        assert!(rt; text.contains(part), "{text}");
+    }
+}
+
+// The malformed value.
+fn bad_value(alloc: Global, words: &'static [&'static str]) -> Option<&'static str> {
+    match parse(alloc, words) {
+        Err(OrderFault::Value(value)) => Some(value),
+        _ => None,
+    }
+}
+
+#[test]
+fn a_blank_is_no_part_of_a_name(rt: HostRuntime) {
+    let words = &["logtm", "run", "f", "--cache", "normal "];
+    assert_eq!(rt; bad_value(rt.alloc(), words), Some("normal "));
+}
+
+// Whether the words give an order with so many words, or memory ran out.
+fn gives(alloc: Global, words: &'static [&'static str], count: usize) -> bool {
+    match parse(alloc, words) {
+        Ok(Request::Order(Order::Run(run))) => run.words.len() == count,
+        Ok(_request) => false,
+        Err(fault) => match fault {
+            OrderFault::NoMemory => true,
+            OrderFault::Value(_value) => false,
+            OrderFault::TwoViews | OrderFault::LongPicture | OrderFault::ThreadsAlone => false,
+            OrderFault::Refused(_text) => false,
+        },
+    }
+}
+
+// Whether the words ask to assemble this source into this target, or memory ran out.
+fn assembles(alloc: Global, words: &'static [&'static str], from: &str, to: &str) -> bool {
+    match parse(alloc, words) {
+        Ok(Request::Order(Order::Asm { source, target })) => source == from && target == to,
+        Ok(_request) => false,
+        Err(fault) => match fault {
+            OrderFault::NoMemory => true,
+            OrderFault::Value(_value) => false,
+            OrderFault::TwoViews | OrderFault::LongPicture | OrderFault::ThreadsAlone => false,
+            OrderFault::Refused(_text) => false,
+        },
+    }
+}
+
+// Whether the words have this bad value, or clap refuses them with this in its text, or memory ran
+// out.
+fn fails(alloc: Global, words: &'static [&'static str], part: &str) -> bool {
+    match parse(alloc, words) {
+        Ok(_request) => false,
+        Err(fault) => match fault {
+            OrderFault::NoMemory => true,
+            OrderFault::TwoViews | OrderFault::LongPicture | OrderFault::ThreadsAlone => false,
+            OrderFault::Value(value) => value == part,
+            OrderFault::Refused(text) => text.contains(part),
+        },
+    }
+}
+
+// What the words ask to be played by hand.
+fn debug_of(alloc: Global, words: &'static [&'static str]) -> Option<Debug<'static>> {
+    match parse(alloc, words) {
+        Ok(Request::Debug(debug)) => Some(debug),
+        _ => None,
+    }
+}
+
+#[test]
+fn reads_what_is_played_by_hand(rt: HostRuntime) {
+    let cases: [(&[&str], (u32, u32), Cache); 6] = [
+        (&["logtm", "debug", "f"], (1, 1_048_576), Cache::Normal),
+        (
+            &["logtm", "debug", "f", "--harts", "2"],
+            (2, 1_048_576),
+            Cache::Normal,
+        ),
+        (
+            &["logtm", "debug", "--memory=0x20000", "f"],
+            (1, 131_072),
+            Cache::Normal,
+        ),
+        (
+            &["logtm", "debug", "f", "--cache", "small"],
+            (1, 1_048_576),
+            Cache::Small,
+        ),
+        (
+            &["logtm", "debug", "f", "--cache=normal"],
+            (1, 1_048_576),
+            Cache::Normal,
+        ),
+        (
+            &[
+                "logtm",
+                "debug",
+                "--cache=small",
+                "--harts=0x8",
+                "f",
+                "--memory=65536",
+            ],
+            (8, 65_536),
+            Cache::Small,
+        ),
+    ];
+    for (words, sizes, cache) in cases {
+        let debug = debug_of(rt.alloc(), words).expect(&rt, "a debug");
+        assert_eq!(rt; debug.file, "f");
+        assert_eq!(rt; (debug.harts, debug.memory), sizes);
+        assert_eq!(rt; debug.cache, cache);
+    }
+}
+
+// Where the trace of a run of `f` goes: to standard output as a dash.
+fn target(alloc: Global, words: &'static [&'static str]) -> Option<&'static str> {
+    match parse(alloc, words) {
+        Ok(Request::Shown(shown)) => match shown.view {
+            View::Trace(Target::Output) => Some("-"),
+            View::Trace(Target::File(path)) => Some(path),
+            View::Timeline(_) | View::Picture(_) => None,
+        },
+        _ => None,
+    }
+}
+
+#[test]
+fn reads_where_a_trace_goes(rt: HostRuntime) {
+    let cases: [(&[&str], Option<&str>); 7] = [
+        (&["logtm", "run", "f"], None),
+        (&["logtm", "run", "f", "--trace", "t"], Some("t")),
+        (&["logtm", "run", "--trace=t", "f", "0"], Some("t")),
+        (&["logtm", "run", "f", "--trace", "-"], Some("-")),
+        (&["logtm", "run", "-", "--trace", "-"], Some("-")),
+        (
+            &["logtm", "run", "f", "--schedule=l", "--trace=ll"],
+            Some("ll"),
+        ),
+        (&["logtm", "debug", "f"], None),
+    ];
+    for (words, path) in cases {
+        assert_eq!(rt; target(rt.alloc(), words), path);
+    }
+}
+
+// Where the timeline of a run goes.
+fn timeline(alloc: Global, words: &'static [&'static str]) -> Option<&'static str> {
+    match parse(alloc, words) {
+        Ok(Request::Shown(shown)) => match shown.view {
+            View::Timeline(path) => Some(path),
+            View::Trace(_) | View::Picture(_) => None,
+        },
+        _ => None,
+    }
+}
+
+#[test]
+fn reads_where_a_timeline_goes(rt: HostRuntime) {
+    let cases: [(&[&str], Option<&str>); 7] = [
+        (&["logtm", "run", "f"], None),
+        (
+            &["logtm", "run", "f", "--timeline", "t.json"],
+            Some("t.json"),
+        ),
+        (&["logtm", "run", "--timeline=.json", "f"], Some(".json")),
+        (&["logtm", "run", "f", "--trace", "t.json"], None),
+        (&["logtm", "run", "f", "--timeline", "t.svg"], None),
+        (&["logtm", "run", "f.json", "--timeline", "f.json"], None),
+        (
+            &[
+                "logtm",
+                "run",
+                "f",
+                "--schedule=l.json",
+                "--timeline=l.json",
+            ],
+            None,
+        ),
+    ];
+    for (words, path) in cases {
+        assert_eq!(rt; timeline(rt.alloc(), words), path);
+    }
+}
+
+// Where the picture of a run goes.
+fn picture(alloc: Global, words: &'static [&'static str]) -> Option<&'static str> {
+    match parse(alloc, words) {
+        Ok(Request::Shown(shown)) => match shown.view {
+            View::Picture(path) => Some(path),
+            View::Trace(_) | View::Timeline(_) => None,
+        },
+        _ => None,
+    }
+}
+
+#[test]
+fn reads_where_a_picture_goes(rt: HostRuntime) {
+    let cases: [(&[&str], Option<&str>); 4] = [
+        (
+            &["logtm", "run", "f", "--steps=2000", "--timeline=t.svg"],
+            Some("t.svg"),
+        ),
+        (
+            &["logtm", "run", "f", "--steps=2001", "--timeline=t.svg"],
+            None,
+        ),
+        (&["logtm", "run", "f", "--timeline=t.svg"], None),
+        (&["logtm", "run", "f", "--trace=t.svg", "--steps=1"], None),
+    ];
+    for (words, path) in cases {
+        assert_eq!(rt; picture(rt.alloc(), words), path);
+    }
+}
+
+// Where the history of a run in threads goes: an empty path where it is not kept.
+fn history(alloc: Global, words: &'static [&'static str]) -> Option<&'static str> {
+    match parse(alloc, words) {
+        Ok(Request::Threaded(threaded)) => Some(threaded.history.unwrap_or("")),
+        _ => None,
+    }
+}
+
+#[test]
+fn reads_a_run_in_threads(rt: HostRuntime) {
+    let cases: [(&[&str], Option<&str>); 7] = [
+        (&["logtm", "run", "f"], None),
+        (&["logtm", "run", "f", "--threads"], Some("")),
+        (&["logtm", "run", "--threads", "f", "0"], Some("")),
+        (
+            &["logtm", "run", "f", "--threads", "--history", "h"],
+            Some("h"),
+        ),
+        (
+            &["logtm", "run", "f", "--history=h", "--threads"],
+            Some("h"),
+        ),
+        (&["logtm", "run", "f", "--", "--threads"], None),
+        (&["logtm", "debug", "f"], None),
+    ];
+    for (words, path) in cases {
+        assert_eq!(rt; history(rt.alloc(), words), path);
+    }
+}
+
+// To be run with each allocation failing in turn.
+#[test]
+fn answers_nothing_else_without_memory(rt: HostRuntime) {
+    assert!(rt; gives(rt.alloc(), LONG.as_slice(), 3));
+    assert!(rt; fails(rt.alloc(), &["logtm", "run", "f", "1", "2", "z"], "z"));
+    assert!(rt; fails(rt.alloc(), &["logtm", "run", "--nope"], "'--nope'"));
+    assert!(rt;
+        assembles(
+            rt.alloc(),
+            &["logtm", "asm", "a.s", "a.elf"],
+            "a.s",
+            "a.elf"
+        )
+    );
+}
