@@ -5,6 +5,8 @@ use Rattle.words.specs.declared.entry.Width.TheVariants as width
 use Rattle.words.specs.Bytes.{bytes_in}
 use Rattle.table.specs.declared.instr.Instr.{Instr}
 use Rattle.table.specs.declared.instr.Instr.TheVariants as instr
+use Rattle.table.specs.declared.instr.Row.{Row}
+use Rattle.table.specs.declared.instr.Row.TheVariants as row
 use Rattle.table.specs.declared.instr.BranchOp.{BranchOp}
 use Rattle.source_operands.specs.declared.fault.AsmFault.{AsmFault}
 use Rattle.source_operands.specs.declared.fault.AsmFault.TheVariants.{Alignment}
@@ -17,7 +19,7 @@ use Rattle.source_operands.specs.Cutting.{cut_word, trim}
 use Rattle.source_operands.specs.Numbers.{Number, number_of}
 use Rattle.statements.specs.Forms.{form_named}
 use Rattle.source_operands.specs.Operands.{◌>>=◌, guarded, checked, Find, Named, register, named_of, number_or_named, target, in_range, offset, value}
-use Rattle.statements.specs.Instructions.{two, three, last, branch_of, branch_swapped_of, branch_zero_of, jal_of, tbegin_of, j_of}
+use Rattle.statements.specs.Instructions.{two, three, last, branch_of, branch_swapped_of, branch_zero_of, jal_of, tbegin_of, j_of, by_row}
 use Rattle.source_operands.specs.Places.{Labels, find}
 use Rattle.statements.specs.Statements.{Made, in_two, la_of, datum, read_data, operands, at_multiple, data_of, obeyed, directive_of, one, instruction_of, by_form, by_name, pc_of, statement_of}
 use Rattle.statements.specs.Statements.Made.{Nothing, One, Numbers}
@@ -112,14 +114,19 @@ j_makes pc f text i e =
     let n = offset_makes 1048576 1048574 2 pc 0 f a.0 d.0 refl d.1 in
     then (last text) _ a.0 a.1 (then (offset 1048576 1048574 2 0 None a.0) _ n.0 n.1 (instr.Jal 0 n.0, refl))
 
+row_makes : (r : Row) (pc : ℕ) (f : List ℕ → Option ℕ) (text : List ℕ) (i : Instr) → by_row r pc (Some f) text ≡ Ok i → Makes (by_row r 0 None text)
+unfolding by_row
+row_makes (row.Branch op) pc f text i e = branch_makes op pc f text i e
+row_makes row.Jal pc f text i e = jal_makes pc f text i e
+row_makes row.TBegin pc f text i e = tbegin_makes pc f text i e
+row_makes r pc f text i e = (i, e)
+
 instruction_makes : (op : Form) (pc : ℕ) (f : List ℕ → Option ℕ) (text : List ℕ) (i : Instr) → instruction_of op pc (Some f) text ≡ Ok i → Makes (instruction_of op 0 None text)
 unfolding instruction_of
-instruction_makes (form.Branch op) pc f text i e = branch_makes op pc f text i e
+instruction_makes (form.Row r) pc f text i e = row_makes r pc f text i e
 instruction_makes (form.BranchSwapped op) pc f text i e = branch_swapped_makes op pc f text i e
 instruction_makes (form.BranchZero op) pc f text i e = branch_zero_makes _ pc f text i e
 instruction_makes (form.BranchFromZero op) pc f text i e = branch_zero_makes _ pc f text i e
-instruction_makes form.Jal pc f text i e = jal_makes pc f text i e
-instruction_makes form.TBegin pc f text i e = tbegin_makes pc f text i e
 instruction_makes form.J pc f text i e = j_makes pc f text i e
 instruction_makes op pc f text i e = (i, e)
 

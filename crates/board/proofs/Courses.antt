@@ -15,26 +15,28 @@ use Rattle.machine.specs.Mail.{NumbersOn}
 use Rattle.machine.specs.States.{State, setting_of, shown}
 use Rattle.schedule.specs.declared.choices.Choice.{Choice}
 use Rattle.schedule.specs.declared.choices.Choice.TheVariants.{Core, Evict, Deliver, Turn}
-use Rattle.schedule.specs.Follows.{Makes, Follows, last_after}
+use Rattle.schedule.specs.Moments.{Moment, moment, moments}
+use Rattle.schedule.specs.Runs.{Makes, Follows, last_after}
 use Rattle.schedule.specs.Written.{IsWritable}
+use Rattle.schedule.proofs.Making.{entries_both, entries_one}
 use Rattle.board.specs.Leases.{Lent}
 use Rattle.board.specs.Histories.{Told, IsChosen, IsOf, IsChoiceOf, IsWithin, Leads, LeadsAlone, no_step, one_step, core_steps, both, told_then, first_flat, IsReplay, IsCourseIf, IsKept, IsEnd}
 use Rattle.board.proofs.Replays.{Begins, run_settings, replay_none, replay_more, replay_segments, replay_flat}
 
 -- choices behind others
-follows_on : (g : Geometry) (cs ds : List Choice) (v u w : State) (after : ℕ) (es fs : List Entry) → Follows g cs (length cs) v after es u → Leads g ds u fs w
-    → Follows g (cs ++ ds) (length (cs ++ ds)) v after (es ++ fs) w
-follows_on g [] ds v u w after es fs (none, same) leads =
-    subst (λ (xs : List Entry). Follows g ds (length ds) v after (xs ++ fs) w) (sym none) (subst (λ (x : State). Follows g ds (length ds) x after fs w) same (leads after))
-follows_on g (c ∷ cs) ds v u w after es fs f leads = (
-  f.0,
-  f.1,
-  f.2,
-  f.3 ++ fs,
-  f.4,
-  f.5,
-  follows_on g cs ds f.2 u w (last_after f.0 after) f.3 fs f.6 leads,
-  ap (λ xs. xs ++ fs) f.7 ∙ append_assoc (option_to_list f.1) f.3 fs,
+follows_on : (g : Geometry) (cs ds : List Choice) (v u w : State) (after : ℕ) (ms ns : List Moment) → Follows g cs (length cs) v after ms u → ((after : ℕ) → Follows g ds (length ds) u after ns w)
+    → Follows g (cs ++ ds) (length (cs ++ ds)) v after (ms ++ ns) w
+follows_on g [] ds v u w after ms ns (none, same) leads =
+    subst (λ (xs : List Moment). Follows g ds (length ds) v after (xs ++ ns) w) (sym none) (subst (λ (x : State). Follows g ds (length ds) x after ns w) same (leads after))
+follows_on g (c ∷ cs) ds v u w after ms ns (step, e, x, rest, chosen, made, f, is) leads = (
+  step,
+  e,
+  x,
+  rest ++ ns,
+  chosen,
+  made,
+  follows_on g cs ds x u w (last_after step after) rest ns f leads,
+  ap (λ xs. xs ++ ns) is ∙ append_assoc (moments v step e x) rest ns,
 )
 
 -- steps that were choices, and more
@@ -50,7 +52,8 @@ chosen_made g m next step c (Err _) made numbers = tt {0}
 
 -- one choice
 leads_one : (g : Geometry) (c : Choice) (step : Step) (e : Option Entry) (v w : State) → IsChoiceOf g.sets v step c → Makes g v (Some step) e w → Leads g (c ∷ []) v (option_to_list e) w
-leads_one g c step e v w chosen made = λ after. (Some step, e, w, [], chosen after, made, (refl, refl), sym (append-nil (option_to_list e)))
+leads_one g c step e v w chosen made =
+    (moment v step e w ∷ [], entries_one g v w (Some step) e made, λ after. (Some step, e, w, [], chosen after, made, (refl, refl), refl))
 
 -- choices that are known, each of which can be written, lead on
 abbrev LeadsIf : Geometry → Option (List Choice) → State → List Entry → State → Type 0
@@ -59,12 +62,15 @@ LeadsIf g None v es w = Unit {0}
 
 module _ (g : Geometry) (p : Program) (n size : ℕ) where
   course_on : (cs ds : Option (List Choice)) (m next : State) (es fs : List Entry) → IsCourseIf g p n size cs es m → LeadsIf g ds m fs next → IsCourseIf g p n size (both cs ds) (es ++ fs) next
-  course_on (Some cs) (Some ds) m next es fs c (writable, leads) = record {
+  course_on (Some cs) (Some ds) m next es fs c (writable, (ms, given, leads)) = record {
     boots = c.boots;
     first = c.first;
     starts = c.starts;
+    unused = c.unused;
     writable = All-append IsWritable cs ds c.writable writable;
-    follows = follows_on g cs ds c.first m next ((setting_of c.first).count - 1) es fs c.follows leads;
+    moments = c.moments ++ ms;
+    given = ap₂ (λ (xs ys : List Entry). xs ++ ys) c.given given ∙ sym (entries_both c.moments ms);
+    follows = follows_on g cs ds c.first m next ((setting_of c.first).count - 1) c.moments ms c.follows leads;
   }
   course_on (Some cs) None m next es fs c leads = tt {0}
   course_on None (Some ds) m next es fs c leads = tt {0}
@@ -89,7 +95,7 @@ module _ (g : Geometry) (p : Program) (n size : ℕ) where
     all = no_step;
     told = told;
     replay = replay_none g p n size m b;
-    course = record { boots = b.boots; first = m; starts = b.machine; writable = All-nil IsWritable; follows = (refl, refl) };
+    course = record { boots = b.boots; first = m; starts = b.machine; unused = b.unused; writable = All-nil IsWritable; moments = []; given = refl; follows = (refl, refl) };
   }
 
   -- more

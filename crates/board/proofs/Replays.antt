@@ -16,6 +16,7 @@ use Rattle.protocol.proofs.Splits.{runs_then}
 use Rattle.isolation.specs.Belongs.{Belongs}
 use Rattle.isolation.proofs.Belongs.Belonging.{belongs_after}
 use Rattle.machine.specs.States.{State, shown}
+use Rattle.machine.specs.Unused.{IsUnused}
 use Rattle.board.specs.Histories.{first_flat, IsReplay}
 
 -- a run changes neither text, size nor the number of harts
@@ -43,17 +44,19 @@ boots_if_ok (Some e) r a refused is = let err : r ≡ Err e = refused e refl in 
 pub record Begins (g : Geometry) (p : Program) (n size : ℕ) (m : State) : Type 0 where
   pub boots : boot_fault p.segments n size ≡ None
   pub machine : shown g.sets m ≡ start (first_flat p n size).setting p.entry
+  pub unused : IsUnused m
   pub bytes : AreBytes p.segments
 
 -- that of a copy is one of the program
 pub begins_of_copy : (g : Geometry) (p q : Program) (n size : ℕ) (m : State) → q ≡ p → ((e : BootFault) → boot_fault q.segments n size ≡ Some e → ◌≡◌ {A = Result State BootFault} (Ok m) (Err e))
-    → (boot_fault q.segments n size ≡ None → shown g.sets m ≡ start (first_flat q n size).setting q.entry) → Belongs g (first_flat q n size) (shown g.sets m) → Begins g p n size m
-begins_of_copy g p q n size m copied refused accepted belongs =
+    → (boot_fault q.segments n size ≡ None → shown g.sets m ≡ start (first_flat q n size).setting q.entry) → Belongs g (first_flat q n size) (shown g.sets m) → IsUnused m → Begins g p n size m
+begins_of_copy g p q n size m copied refused accepted belongs unused =
     let boots : boot_fault q.segments n size ≡ None = boots_if_ok {A = State} (boot_fault q.segments n size) (Ok m) m refused refl in
     let machine = accepted boots in
     subst (λ (r : Program). Begins g r n size m) copied (record {
       boots = boots;
       machine = machine;
+      unused = unused;
       bytes = bytes_of g (first_flat q n size) (first_flat q n size).setting q.entry (shown g.sets m) machine belongs;
     })
 

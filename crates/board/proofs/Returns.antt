@@ -11,6 +11,7 @@ use Rattle.machine.specs.States.{Seat, State, geometry, shown, IsSound}
 use Rattle.machine.specs.Lent.{hart_if, with_hart, RunsAlone}
 use Rattle.machine.proofs.Returning.{is_within, seated, with, with_hart_is, retires, seat_of}
 use Rattle.schedule.specs.declared.choices.Choice.TheVariants.{Core}
+use Rattle.schedule.specs.Moments.{moment}
 use Rattle.board.specs.Leases.{Lent, HasRun}
 use Rattle.board.specs.Histories.{Leads, LeadsAlone}
 
@@ -38,7 +39,7 @@ module _ (sets ways i : ℕ) where
       → Leads (geometry sets ways) (replicate (length es) (Core i)) v es (seated v i (with s new))
   leads_alone [] v s new sound at is =
       let same : seated v i (with s new) ≡ v = ap (λ l. record v { seats = l }) (ap (λ h. slice_set v.seats i (with s h)) is ∙ same_again v.seats i s at) in
-      λ after. (refl, same)
+      ([], refl, λ after. (refl, same))
   leads_alone (e ∷ es) v s new sound at r =
       let next : Seat = with s r.0 in
       let first = retires sets ways i v s e r.0 sound at r.1 in
@@ -46,7 +47,7 @@ module _ (sets ways i : ℕ) where
       let same : seated (seated v i next) i (with next new) ≡ seated v i (with s new) = ap (λ l. record v { seats = l }) (twice v.seats i next (with s new)) in
       let last : Leads (geometry sets ways) (replicate (length es) (Core i)) (seated v i next) es (seated v i (with s new)) =
       subst (λ (m : State). Leads (geometry sets ways) (replicate (length es) (Core i)) (seated v i next) es m) same rest in
-      λ after. (Some (step.Core i), Some e, seated v i next, es, refl, (first.0, unsent v), last i, refl)
+      (moment v (step.Core i) (Some e) (seated v i next) ∷ last.0, ap (λ (xs : List Entry). e ∷ xs) last.1, λ after. (Some (step.Core i), Some e, seated v i next, last.0, refl, (first.0, unsent v), last.2 i, refl))
 
   leads_back : (v : State) (old new : Parts) (es : List Entry) → IsSound sets ways v → hart_if v i ≡ Some old → RunsAlone sets v.program.segments old es new
       → Leads (geometry sets ways) (replicate (length es) (Core i)) v es (with_hart v i new)

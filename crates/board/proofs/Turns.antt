@@ -7,7 +7,7 @@ use Rattle.protocol.specs.Caches.{Geometry}
 use Rattle.machine.specs.States.{State}
 use Rattle.machine.specs.Lent.{with_hart}
 use Rattle.schedule.specs.declared.choices.Choice.{Choice}
-use Rattle.schedule.specs.Follows.{Makes}
+use Rattle.schedule.specs.Runs.{Makes}
 use Rattle.board.specs.Leases.{Lent}
 use Rattle.board.specs.Histories.{Told, TellsMore, IsChoiceOf, LeadsAlone, one_step, core_steps}
 use Rattle.board.specs.Boards.{Held, IsTurn, IsSettled}

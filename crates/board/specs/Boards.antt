@@ -9,9 +9,10 @@ use Rattle.protocol.specs.Caches.{Geometry}
 use Rattle.protocol.specs.Start.{start}
 use Rattle.hart.specs.Parts.{Parts}
 use Rattle.machine.specs.States.{State, shown}
+use Rattle.machine.specs.Unused.{IsUnused}
 use Rattle.machine.specs.Lent.{hart_if, with_hart}
 use Rattle.schedule.specs.declared.choices.Choice.{Choice}
-use Rattle.schedule.specs.Follows.{Makes}
+use Rattle.schedule.specs.Runs.{Makes}
 use Rattle.board.specs.Leases.{Lent, IsLentFrom, FitsIn}
 use Rattle.board.specs.Histories.{Told, TellsStill, TellsMore, IsChoiceOf, first_flat, one_step, core_steps}
 use Rattle.board.specs.declared.refusal.Refusal.{Refusal}
@@ -34,6 +35,7 @@ module _ {J : Type 0} where
   pub record IsFirst (g : Geometry) (p : Program) (n size : ℕ) (journal : J) (b : Held J) : Type 0 where
     pub boots : boot_fault p.segments n size ≡ None
     pub machine : shown g.sets b.machine ≡ start (first_flat p n size).setting p.entry
+    pub unused : IsUnused b.machine
     pub rest : b ≡ record { program = p; harts = n; size = size; machine = b.machine; journal = journal }
 
   -- the board as it was, though its journal may have got room

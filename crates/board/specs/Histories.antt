@@ -15,12 +15,14 @@ use Rattle.protocol.specs.Machine.{Runs}
 use Rattle.isolation.specs.Memory.{LiesInMemory}
 use Rattle.isolation.specs.Belongs.{Belongs}
 use Rattle.machine.specs.States.{State, setting_of, shown}
+use Rattle.machine.specs.Unused.{IsUnused}
 use Rattle.board.specs.Leases.{Lent}
 use Rattle.schedule.specs.declared.choices.Name.{Name}
 use Rattle.schedule.specs.declared.choices.Choice.{Choice}
 use Rattle.schedule.specs.declared.choices.Choice.TheVariants.{Core, Evict, Deliver, Turn}
 use Rattle.schedule.specs.Steps.{IsStepOf}
-use Rattle.schedule.specs.Follows.{Follows}
+use Rattle.schedule.specs.Moments.{Moment, entries_of}
+use Rattle.schedule.specs.Runs.{Follows}
 use Rattle.schedule.specs.Written.{IsWritable}
 
 -- Choices
@@ -42,7 +44,7 @@ IsWithin s Turn = ⊥
 
 -- as many steps by a schedule of choices, whosever the last core step was, lead from one machine to another, with these entries
 abbrev pub Leads : Geometry → List Choice → State → List Entry → State → Type 0
-Leads g choices v es w = (after : ℕ) → Follows g choices (length choices) v after es w
+Leads g choices v es w = (ms : List Moment) × (es ≡ entries_of ms) × ((after : ℕ) → Follows g choices (length choices) v after ms w)
 
 -- What is told
 
@@ -107,13 +109,16 @@ pub record IsReplay (g : Geometry) (p : Program) (n size : ℕ) (steps : List St
   pub runs : Runs g (start (first_flat p n size).setting p.entry) steps es (shown g.sets m)
 
 -- as many steps by a schedule of choices lead to this machine, with these entries, from where a program begins that can be booted with so
--- many harts and bytes of memory. A schedule's line can name each choice
+-- many harts and bytes of memory, and where no step was made. A schedule's line can name each choice
 pub record IsCourse (g : Geometry) (p : Program) (n size : ℕ) (choices : List Choice) (es : List Entry) (m : State) : Type 0 where
   pub boots : boot_fault p.segments n size ≡ None
   pub first : State
   pub starts : shown g.sets first ≡ start (first_flat p n size).setting p.entry
   pub writable : All IsWritable choices
-  pub follows : Follows g choices (length choices) first ((setting_of first).count - 1) es m
+  pub unused : IsUnused first
+  pub moments : List Moment
+  pub given : es ≡ entries_of moments
+  pub follows : Follows g choices (length choices) first ((setting_of first).count - 1) moments m
 
 -- the same of choices that are known
 abbrev pub IsCourseIf : Geometry → Program → ℕ → ℕ → Option (List Choice) → List Entry → State → Type 0

@@ -1,7 +1,7 @@
 ghost use Rattle.std.specs.Prelude.{◌≡◌, ◌≤◌, List, length, Option, Some, OnOk, OnErr};
 ghost use Rattle.words.specs.declared.entry.Entry.{Entry};
 ghost use Rattle.machine.specs.States.{geometry};
-ghost use Rattle.schedule.specs.Follows.{Makes};
+ghost use Rattle.schedule.specs.Runs.{Makes};
 ghost use Rattle.board.specs.Leases.{most_steps};
 ghost use Rattle.board.specs.Histories.{Told, TellsStill, TellsMore, one_step, core_steps};
 

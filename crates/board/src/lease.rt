@@ -1,6 +1,6 @@
 ghost use Rattle.std.specs.Prelude.{◌≡◌, ◌≤◌, ◌<◌, ◌+◌, ◌*◌, ◌^◌, ◌⊎◌, ◌↔◌, if◌then◌else◌, List, length, IsTrue};
 ghost use Rattle.words.specs.declared.entry.Entry.{Entry};
-ghost use Rattle.hart.specs.declared.reply.Local.TheVariants.{NeedsHub};
+ghost use Rattle.hart.specs.declared.reply.Local.TheVariants.{NeedsMachine};
 ghost use Rattle.hart.specs.Locals.{FollowsAlone};
 ghost use Rattle.hart.specs.Rows.{setting_of};
 ghost use Rattle.board.specs.Leases.{most_steps, HasRun, TracesMore, IsNew, FitsIn};
@@ -165,7 +165,7 @@ impl<'p, const SETS: usize, const WAYS: usize, T: Trace<SETS, WAYS>> Lease<'p, S
         ensures ran { HasRun SETS (λ es. TracesMore T.traces self.old.trace es self.new.trace) self.old.program.segments result self.old.after self.new.after }
         ensures most { result ≤ most }
         ensures stops { (result ≡ most) ⊎ ((self.new.steps ≡ most_steps)
-            ⊎ FollowsAlone SETS (setting_of self.new.program.segments self.new.after) self.new.after self.new.after NeedsHub) }
+            ⊎ FollowsAlone SETS (setting_of self.new.program.segments self.new.after) self.new.after self.new.after NeedsMachine) }
     {
         let room = STEPS - self.steps;
         begin(self.begun, &self.before, &mut self.after);
@@ -205,7 +205,7 @@ fn retire_most<const SETS: usize, const WAYS: usize, T: Trace<SETS, WAYS>>(
     requires { (es : List Entry) × T.traces trace.old es × (length es + most ≤ most_steps) }
     ensures ran { HasRun SETS (λ es. TracesMore T.traces trace.old es trace.new) text.now.segments.now result hart.old hart.new }
     ensures most { result ≤ most }
-    ensures stops { (result ≡ most) ⊎ FollowsAlone SETS (setting_of text.now.segments.now hart.new) hart.new hart.new NeedsHub }
+    ensures stops { (result ≡ most) ⊎ FollowsAlone SETS (setting_of text.now.segments.now hart.new) hart.new hart.new NeedsMachine }
 {
     for made in 0..most {
         if !trace.retire(hart, text) {

@@ -1,6 +1,6 @@
 ghost use Rattle.std.specs.Prelude.{◌≡◌, ◌<◌, ◌∷◌, [], List, length, IsTrue, IsFalse};
 ghost use Rattle.words.specs.declared.entry.Entry.{Entry as EntryValue};
-ghost use Rattle.hart.specs.declared.reply.Local.TheVariants.{NeedsHub};
+ghost use Rattle.hart.specs.declared.reply.Local.TheVariants.{NeedsMachine};
 ghost use Rattle.hart.specs.Locals.{FollowsAlone};
 ghost use Rattle.hart.specs.Rows.{setting_of};
 ghost use Rattle.machine.specs.Lent.{RetiresAlone};
@@ -35,7 +35,7 @@ pub trait Trace<const SETS: usize, const WAYS: usize>: Drop {
     fn retire(&mut self, hart: &mut Hart<SETS, WAYS>, text: &Text<'_>) -> bool
         requires { (es : List EntryValue) × traces self.old es × (length es < most_steps) }
         ensures made { IsTrue result → (e : EntryValue) × RetiresAlone SETS text.now.segments.now hart.old e hart.new × TracesMore traces self.old (e ∷ []) self.new }
-        ensures none { IsFalse result → FollowsAlone SETS (setting_of text.now.segments.now hart.old) hart.old hart.new NeedsHub × (self.new ≡ self.old) };
+        ensures none { IsFalse result → FollowsAlone SETS (setting_of text.now.segments.now hart.old) hart.old hart.new NeedsMachine × (self.new ≡ self.old) };
 }
 
 /// Keeps no entry, and tells of any.
@@ -64,7 +64,7 @@ fn retire<const SETS: usize, const WAYS: usize>(
     text: &Text<'_>,
 ) -> bool
     ensures made { IsTrue result → (e : EntryValue) × RetiresAlone SETS text.now.segments.now hart.old e hart.new }
-    ensures none { IsFalse result → FollowsAlone SETS (setting_of text.now.segments.now hart.old) hart.old hart.new NeedsHub }
+    ensures none { IsFalse result → FollowsAlone SETS (setting_of text.now.segments.now hart.old) hart.old hart.new NeedsMachine }
 {
     match hart.advance::<LENT>(text) {
         Some(_) => true,
@@ -79,11 +79,11 @@ fn retire_any<const SETS: usize, const WAYS: usize>(
     text: &Text<'_>,
 ) -> bool
     ensures made { IsTrue result → (e : EntryValue) × RetiresAlone SETS text.now.segments.now hart.old e hart.new }
-    ensures none { IsFalse result → FollowsAlone SETS (setting_of text.now.segments.now hart.old) hart.old hart.new NeedsHub }
+    ensures none { IsFalse result → FollowsAlone SETS (setting_of text.now.segments.now hart.old) hart.old hart.new NeedsMachine }
 {
     match hart.local(text) {
         Local::Retired(_) => true,
-        Local::NeedsHub => false,
+        Local::NeedsMachine => false,
     }
 }
 
@@ -157,7 +157,7 @@ impl<const SETS: usize, const WAYS: usize> Trace<SETS, WAYS> for Traced {
                 self.entries.push(Retired { entry });
                 true
             }
-            Local::NeedsHub => false,
+            Local::NeedsMachine => false,
         }
     }
 }

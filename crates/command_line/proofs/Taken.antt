@@ -3,7 +3,7 @@ use Rattle.std.proofs.Common.{◌≡◌, ◌≢◌, ◌∙◌, ◌&&◌, ⊎_eli
 use Rattle.std.specs.List.{find, slice_index_or}
 use Rattle.std.specs.Box.{box_value}
 use Rattle.std.specs.Prelude.{Box}
-use Rattle.clap.specs.Words.{App, HasMatchesOf, Row, Shape, Text, built, fault_of, first_of, found_of, is_simple, kind_of, rows_of, subcommand_name_of, subcommand_of}
+use Rattle.clap.specs.Words.{App, HasMatchesOf, Row, Shape, Text, built, fault_of, found_of, is_simple, kind_of, rows_of, subcommand_name_of, subcommand_of}
 use Rattle.clap.specs.Words.{subcommand_rows, subcommand_rows_of, IsAmong, HasKind}
 use Rattle.clap.specs.declared.error.Error.{Error}
 use Rattle.clap.specs.declared.error.kind.ErrorKind.{ErrorKind}
@@ -16,13 +16,10 @@ use Rattle.clap.specs.Kinds.{Kinds}
 use Rattle.clap.specs.Simple.{argument_words, entered, label_of, names_of, rows_at}
 use Rattle.clap.specs.Walk.{answers_to, finished, nothing_held, rows_after, stop_after, walk}
 use Rattle.command_line.specs.Command.{asm, debug, dis, logtm, run}
-use Rattle.command_line.specs.Reading.{AsksFor, Clashes, IsThreadsFault, is_given, IsComplete, IsFaultOf, IsRequestOf, IsReadingOf, IsRefusal, NamesFirstIn}
+use Rattle.command_line.specs.Reading.{AsksFor, IsComplete, IsFaultOf, IsReadingFault, IsReadingOf, IsRefusal, IsRequestOf}
 use Rattle.command_line.specs.declared.fault.OrderFault.{OrderFault}
 use Rattle.command_line.specs.declared.fault.OrderFault.TheVariants.{NoMemory, Refused, ThreadsAlone, TwoViews, LongPicture, Value}
 use Rattle.command_line.specs.declared.request.Request.{Request}
-use Rattle.command_line.specs.declared.request.Run.{Run}
-use Rattle.command_line.specs.declared.request.View.{View}
-use Rattle.command_line.specs.Views.{HasViewFault, IsTraceFault, IsTimelineFault}
 use Rattle.command_line.proofs.Levels.{given_first, is_none, lacks_nothing, level_passes, subcommand_checked, value_there}
 
 -- ---- the subcommands
@@ -170,12 +167,8 @@ subcommand_given words a m is passes matches =
 -- ---- the refusal
 
 abbrev is_no_memory : OrderFault → Bool
-is_no_memory (Refused text) = false
-is_no_memory (Value value) = false
-is_no_memory TwoViews = false
-is_no_memory LongPicture = false
-is_no_memory ThreadsAlone = false
 is_no_memory NoMemory = true
+is_no_memory other = false
 
 among_some : (k : ErrorKind) (kinds : Kinds) → IsAmong k kinds → kinds ≢ []
 among_some k [] among e = among
@@ -194,49 +187,11 @@ refused_words words a error NoMemory is fails memory refusal = tt
 
 -- ---- the reading of the values is what the words ask for
 
--- what doesn't go together is no refusal of clap's
-abbrev is_refused : OrderFault → Bool
-is_refused (Refused text) = true
-is_refused other = false
-
-trace_unrefused : (run : Run) (path : Text) (fault : OrderFault) → is_refused fault ≡ true → IsTraceFault run path fault → ⊥
-trace_unrefused run path (Refused text) is h = h.1
-trace_unrefused run path (Value value) is h = true≢false (sym is)
-trace_unrefused run path TwoViews is h = true≢false (sym is)
-trace_unrefused run path LongPicture is h = true≢false (sym is)
-trace_unrefused run path ThreadsAlone is h = true≢false (sym is)
-trace_unrefused run path NoMemory is h = true≢false (sym is)
-
-timeline_unrefused : (run : Run) (path : Text) (fault : OrderFault) → is_refused fault ≡ true → IsTimelineFault run path fault → ⊥
-timeline_unrefused run path (Refused text) is h = h.1.1
-timeline_unrefused run path (Value value) is h = true≢false (sym is)
-timeline_unrefused run path TwoViews is h = true≢false (sym is)
-timeline_unrefused run path LongPicture is h = true≢false (sym is)
-timeline_unrefused run path ThreadsAlone is h = true≢false (sym is)
-timeline_unrefused run path NoMemory is h = true≢false (sym is)
-
-view_unrefused : (run : Run) (trace timeline : Option Text) (fault : OrderFault) → is_refused fault ≡ true → HasViewFault run trace timeline fault → ⊥
-view_unrefused run None None fault is h = h
-view_unrefused run (Some trace) None fault is h = trace_unrefused run trace fault is h
-view_unrefused run None (Some timeline) fault is h = timeline_unrefused run timeline fault is h
-view_unrefused run (Some trace) (Some timeline) fault is h = true≢false (sym is ∙ ap is_refused h)
-
-threads_unrefused : (run : Run) (view : Option View) (threads : Bool) (history : Option Text) (fault : OrderFault) → is_refused fault ≡ true → IsThreadsFault run view threads history fault → ⊥
-threads_unrefused run view threads history (Refused text) is h = h
-threads_unrefused run view threads history (Value value) is h = true≢false (sym is)
-threads_unrefused run view threads history TwoViews is h = true≢false (sym is)
-threads_unrefused run view threads history LongPicture is h = true≢false (sym is)
-threads_unrefused run view threads history ThreadsAlone is h = true≢false (sym is)
-threads_unrefused run view threads history NoMemory is h = true≢false (sym is)
-
-clash_unrefused : (rows : List Row) (fault : OrderFault) → is_refused fault ≡ true → Clashes rows fault → ⊥
-clash_unrefused rows fault is clash = ⊎_elim (λ view. view_unrefused clash.0 (first_of (codes "trace") rows) (first_of (codes "timeline") rows) fault is view)
-    (λ threads. threads_unrefused clash.0 threads.0 (is_given (codes "threads") rows) (first_of (codes "history") rows) fault is threads.2) clash.2
-
 pub read_words : (words : List Text) (name : Text) (rows : List Row) (r : Result Request OrderFault) → AsksFor name words rows
-    → MatchResult r (IsReadingOf name rows) (NamesFirstIn name rows) → MatchResult r (IsRequestOf words) (IsFaultOf words)
+    → MatchResult r (IsReadingOf name rows) (IsReadingFault name rows) → MatchResult r (IsRequestOf words) (IsFaultOf words)
 read_words words name rows (Ok request) asks read = (name, rows, asks, read)
-read_words words name rows (Err (Refused text)) asks bad = ⊎_elim (λ run. ⊎_elim (λ first. absurd first) (λ clash. absurd (clash_unrefused rows (Refused text) refl clash)) run.1) (λ debug. absurd debug.1) bad
+read_words words name rows (Err (Refused text)) asks bad =
+    ⊎_elim (λ run. ⊎_elim (λ first. absurd first) (λ options. ⊎_elim (λ show. absurd show) (λ threads. absurd threads.2) options.2) run.1) (λ debug. absurd debug.1) bad
 read_words words name rows (Err (Value value)) asks bad = (name, rows, asks, bad)
 read_words words name rows (Err TwoViews) asks bad = (name, rows, asks, bad)
 read_words words name rows (Err LongPicture) asks bad = (name, rows, asks, bad)

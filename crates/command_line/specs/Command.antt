@@ -3,7 +3,7 @@ use Rattle.std.specs.Prelude.{◌≡◌, List, Result, IfOk, Some, [], ◌∷◌
 use Rattle.std.specs.declared.alloc.AllocError.{AllocError}
 use Rattle.clap.specs.Words.{App, Rule, Shape, Text, app_of, new_rule, with_rule}
 use Rattle.clap.specs.Simple.{new_shape}
-use Rattle.clap.specs.declared.builder.ArgAction.TheVariants.{Append, SetTrue}
+use Rattle.clap.specs.declared.builder.ArgAction.TheVariants.{Append, SetTrue, Version}
 use Rattle.clap.specs.declared.builder.command.Command.{Command}
 use Rattle.clap.specs.declared.builder.command.Command.TheViews.{out-Command}
 
@@ -22,6 +22,10 @@ flag_named name = record (new_rule name) { long = Some name; action = Some SetTr
 -- the arguments WORD, as many as the user likes
 abbrev pub words : Rule
 words = record (new_rule (codes "words")) { action = Some Append; value_names = 1 }
+
+-- the option that asks for the program's version
+abbrev pub version : Rule
+version = record (new_rule (codes "version")) { long = Some (codes "version"); action = Some Version }
 
 -- the command is this one, and has no global argument
 pub record IsApp (c : Command) (app : App) : Type 0 where
@@ -79,7 +83,10 @@ asm = record (new_shape (codes "asm")) {
 abbrev pub logtm : App
 logtm = record {
   top = record (new_shape (codes "logtm")) {
+    rules = version ∷ [];
     is_leaf = false;
+    has_version = true;
+    disable_version_flag = true;
     disable_help_subcommand = true;
     subcommand_required = true;
   };

@@ -1,4 +1,3 @@
 pub mod Command
-pub mod Views
+pub mod Runs
 pub mod Reading
-pub mod Paths

@@ -8,16 +8,17 @@
 //! - `logtm dis FILE`
 //! - `logtm asm IN OUT`
 //!
+//! And `logtm --version` names the version, and the logic of the proofs.
+//!
 //! A number is decimal, or `0x` and hexadecimal digits of either case, and below 2^32.
 #![tactic(auto)]
 
 mod fault;
+mod options;
 mod parser;
 mod reading;
 mod request;
 
 pub use fault::OrderFault;
 pub use parser::parse;
-pub use request::{
-    Cache, Debug, MOST_DRAWN, Order, Request, Run, Shown, Stats, Target, Threaded, View, Word,
-};
+pub use request::{Cache, MOST_DRAWN, Request, Run, Setup, Show, Stats, View, Way, Word};

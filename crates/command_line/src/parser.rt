@@ -22,10 +22,13 @@ const MEMORY_HELP: &str = "How many bytes of memory there are, 1048576 if not gi
 
 const CACHE_HELP: &str = "The cache of each hart, small or normal, normal if not given";
 
+// What stands behind the program's name for `--version`.
+const VERSION: &str = "1.0.0\nProved in the logic dac8208d650f15bf";
+
 /// What the words of a command line ask for. The first word is the program's name, as in what the
 /// environment gives, and is not read.
 ///
-/// clap says what it refuses, and answers `--help` in the same way. Where it takes the words of a
+/// clap says what it refuses, and answers `--help` and `--version` in the same way. Where it takes the words of a
 /// run, the values of `--harts`, `--memory`, `--steps`, `--cache` and `--stats` and then the WORDs are read, in
 /// this order, up to the first malformed one; those of `debug` likewise. Then more than one of `--trace`, `--timeline` and `--stats`
 /// is refused; then the value of `--trace` or `--timeline` is malformed where it is the path of a file that the run reads, and that of
@@ -50,9 +53,12 @@ fn command<'a>(alloc: Global) -> Result<Command<'a>, AllocError>
 {
     let command = Command::new(alloc, "logtm")
         .about("Simulates harts with transactional memory")
+        .version(VERSION)
+        .disable_version_flag(true)
         .disable_help_subcommand(true)
         .subcommand_required(true);
-    let command = with_subcommand(Ok(command), run_command(alloc));
+    let command = with_argument(Ok(command), version_flag(alloc));
+    let command = with_subcommand(command, run_command(alloc));
     let command = with_subcommand(command, debug_command(alloc));
     let command = with_subcommand(command, dis_command(alloc));
     with_subcommand(command, asm_command(alloc))
@@ -243,6 +249,17 @@ fn flag<'a>(alloc: Global, name: &'a str, help: &'a str) -> Arg<'a>
         .long(name)
         .action(ArgAction::SetTrue)
         .help(help)
+}
+
+// It is shown in no help.
+fn version_flag<'a>(alloc: Global) -> Arg<'a>
+    ensures rule { rule_of result ≡ spec.version }
+    ensures local { result.global ≡ false }
+{
+    Arg::new(alloc, "version")
+        .long("version")
+        .action(ArgAction::Version)
+        .hide(true)
 }
 
 fn words<'a>(alloc: Global) -> Arg<'a>

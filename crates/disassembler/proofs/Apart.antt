@@ -1,17 +1,18 @@
 -- Two words of a row don't share a text.
-use Rattle.std.proofs.Common.{◌≡◌, ℕ, ◌<◌, ◌||◌, ◌^◌, Bool, true, false, cond, List, Some, None, codes, refl, sym, ap, ◌∙◌, arith}
+use Rattle.std.proofs.Common.{◌≡◌, ℕ, ◌<◌, ◌||◌, ◌^◌, Bool, true, false, cond, List, Some, None, refl, sym, ap, ◌∙◌, arith}
 use Rattle.std.specs.Prelude.{decimal}
 use Rattle.std.proofs.lemmas.Bool.{eqb-true}
 use Rattle.std.proofs.lemmas.Fmt.{decimal_injective}
 use Rattle.std.proofs.lemmas.Option.{same_Some}
 use Rattle.operands.specs.Fields.{rd_of, rs1_of, rs2_of, aq_of, rl_of, imm_i_of, imm_s_of, imm_b_of, imm_u_of, imm_j_of, fence_bits_of}
 use Rattle.table.specs.declared.instr.Instr.TheVariants.{Fence, TBegin}
-use Rattle.table.specs.Table.{Row, instr}
-use Rattle.table.specs.Table.Row.{LUI, AUIPC, JAL, JALR, BRANCH, LOAD, STORE, OP_IMM, SHIFT_IMM, OP, AMO, FENCE, ECALL, EBREAK, TBEGIN, TCOMMIT, TABORT}
+use Rattle.table.specs.Table.{name_of, instr}
+use Rattle.table.specs.declared.instr.Row.{Row}
+use Rattle.table.specs.declared.instr.Row.TheVariants as row
 use Rattle.disassembler.specs.Mnemonics.{register}
 use Rattle.disassembler.specs.Canonical.{signed, upper, two, three, offset, atomic, spelled, full_fence}
 use Rattle.disassembler.proofs.Numerals.{signed-lacks, signed-same, upper-same}
-use Rattle.disassembler.proofs.Rows.{row_name, register-same, register-comma, register-closing}
+use Rattle.disassembler.proofs.Rows.{register-same, register-comma, register-closing}
 use Rattle.disassembler.proofs.Operands.{one-part, two-parts, three-parts, offset-parts, atomic-parts}
 
 rd-small : (w : ℕ) → rd_of w < 32
@@ -104,44 +105,44 @@ full false x t e = absurd (cc)
 -- two words of a row that share a text are one instruction
 pub same-instr : (row : Row) (v w : ℕ) (t : List ℕ) → v < 2 ^ 32 → w < 2 ^ 32 → spelled (instr row v) ≡ Some t
     → spelled (instr row w) ≡ Some t → instr row v ≡ instr row w
-same-instr LUI v w t hv hw ev ew = let e = upper-fields (codes "lui") v w hv hw (same_Some _ _ (ev ∙ sym ew)) in cc (e.0, e.1)
-same-instr AUIPC v w t hv hw ev ew = let e = upper-fields (codes "auipc") v w hv hw (same_Some _ _ (ev ∙ sym ew)) in cc (e.0, e.1)
-same-instr JAL v w t hv hw ev ew =
-    let parts = two-parts (codes "jal") _ _ _ _ (register-comma (rd_of v) (rd-small v)) (register-comma (rd_of w) (rd-small w)) (same_Some _ _ (ev ∙ sym ew)) in
+same-instr row.Lui v w t hv hw ev ew = let e = upper-fields (name_of row.Lui) v w hv hw (same_Some _ _ (ev ∙ sym ew)) in cc (e.0, e.1)
+same-instr row.Auipc v w t hv hw ev ew = let e = upper-fields (name_of row.Auipc) v w hv hw (same_Some _ _ (ev ∙ sym ew)) in cc (e.0, e.1)
+same-instr row.Jal v w t hv hw ev ew =
+    let parts = two-parts (name_of row.Jal) _ _ _ _ (register-comma (rd_of v) (rd-small v)) (register-comma (rd_of w) (rd-small w)) (same_Some _ _ (ev ∙ sym ew)) in
     let rd = register-same _ _ (rd-small v) (rd-small w) parts.0 in
     let imm = signed-same _ _ (imm_j-small v hv) (imm_j-small w hw) parts.1 in
     cc
-same-instr JALR v w t hv hw ev ew =
-    let e = based-fields (codes "jalr") _ _ _ _ _ _ (rd-small v) (rs1-small v) (rd-small w) (rs1-small w) (imm_i-small v hv) (imm_i-small w hw) (same_Some _ _ (ev ∙ sym ew)) in
+same-instr row.Jalr v w t hv hw ev ew =
+    let e = based-fields (name_of row.Jalr) _ _ _ _ _ _ (rd-small v) (rs1-small v) (rd-small w) (rs1-small w) (imm_i-small v hv) (imm_i-small w hw) (same_Some _ _ (ev ∙ sym ew)) in
     cc (e.first, e.number, e.base)
-same-instr (BRANCH op) v w t hv hw ev ew =
-    let e = numbered-fields (row_name (BRANCH op)) _ _ _ _ _ _ (rs1-small v) (rs2-small v) (rs1-small w) (rs2-small w) (imm_b-small v hv) (imm_b-small w hw) (same_Some _ _ (ev ∙ sym ew)) in
+same-instr (row.Branch op) v w t hv hw ev ew =
+    let e = numbered-fields (name_of (row.Branch op)) _ _ _ _ _ _ (rs1-small v) (rs2-small v) (rs1-small w) (rs2-small w) (imm_b-small v hv) (imm_b-small w hw) (same_Some _ _ (ev ∙ sym ew)) in
     cc (e.first, e.number, e.base)
-same-instr (LOAD op) v w t hv hw ev ew =
-    let e = based-fields (row_name (LOAD op)) _ _ _ _ _ _ (rd-small v) (rs1-small v) (rd-small w) (rs1-small w) (imm_i-small v hv) (imm_i-small w hw) (same_Some _ _ (ev ∙ sym ew)) in
+same-instr (row.Load op) v w t hv hw ev ew =
+    let e = based-fields (name_of (row.Load op)) _ _ _ _ _ _ (rd-small v) (rs1-small v) (rd-small w) (rs1-small w) (imm_i-small v hv) (imm_i-small w hw) (same_Some _ _ (ev ∙ sym ew)) in
     cc (e.first, e.number, e.base)
-same-instr (STORE op) v w t hv hw ev ew =
-    let e = based-fields (row_name (STORE op)) _ _ _ _ _ _ (rs2-small v) (rs1-small v) (rs2-small w) (rs1-small w) (imm_s-small v hv) (imm_s-small w hw) (same_Some _ _ (ev ∙ sym ew)) in
+same-instr (row.Store op) v w t hv hw ev ew =
+    let e = based-fields (name_of (row.Store op)) _ _ _ _ _ _ (rs2-small v) (rs1-small v) (rs2-small w) (rs1-small w) (imm_s-small v hv) (imm_s-small w hw) (same_Some _ _ (ev ∙ sym ew)) in
     cc (e.first, e.number, e.base)
-same-instr (OP_IMM op) v w t hv hw ev ew =
-    let e = numbered-fields (row_name (OP_IMM op)) _ _ _ _ _ _ (rd-small v) (rs1-small v) (rd-small w) (rs1-small w) (imm_i-small v hv) (imm_i-small w hw) (same_Some _ _ (ev ∙ sym ew)) in
+same-instr (row.OpImm op) v w t hv hw ev ew =
+    let e = numbered-fields (name_of (row.OpImm op)) _ _ _ _ _ _ (rd-small v) (rs1-small v) (rd-small w) (rs1-small w) (imm_i-small v hv) (imm_i-small w hw) (same_Some _ _ (ev ∙ sym ew)) in
     cc (e.first, e.number, e.base)
-same-instr (SHIFT_IMM op) v w t hv hw ev ew =
-    let e = shifted-fields (row_name (SHIFT_IMM op)) _ _ _ _ _ _ (rd-small v) (rs1-small v) (rd-small w) (rs1-small w) (rs2-small v) (rs2-small w) (same_Some _ _ (ev ∙ sym ew)) in
+same-instr (row.ShiftImm op) v w t hv hw ev ew =
+    let e = shifted-fields (name_of (row.ShiftImm op)) _ _ _ _ _ _ (rd-small v) (rs1-small v) (rd-small w) (rs1-small w) (rs2-small v) (rs2-small w) (same_Some _ _ (ev ∙ sym ew)) in
     cc (e.first, e.number, e.base)
-same-instr (OP op) v w t hv hw ev ew =
-    let e = register-fields (row_name (OP op)) _ _ _ _ _ _ (rd-small v) (rs1-small v) (rs2-small v) (rd-small w) (rs1-small w) (rs2-small w) (same_Some _ _ (ev ∙ sym ew)) in
+same-instr (row.Op op) v w t hv hw ev ew =
+    let e = register-fields (name_of (row.Op op)) _ _ _ _ _ _ (rd-small v) (rs1-small v) (rs2-small v) (rd-small w) (rs1-small w) (rs2-small w) (same_Some _ _ (ev ∙ sym ew)) in
     cc (e.first, e.number, e.base)
-same-instr (AMO op) v w t hv hw ev ew =
+same-instr (row.Amo op) v w t hv hw ev ew =
     let a = unordered (aq_of v) (rl_of v) _ t ev in
     let b = unordered (aq_of w) (rl_of w) _ t ew in
-    let e = atomic-fields (row_name (AMO op)) _ _ _ _ _ _ (rd-small v) (rs2-small v) (rs1-small v) (rd-small w) (rs2-small w) (rs1-small w) (a.2 ∙ sym b.2) in
+    let e = atomic-fields (name_of (row.Amo op)) _ _ _ _ _ _ (rd-small v) (rs2-small v) (rs1-small v) (rd-small w) (rs2-small w) (rs1-small w) (a.2 ∙ sym b.2) in
     cc (e.first, e.number, e.base, a.0, a.1, b.0, b.1)
-same-instr FENCE v w t hv hw ev ew =
+same-instr row.Fence v w t hv hw ev ew =
     ap (λ bits. Fence bits) (eqb-true (fence_bits_of v) full_fence (full _ _ t ev) ∙ sym (eqb-true (fence_bits_of w) full_fence (full _ _ t ew)))
-same-instr ECALL v w t hv hw ev ew = refl
-same-instr EBREAK v w t hv hw ev ew = refl
-same-instr TBEGIN v w t hv hw ev ew =
-    ap (λ n. TBegin n) (signed-same (imm_b_of v) (imm_b_of w) (imm_b-small v hv) (imm_b-small w hw) (one-part (codes "tbegin") _ _ (same_Some _ _ (ev ∙ sym ew))))
-same-instr TCOMMIT v w t hv hw ev ew = refl
-same-instr TABORT v w t hv hw ev ew = refl
+same-instr row.Ecall v w t hv hw ev ew = refl
+same-instr row.Ebreak v w t hv hw ev ew = refl
+same-instr row.TBegin v w t hv hw ev ew =
+    ap (λ n. TBegin n) (signed-same (imm_b_of v) (imm_b_of w) (imm_b-small v hv) (imm_b-small w hw) (one-part (name_of row.TBegin) _ _ (same_Some _ _ (ev ∙ sym ew))))
+same-instr row.TCommit v w t hv hw ev ew = refl
+same-instr row.TAbort v w t hv hw ev ew = refl

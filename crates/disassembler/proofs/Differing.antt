@@ -4,14 +4,15 @@ use Rattle.std.proofs.lemmas.List.{append_cancel_left}
 use Rattle.std.proofs.lemmas.Option.{same_Some}
 use Rattle.operands.specs.Fields.{aq_of, rl_of}
 use Rattle.table.specs.declared.instr.Instr.{Instr}
-use Rattle.table.specs.Table.{Row, fits, key, instr, table, instr_in, decoded}
-use Rattle.table.specs.Table.Row.{LUI, AUIPC, JAL, JALR, BRANCH, LOAD, STORE, OP_IMM, SHIFT_IMM, OP, AMO, FENCE, ECALL, EBREAK, TBEGIN, TCOMMIT, TABORT}
+use Rattle.table.specs.Table.{name_of, row_named, fits, key, instr, table, instr_in, decoded}
+use Rattle.table.specs.declared.instr.Row.{Row}
+use Rattle.table.specs.declared.instr.Row.TheVariants as row
 use Rattle.table.proofs.OneWord.{one_word}
 use Rattle.texts.specs.Numerals.{hexadecimal}
 use Rattle.texts.proofs.Digits.{hexadecimal-same}
 use Rattle.disassembler.specs.Canonical.{spelled, spelled_if, text_or, plain, canonical}
 use Rattle.disassembler.proofs.Cutting.{first_word, first_word-followed, first_word-alone}
-use Rattle.disassembler.proofs.Rows.{row_name, row_named, named-row, row_name-lacks, word-named}
+use Rattle.disassembler.proofs.Rows.{named-row, name_of-lacks, word-named}
 use Rattle.disassembler.proofs.Apart.{unordered, same-instr}
 
 -- a row with the text of its word
@@ -61,35 +62,35 @@ by_instr w (Some i) found = by_text w i (spelled i) found refl
 pub spelt-or_plain : (w : ℕ) → (canonical w ≡ plain w) ⊎ Spelt w
 spelt-or_plain w = by_instr w (decoded w) refl
 
-followed : (row : Row) (rest t : List ℕ) → row_name row ++ 32 ∷ rest ≡ t → first_word t ≡ row_name row
-followed row rest t e = ap first_word (sym e) ∙ first_word-followed (row_name row) rest (row_name-lacks row)
+followed : (row : Row) (rest t : List ℕ) → name_of row ++ 32 ∷ rest ≡ t → first_word t ≡ name_of row
+followed row rest t e = ap first_word (sym e) ∙ first_word-followed (name_of row) rest (name_of-lacks row)
 
-alone : (row : Row) (t : List ℕ) → row_name row ≡ t → first_word t ≡ row_name row
-alone row t e = ap first_word (sym e) ∙ first_word-alone (row_name row) (row_name-lacks row)
+alone : (row : Row) (t : List ℕ) → name_of row ≡ t → first_word t ≡ name_of row
+alone row t e = ap first_word (sym e) ∙ first_word-alone (name_of row) (name_of-lacks row)
 
 pub fence-text : (b : Bool) (x t : List ℕ) → cond b (Some x) None ≡ Some t → x ≡ t
 fence-text true x t e = same_Some x t e
 fence-text false x t e = absurd (cc)
 
 -- a text of a row begins with its name
-first_word-named : (row : Row) (w : ℕ) (t : List ℕ) → spelled (instr row w) ≡ Some t → first_word t ≡ row_name row
-first_word-named LUI w t e = followed LUI _ t (same_Some _ t e)
-first_word-named AUIPC w t e = followed AUIPC _ t (same_Some _ t e)
-first_word-named JAL w t e = followed JAL _ t (same_Some _ t e)
-first_word-named JALR w t e = followed JALR _ t (same_Some _ t e)
-first_word-named (BRANCH op) w t e = followed (BRANCH op) _ t (same_Some _ t e)
-first_word-named (LOAD op) w t e = followed (LOAD op) _ t (same_Some _ t e)
-first_word-named (STORE op) w t e = followed (STORE op) _ t (same_Some _ t e)
-first_word-named (OP_IMM op) w t e = followed (OP_IMM op) _ t (same_Some _ t e)
-first_word-named (SHIFT_IMM op) w t e = followed (SHIFT_IMM op) _ t (same_Some _ t e)
-first_word-named (OP op) w t e = followed (OP op) _ t (same_Some _ t e)
-first_word-named (AMO op) w t e = followed (AMO op) _ t (unordered (aq_of w) (rl_of w) _ t e).2
-first_word-named FENCE w t e = alone FENCE t (fence-text _ _ t e)
-first_word-named ECALL w t e = alone ECALL t (same_Some _ t e)
-first_word-named EBREAK w t e = alone EBREAK t (same_Some _ t e)
-first_word-named TBEGIN w t e = followed TBEGIN _ t (same_Some _ t e)
-first_word-named TCOMMIT w t e = alone TCOMMIT t (same_Some _ t e)
-first_word-named TABORT w t e = alone TABORT t (same_Some _ t e)
+first_word-named : (row : Row) (w : ℕ) (t : List ℕ) → spelled (instr row w) ≡ Some t → first_word t ≡ name_of row
+first_word-named row.Lui w t e = followed row.Lui _ t (same_Some _ t e)
+first_word-named row.Auipc w t e = followed row.Auipc _ t (same_Some _ t e)
+first_word-named row.Jal w t e = followed row.Jal _ t (same_Some _ t e)
+first_word-named row.Jalr w t e = followed row.Jalr _ t (same_Some _ t e)
+first_word-named (row.Branch op) w t e = followed (row.Branch op) _ t (same_Some _ t e)
+first_word-named (row.Load op) w t e = followed (row.Load op) _ t (same_Some _ t e)
+first_word-named (row.Store op) w t e = followed (row.Store op) _ t (same_Some _ t e)
+first_word-named (row.OpImm op) w t e = followed (row.OpImm op) _ t (same_Some _ t e)
+first_word-named (row.ShiftImm op) w t e = followed (row.ShiftImm op) _ t (same_Some _ t e)
+first_word-named (row.Op op) w t e = followed (row.Op op) _ t (same_Some _ t e)
+first_word-named (row.Amo op) w t e = followed (row.Amo op) _ t (unordered (aq_of w) (rl_of w) _ t e).2
+first_word-named row.Fence w t e = alone row.Fence t (fence-text _ _ t e)
+first_word-named row.Ecall w t e = alone row.Ecall t (same_Some _ t e)
+first_word-named row.Ebreak w t e = alone row.Ebreak t (same_Some _ t e)
+first_word-named row.TBegin w t e = followed row.TBegin _ t (same_Some _ t e)
+first_word-named row.TCommit w t e = alone row.TCommit t (same_Some _ t e)
+first_word-named row.TAbort w t e = alone row.TAbort t (same_Some _ t e)
 
 first_word-plain : (w : ℕ) → first_word (plain w) ≡ codes ".word"
 unfolding plain

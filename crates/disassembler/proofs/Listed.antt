@@ -1,5 +1,5 @@
 -- The lines of the words of text, one after another.
-use Rattle.std.proofs.Common.{◌≡◌, ℕ, ◌+◌, ◌*◌, ◌≤◌, ◌++◌, List, drop, Option, Result, Ok, Err, IsErr}
+use Rattle.std.proofs.Common.{◌≡◌, ℕ, ◌+◌, ◌*◌, ◌≤◌, ◌++◌, List, drop, Result, Ok, Err, IsErr}
 use Rattle.words.specs.declared.sink.SinkFault.{SinkFault}
 use Rattle.table.specs.Program.{Segment}
 use Rattle.texts.specs.Puts.{Puts}

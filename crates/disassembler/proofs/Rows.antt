@@ -1,8 +1,9 @@
 -- The name of a row of the instruction table tells the row, and the name of a register the register.
-use Rattle.std.proofs.Common.{◌≡◌, ℕ, ◌<◌, true, cond, suc, List, [], ◌∷◌, Option, Some, None, codes, refl, sym, ap, ◌∙◌}
+use Rattle.std.proofs.Common.{◌≡◌, ℕ, ◌<◌, true, cond, suc, List, [], ◌∷◌, Some, None, codes, refl, sym, ap, ◌∙◌}
 use Rattle.std.specs.Prelude.{bytes_eq}
-use Rattle.table.specs.Table.{Row, table}
-use Rattle.table.specs.Table.Row.{LUI, AUIPC, JAL, JALR, BRANCH, LOAD, STORE, OP_IMM, SHIFT_IMM, OP, AMO, FENCE, ECALL, EBREAK, TBEGIN, TCOMMIT, TABORT}
+use Rattle.table.specs.declared.instr.Row.{Row}
+use Rattle.table.specs.declared.instr.Row.TheVariants as row
+use Rattle.table.specs.Table.{name_of, row_named}
 use Rattle.table.specs.declared.instr.BranchOp.{BranchOp}
 use Rattle.table.specs.declared.instr.LoadOp.{LoadOp}
 use Rattle.table.specs.declared.instr.StoreOp.{StoreOp}
@@ -18,87 +19,68 @@ use Rattle.table.specs.declared.instr.ShiftOp.TheVariants as shift
 use Rattle.table.specs.declared.instr.AluOp.TheVariants as alu
 use Rattle.table.specs.declared.instr.AmoOp.TheVariants as amo
 use Rattle.texts.proofs.Digits.{agree, passes}
-use Rattle.disassembler.specs.Mnemonics.{registers, register, branch_name, load_name, store_name, imm_name, shift_name, op_name, amo_name}
+use Rattle.disassembler.specs.Mnemonics.{registers, register}
 use Rattle.disassembler.proofs.Cutting.{Lacks, lacks, lacks-true}
-
--- the mnemonic of the words of a row
-abbrev pub row_name : Row → List ℕ
-row_name LUI = codes "lui"
-row_name AUIPC = codes "auipc"
-row_name JAL = codes "jal"
-row_name JALR = codes "jalr"
-row_name (BRANCH op) = branch_name op
-row_name (LOAD op) = load_name op
-row_name (STORE op) = store_name op
-row_name (OP_IMM op) = imm_name op
-row_name (SHIFT_IMM op) = shift_name op
-row_name (OP op) = op_name op
-row_name (AMO op) = amo_name op
-row_name FENCE = codes "fence"
-row_name ECALL = codes "ecall"
-row_name EBREAK = codes "ebreak"
-row_name TBEGIN = codes "tbegin"
-row_name TCOMMIT = codes "tcommit"
-row_name TABORT = codes "tabort"
-
--- the first of some rows with a name
-abbrev row_in : List Row → List ℕ → Option Row
-row_in [] name = None
-row_in (row ∷ rows) name = cond (bytes_eq (row_name row) name) (Some row) (row_in rows name)
-
-abbrev pub row_named : List ℕ → Option Row
-row_named name = row_in table name
 
 -- what is computed of each row: its name is told from all others, and has no space
 abbrev IsTold : Row → Type 0
-IsTold row = (row_named (row_name row) ≡ Some row) × (lacks 32 (row_name row) ≡ true)
+IsTold row = (row_named (name_of row) ≡ Some row) × (lacks 32 (name_of row) ≡ true)
 
-branch-told : (op : BranchOp) → IsTold (BRANCH op)
+branch-told : (op : BranchOp) → IsTold (row.Branch op)
+unfolding row_named
 branch-told branch.Eq = (refl, refl)
 branch-told op = (refl, refl)
 
-load-told : (op : LoadOp) → IsTold (LOAD op)
+load-told : (op : LoadOp) → IsTold (row.Load op)
+unfolding row_named
 load-told load.Byte = (refl, refl)
 load-told op = (refl, refl)
 
-store-told : (op : StoreOp) → IsTold (STORE op)
+store-told : (op : StoreOp) → IsTold (row.Store op)
+unfolding row_named
 store-told store.Byte = (refl, refl)
 store-told op = (refl, refl)
 
-imm-told : (op : ImmOp) → IsTold (OP_IMM op)
+imm-told : (op : ImmOp) → IsTold (row.OpImm op)
+unfolding row_named
 imm-told imm.Add = (refl, refl)
 imm-told op = (refl, refl)
 
-shift-told : (op : ShiftOp) → IsTold (SHIFT_IMM op)
+shift-told : (op : ShiftOp) → IsTold (row.ShiftImm op)
+unfolding row_named
 shift-told shift.Sll = (refl, refl)
 shift-told op = (refl, refl)
 
-op-told : (op : AluOp) → IsTold (OP op)
+op-told : (op : AluOp) → IsTold (row.Op op)
+unfolding row_named
 op-told alu.Add = (refl, refl)
 op-told op = (refl, refl)
 
-amo-told : (op : AmoOp) → IsTold (AMO op)
+amo-told : (op : AmoOp) → IsTold (row.Amo op)
+unfolding row_named
 amo-told amo.Add = (refl, refl)
 amo-told op = (refl, refl)
 
 told : (row : Row) → IsTold row
-told (BRANCH op) = branch-told op
-told (LOAD op) = load-told op
-told (STORE op) = store-told op
-told (OP_IMM op) = imm-told op
-told (SHIFT_IMM op) = shift-told op
-told (OP op) = op-told op
-told (AMO op) = amo-told op
+unfolding row_named
+told (row.Branch op) = branch-told op
+told (row.Load op) = load-told op
+told (row.Store op) = store-told op
+told (row.OpImm op) = imm-told op
+told (row.ShiftImm op) = shift-told op
+told (row.Op op) = op-told op
+told (row.Amo op) = amo-told op
 told row = (refl, refl)
 
-pub named-row : (row : Row) → row_named (row_name row) ≡ Some row
+pub named-row : (row : Row) → row_named (name_of row) ≡ Some row
 named-row row = (told row).0
 
-pub row_name-lacks : (row : Row) → Lacks 32 (row_name row)
-row_name-lacks row = lacks-true 32 (row_name row) (told row).1
+pub name_of-lacks : (row : Row) → Lacks 32 (name_of row)
+name_of-lacks row = lacks-true 32 (name_of row) (told row).1
 
 -- a word without a row has a name of its own
 pub word-named : row_named (codes ".word") ≡ None
+unfolding row_named
 word-named = refl
 
 -- Registers

@@ -5,10 +5,11 @@ use Rattle.std.specs.Int.{w32, cast_signed}
 use Rattle.std.specs.List.{concat}
 use Rattle.texts.specs.Numerals.{hexadecimal}
 use Rattle.operands.specs.Fields.{fence_bits_of}
-use Rattle.table.specs.Table.{decoded}
+use Rattle.table.specs.Table.{decoded, name_of}
 use Rattle.table.specs.declared.instr.Instr.{Instr}
 use Rattle.table.specs.declared.instr.Instr.TheVariants.{Lui, Auipc, Jal, Jalr, Branch, Load, Store, OpImm, ShiftImm, Op, Amo, Fence, Ecall, Ebreak, TBegin, TCommit, TAbort}
-use Rattle.disassembler.specs.Mnemonics.{register, branch_name, load_name, store_name, imm_name, shift_name, op_name, amo_name}
+use Rattle.table.specs.declared.instr.Row.TheVariants as row
+use Rattle.disassembler.specs.Mnemonics.{register}
 
 -- Numbers
 
@@ -54,23 +55,23 @@ full_fence = fence_bits_of 0x0ff0000f
 
 -- the text of an instruction; an atomic operation with aq or rl and any other fence have none
 abbrev pub spelled : Instr → Option (List ℕ)
-spelled (Lui rd i) = Some (two (codes "lui") (register rd) (upper i))
-spelled (Auipc rd i) = Some (two (codes "auipc") (register rd) (upper i))
-spelled (Jal rd i) = Some (two (codes "jal") (register rd) (signed i))
-spelled (Jalr rd rs1 i) = Some (offset (codes "jalr") (register rd) (signed i) (register rs1))
-spelled (Branch op rs1 rs2 i) = Some (three (branch_name op) (register rs1) (register rs2) (signed i))
-spelled (Load op rd rs1 i) = Some (offset (load_name op) (register rd) (signed i) (register rs1))
-spelled (Store op rs1 rs2 i) = Some (offset (store_name op) (register rs2) (signed i) (register rs1))
-spelled (OpImm op rd rs1 i) = Some (three (imm_name op) (register rd) (register rs1) (signed i))
-spelled (ShiftImm op rd rs1 k) = Some (three (shift_name op) (register rd) (register rs1) (decimal k))
-spelled (Op op rd rs1 rs2) = Some (three (op_name op) (register rd) (register rs1) (register rs2))
-spelled (Amo op rd rs1 rs2 aq rl) = cond (aq || rl) None (Some (atomic (amo_name op) (register rd) (register rs2) (register rs1)))
-spelled (Fence bits) = cond (bits == full_fence) (Some (codes "fence")) None
-spelled Ecall = Some (codes "ecall")
-spelled Ebreak = Some (codes "ebreak")
-spelled (TBegin i) = Some (one (codes "tbegin") (signed i))
-spelled TCommit = Some (codes "tcommit")
-spelled TAbort = Some (codes "tabort")
+spelled (Lui rd i) = Some (two (name_of row.Lui) (register rd) (upper i))
+spelled (Auipc rd i) = Some (two (name_of row.Auipc) (register rd) (upper i))
+spelled (Jal rd i) = Some (two (name_of row.Jal) (register rd) (signed i))
+spelled (Jalr rd rs1 i) = Some (offset (name_of row.Jalr) (register rd) (signed i) (register rs1))
+spelled (Branch op rs1 rs2 i) = Some (three (name_of (row.Branch op)) (register rs1) (register rs2) (signed i))
+spelled (Load op rd rs1 i) = Some (offset (name_of (row.Load op)) (register rd) (signed i) (register rs1))
+spelled (Store op rs1 rs2 i) = Some (offset (name_of (row.Store op)) (register rs2) (signed i) (register rs1))
+spelled (OpImm op rd rs1 i) = Some (three (name_of (row.OpImm op)) (register rd) (register rs1) (signed i))
+spelled (ShiftImm op rd rs1 k) = Some (three (name_of (row.ShiftImm op)) (register rd) (register rs1) (decimal k))
+spelled (Op op rd rs1 rs2) = Some (three (name_of (row.Op op)) (register rd) (register rs1) (register rs2))
+spelled (Amo op rd rs1 rs2 aq rl) = cond (aq || rl) None (Some (atomic (name_of (row.Amo op)) (register rd) (register rs2) (register rs1)))
+spelled (Fence bits) = cond (bits == full_fence) (Some (name_of row.Fence)) None
+spelled Ecall = Some (name_of row.Ecall)
+spelled Ebreak = Some (name_of row.Ebreak)
+spelled (TBegin i) = Some (one (name_of row.TBegin) (signed i))
+spelled TCommit = Some (name_of row.TCommit)
+spelled TAbort = Some (name_of row.TAbort)
 
 -- a word that has no other text
 unfoldable pub plain : ℕ → List ℕ

@@ -1,7 +1,6 @@
 ghost use Rattle.std.specs.Prelude.{◌≡◌, ◌≤◌, length};
-ghost use Rattle.disassembler.specs.Mnemonics.{register, branch_name, load_name, store_name, imm_name, shift_name, op_name, amo_name};
+ghost use Rattle.disassembler.specs.Mnemonics.{register};
 
-use table::{AluOp, AmoOp, BranchOp, ImmOp, LoadOp, ShiftOp, StoreOp};
 use words::Reg;
 
 /// The name of a register in the ABI.
@@ -43,111 +42,5 @@ pub fn register(r: Reg) -> &'static str
         29 => "t4",
         30 => "t5",
         _ => "t6",
-    }
-}
-
-pub(crate) fn branch_name(op: BranchOp) -> &'static str
-    ensures name { result.now ≡ branch_name op }
-    ensures short { length result.now ≤ 9 }
-{
-    match op {
-        BranchOp::Eq => "beq",
-        BranchOp::Ne => "bne",
-        BranchOp::Lt => "blt",
-        BranchOp::Ge => "bge",
-        BranchOp::Ltu => "bltu",
-        BranchOp::Geu => "bgeu",
-    }
-}
-
-pub(crate) fn load_name(op: LoadOp) -> &'static str
-    ensures name { result.now ≡ load_name op }
-    ensures short { length result.now ≤ 9 }
-{
-    match op {
-        LoadOp::Byte => "lb",
-        LoadOp::Half => "lh",
-        LoadOp::Word => "lw",
-        LoadOp::ByteUnsigned => "lbu",
-        LoadOp::HalfUnsigned => "lhu",
-    }
-}
-
-pub(crate) fn store_name(op: StoreOp) -> &'static str
-    ensures name { result.now ≡ store_name op }
-    ensures short { length result.now ≤ 9 }
-{
-    match op {
-        StoreOp::Byte => "sb",
-        StoreOp::Half => "sh",
-        StoreOp::Word => "sw",
-    }
-}
-
-pub(crate) fn imm_name(op: ImmOp) -> &'static str
-    ensures name { result.now ≡ imm_name op }
-    ensures short { length result.now ≤ 9 }
-{
-    match op {
-        ImmOp::Add => "addi",
-        ImmOp::Slt => "slti",
-        ImmOp::Sltu => "sltiu",
-        ImmOp::Xor => "xori",
-        ImmOp::Or => "ori",
-        ImmOp::And => "andi",
-    }
-}
-
-pub(crate) fn shift_name(op: ShiftOp) -> &'static str
-    ensures name { result.now ≡ shift_name op }
-    ensures short { length result.now ≤ 9 }
-{
-    match op {
-        ShiftOp::Sll => "slli",
-        ShiftOp::Srl => "srli",
-        ShiftOp::Sra => "srai",
-    }
-}
-
-pub(crate) fn op_name(op: AluOp) -> &'static str
-    ensures name { result.now ≡ op_name op }
-    ensures short { length result.now ≤ 9 }
-{
-    match op {
-        AluOp::Add => "add",
-        AluOp::Sub => "sub",
-        AluOp::Sll => "sll",
-        AluOp::Slt => "slt",
-        AluOp::Sltu => "sltu",
-        AluOp::Xor => "xor",
-        AluOp::Srl => "srl",
-        AluOp::Sra => "sra",
-        AluOp::Or => "or",
-        AluOp::And => "and",
-        AluOp::Mul => "mul",
-        AluOp::Mulh => "mulh",
-        AluOp::Mulhsu => "mulhsu",
-        AluOp::Mulhu => "mulhu",
-        AluOp::Div => "div",
-        AluOp::Divu => "divu",
-        AluOp::Rem => "rem",
-        AluOp::Remu => "remu",
-    }
-}
-
-pub(crate) fn amo_name(op: AmoOp) -> &'static str
-    ensures name { result.now ≡ amo_name op }
-    ensures short { length result.now ≤ 9 }
-{
-    match op {
-        AmoOp::Add => "amoadd.w",
-        AmoOp::Swap => "amoswap.w",
-        AmoOp::Xor => "amoxor.w",
-        AmoOp::Or => "amoor.w",
-        AmoOp::And => "amoand.w",
-        AmoOp::Min => "amomin.w",
-        AmoOp::Max => "amomax.w",
-        AmoOp::Minu => "amominu.w",
-        AmoOp::Maxu => "amomaxu.w",
     }
 }

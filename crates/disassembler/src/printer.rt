@@ -2,10 +2,9 @@ ghost use Rattle.std.specs.Prelude.{◌≡◌, ◌≤◌, ◌+◌, ◌++◌, len
 ghost use Rattle.table.specs.declared.instr.Instr.TheVariants.{Amo, Fence};
 ghost use Rattle.disassembler.specs.Canonical.{canonical, spelled, plain, text_or};
 
-use crate::names::{amo_name, branch_name, imm_name, load_name, op_name, shift_name, store_name};
 use crate::shapes::{atomic, based, begin, jump, numbered, registers, shifted, upper};
 use operands::FenceBits;
-use table::{AmoOp, Instr, decode};
+use table::{Instr, Row, decode};
 use texts::Line;
 use words::Reg;
 
@@ -48,26 +47,32 @@ fn add_instr<const CAP: usize>(instr: Instr, word: u32, line: &mut Line<CAP>)
     ensures longer { length line.new ≤ length line.old + 40 }
 {
     match instr {
-        Instr::Lui { rd, imm } => upper("lui", rd, imm, line),
-        Instr::Auipc { rd, imm } => upper("auipc", rd, imm, line),
-        Instr::Jal { rd, offset } => jump("jal", rd, offset.value(), line),
-        Instr::Jalr { rd, rs1, imm } => based("jalr", rd, imm, rs1, line),
+        Instr::Lui { rd, imm } => upper(Row::Lui.name(), rd, imm, line),
+        Instr::Auipc { rd, imm } => upper(Row::Auipc.name(), rd, imm, line),
+        Instr::Jal { rd, offset } => jump(Row::Jal.name(), rd, offset.value(), line),
+        Instr::Jalr { rd, rs1, imm } => based(Row::Jalr.name(), rd, imm, rs1, line),
         Instr::Branch {
             op,
             rs1,
             rs2,
             offset,
-        } => numbered(branch_name(op), rs1, rs2, offset.value(), line),
-        Instr::Load { op, rd, rs1, imm } => based(load_name(op), rd, imm, rs1, line),
-        Instr::Store { op, rs1, rs2, imm } => based(store_name(op), rs2, imm, rs1, line),
-        Instr::OpImm { op, rd, rs1, imm } => numbered(imm_name(op), rd, rs1, imm.value(), line),
+        } => numbered(Row::Branch(op).name(), rs1, rs2, offset.value(), line),
+        Instr::Load { op, rd, rs1, imm } => based(Row::Load(op).name(), rd, imm, rs1, line),
+        Instr::Store { op, rs1, rs2, imm } => based(Row::Store(op).name(), rs2, imm, rs1, line),
+        Instr::OpImm { op, rd, rs1, imm } => numbered(
+            Row::OpImm(op).name(),
+            rd,
+            rs1,
+            imm.value(),
+            line,
+        ),
         Instr::ShiftImm {
             op,
             rd,
             rs1,
             amount,
-        } => shifted(shift_name(op), rd, rs1, amount, line),
-        Instr::Op { op, rd, rs1, rs2 } => registers(op_name(op), rd, rs1, rs2, line),
+        } => shifted(Row::ShiftImm(op).name(), rd, rs1, amount, line),
+        Instr::Op { op, rd, rs1, rs2 } => registers(Row::Op(op).name(), rd, rs1, rs2, line),
         Instr::Amo {
             op,
             rd,
@@ -75,14 +80,14 @@ fn add_instr<const CAP: usize>(instr: Instr, word: u32, line: &mut Line<CAP>)
             rs2,
             aq,
             rl,
-        } if !aq && !rl => atomic(amo_name(op), rd, rs2, rs1, line),
-        Instr::Fence { bits } if bits.value() == FULL_FENCE => line.put("fence"),
+        } if !aq && !rl => atomic(Row::Amo(op).name(), rd, rs2, rs1, line),
+        Instr::Fence { bits } if bits.value() == FULL_FENCE => line.put(Row::Fence.name()),
         Instr::Amo { .. } | Instr::Fence { .. } => add_plain(word, line),
-        Instr::Ecall => line.put("ecall"),
-        Instr::Ebreak => line.put("ebreak"),
-        Instr::TBegin { offset } => begin(offset, line),
-        Instr::TCommit => line.put("tcommit"),
-        Instr::TAbort => line.put("tabort"),
+        Instr::Ecall => line.put(Row::Ecall.name()),
+        Instr::Ebreak => line.put(Row::Ebreak.name()),
+        Instr::TBegin { offset } => begin(Row::TBegin.name(), offset, line),
+        Instr::TCommit => line.put(Row::TCommit.name()),
+        Instr::TAbort => line.put(Row::TAbort.name()),
     }
 }
 

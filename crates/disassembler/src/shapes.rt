@@ -131,13 +131,15 @@ pub(crate) fn atomic<const CAP: usize>(op: &str, a: Reg, b: Reg, base: Reg, line
     line.put(")");
 }
 
-/// `tbegin n`.
-pub(crate) fn begin<const CAP: usize>(offset: AbortOffset, line: &mut Line<CAP>)
-    requires { length line.old + 40 ≤ CAP }
-    ensures text { line.new ≡ line.old ++ spec.one (codes "tbegin") (spec.signed offset) }
+/// `op n`.
+pub(crate) fn begin<const CAP: usize>(op: &str, offset: AbortOffset, line: &mut Line<CAP>)
+    requires op { length op.now ≤ 9 }
+    requires room { length line.old + 40 ≤ CAP }
+    ensures text { line.new ≡ line.old ++ spec.one op.now (spec.signed offset) }
     ensures longer { length line.new ≤ length line.old + 40 }
 {
     let mut digits = Buffer::new();
-    line.put("tbegin ");
+    line.put(op);
+    line.put(" ");
     line.put(signed(offset.value(), &mut digits));
 }

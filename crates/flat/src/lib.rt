@@ -13,6 +13,7 @@ pub use boot_fault::BootFault;
 pub use engine::Engine;
 pub use laws::{
     aborted_attempts_leave_nothing, aborts_leave_memory, commits_are_whole, one_end, one_result,
-    others_stay, run_of_two, settings_stay, touched_blocks_stay, transactions_are_serial,
-    transactions_keep_apart, unwritten_blocks_are_memory, writes_are_seen_alone,
+    others_stay, plain_runs_are_sequential, run_of_two, settings_stay, touched_blocks_stay,
+    transactions_are_serial, transactions_keep_apart, unwritten_blocks_are_memory,
+    writes_are_seen_alone,
 };

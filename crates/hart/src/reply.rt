@@ -77,7 +77,7 @@ pub enum Local {
     /// It retired a word.
     Retired(Entry),
     /// Nothing: the next step has to be made in the machine, or there is none.
-    NeedsHub,
+    NeedsMachine,
 }
 
 impl CoreStep {
@@ -89,7 +89,7 @@ impl CoreStep {
     {
         match self.entry {
             Some(entry) => Local::Retired(entry),
-            None => Local::NeedsHub,
+            None => Local::NeedsMachine,
         }
     }
 }

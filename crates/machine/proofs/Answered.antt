@@ -102,24 +102,24 @@ module _ (g : Geometry) (f : Flat) (w : Machine) (keys : ℕ) (b : Belongs g f w
   peek_flat a = λ k. word_if (same_setting g f w b k) (λ c. answers.peek c k) a
 
   pub view_flat : (i a : ℕ) → (IsAborting (w.harts i) → ⊥) → view_if keys w i a ≡ word_seen f i a
-  view_flat i a calm = by (cases_lt i w.setting.count)
+  view_flat i a quiescent = by (cases_lt i w.setting.count)
     where
       by : (i < w.setting.count) ⊎ (w.setting.count ≤ i) → view_if keys w i a ≡ word_seen f i a
-      by (inl lt) = λ k. cond (nat_lt i (same_setting g f w b k).count) (word_if (same_setting g f w b k) (λ c. answers.view i c lt calm k) a) None
+      by (inl lt) = λ k. cond (nat_lt i (same_setting g f w b k).count) (word_if (same_setting g f w b k) (λ c. answers.view i c lt quiescent k) a) None
       by (inr le) =
           let un : nat_lt i w.setting.count ≡ false = grind (arith, nat_tests) in
           let also : nat_lt i f.setting.count ≡ false = subst (λ s. nat_lt i s.count ≡ false) (same_setting g f w b) un in
           (λ k. cond (un k) (word_if w.setting (view keys w i) a) None) ∙ (λ k. cond (sym also k) (word_if f.setting (flat_view f i) a) None)
 
   pub raw_flat : (a v : ℕ) → a % 4 ≡ 0 → v ≡ number_at (raw keys w) a Word → ((i : ℕ) → has_written (f.hart i).tx (a / 32) ≡ true → IsAborting (w.harts i) → ⊥) → IsInPlace f a v
-  raw_flat a v four is calm =
+  raw_flat a v four is quiescent =
       let at1 : a / 32 ≡ (a + 1) / 32 = omega (arith, four) in
       let at2 : a / 32 ≡ (a + 2) / 32 = omega (arith, four) in
       let at3 : a / 32 ≡ (a + 3) / 32 = omega (arith, four) in
       record {
         written = λ i lt e none.
             let inside : i < w.setting.count = subst (λ s. i < s.count) (sym (same_setting g f w b)) lt in
-            let same : (c : ℕ) → a / 32 ≡ c / 32 → raw keys w c ≡ flat_view f i c = λ c at. answers.raw_written i c inside (calm i e) (subst (λ d. has_written (f.hart i).tx d ≡ true) at e) in
+            let same : (c : ℕ) → a / 32 ≡ c / 32 → raw keys w c ≡ flat_view f i c = λ c at. answers.raw_written i c inside (quiescent i e) (subst (λ d. has_written (f.hart i).tx d ≡ true) at e) in
             is ∙ word_same (raw keys w) (flat_view f i) a (same a refl) (same (a + 1) at1) (same (a + 2) at2) (same (a + 3) at3);
         unwritten = λ none.
             let same : (c : ℕ) → a / 32 ≡ c / 32 → raw keys w c ≡ f.mem c = λ c at. answers.raw_unwritten c (λ i lt.

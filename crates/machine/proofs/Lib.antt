@@ -19,10 +19,9 @@ mod Answered
 mod Logs
 mod Turning
 mod Oldest
-mod Playing
 mod Naming
 pub mod Returning
-pub mod Calm
+pub mod Quiescence
 pub mod Plain
 mod Enabled
 mod Ending

@@ -26,5 +26,5 @@ pub use info::TxInfo;
 pub use listener::{Listener, Nobody};
 pub use machine::Machine;
 pub use play::{PlainTurns, Turned, hart_after};
-pub use progress::{PACE, Progress, Silent};
+pub use progress::{PROGRESS_INTERVAL, Progress, Silent};
 pub use watch::Turn;

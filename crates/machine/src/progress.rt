@@ -6,14 +6,14 @@ use crate::machine::Machine;
 use words::Status;
 
 /// How many steps a run makes from one note of its progress to the next.
-pub const PACE: u32 = 65_536;
+pub const PROGRESS_INTERVAL: u32 = 65_536;
 
 /// What is told of a run's progress. Nothing that a run does depends on it.
 pub trait Progress {
     /// What comes of telling that so many harts run.
     ghost tells: { Self → ℕ → Self → Type 0 };
 
-    /// The run has made [`PACE`] steps more, or a few less, and so many harts still run.
+    /// The run has made [`PROGRESS_INTERVAL`] steps more, or a few less, and so many harts still run.
     fn tell(&mut self, running: usize)
         ensures { tells self.old running self.new };
 
@@ -51,7 +51,7 @@ impl<const SETS: usize, const WAYS: usize> Machine<SETS, WAYS> {
     /// Takes note of steps that were made, where progress is due after so many. It is told if they were as many, and the answer is after how many
     /// it is due then.
     #[inline(always)]
-    pub fn pace<P: Progress>(&self, made: u32, due: u32, progress: &mut P) -> u32
+    pub fn note_progress<P: Progress>(&self, made: u32, due: u32, progress: &mut P) -> u32
         ensures sooner { made < due → result ≡ due - made }
         ensures told { due ≤ made → (result ≡ 65536) × P.tells progress.old (number_running self.now.seats) progress.new }
         ensures silent { made < due → progress.new ≡ progress.old }
@@ -60,6 +60,6 @@ impl<const SETS: usize, const WAYS: usize> Machine<SETS, WAYS> {
             return due - made;
         }
         progress.tell(self.running());
-        PACE
+        PROGRESS_INTERVAL
     }
 }

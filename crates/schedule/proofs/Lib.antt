@@ -1,7 +1,10 @@
 mod Words
 mod Reading
 mod Finding
-pub mod Following
+pub mod Making
+pub mod Seeing
+pub mod PlainTurns
+pub mod Lengths
 mod Batches
 mod LineWords
 mod Spelled

@@ -3,7 +3,7 @@ pub mod Reported
 pub mod Starting
 pub mod Refusing
 pub mod Performing
-mod CountedRuns
+mod TurnRuns
 pub mod Quoting
 mod ShownRuns
 mod ThreadedRuns

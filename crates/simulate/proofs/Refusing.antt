@@ -1,5 +1,5 @@
 -- What comes of a text that is put, by what the putting answered.
-use Rattle.std.proofs.Common.{ℕ, List, Option, Result, Ok, Err, inl, inr}
+use Rattle.std.proofs.Common.{ℕ, List, Result, Ok, Err, inl, inr}
 use Rattle.words.specs.declared.sink.SinkFault.{SinkFault}
 use Rattle.words.specs.Sinks.{IsPut, SinkState}
 use Rattle.texts.specs.Puts.{Puts}

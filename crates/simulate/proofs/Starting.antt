@@ -6,6 +6,7 @@ use Rattle.flat.specs.Boots.{boot_fault}
 use Rattle.flat.specs.declared.boot_fault.BootFault.{BootFault}
 use Rattle.flat.specs.declared.boot_fault.BootFault.TheVariants as boot
 use Rattle.machine.specs.States.{State}
+use Rattle.command_line.specs.declared.request.Setup.{Setup}
 use Rattle.simulate.specs.Faults.{of_boot}
 use Rattle.simulate.specs.Sources.{IsProgramIn}
 use Rattle.simulate.specs.Starts.{IsStartFault}
@@ -21,8 +22,8 @@ refused-fault None r b P err refused accepted = inl (MatchResult-at_err P (λ e.
 refused-fault (Some e) r b P err refused accepted = let same = refused e refl in inr (cc)
 
 -- the fault of a boot, told to the user
-pub boot-start_fault : (path file : List ℕ) (harts memory : ℕ) (p : Program) (b : BootFault) → IsProgramIn path file p → (b ≡ boot.NoMemory) ⊎ (boot_fault p.segments harts memory ≡ Some b) → IsStartFault path file harts memory (of_boot b)
-boot-start_fault path file harts memory p boot.BadSize holds h = elim h [ inl e ↦ absurd (cc) | inr e ↦ (p, holds, e) ]
-boot-start_fault path file harts memory p boot.BadHarts holds h = elim h [ inl e ↦ absurd (cc) | inr e ↦ (p, holds, e) ]
-boot-start_fault path file harts memory p boot.DoesNotFit holds h = elim h [ inl e ↦ absurd (cc) | inr e ↦ (p, holds, e) ]
-boot-start_fault path file harts memory p boot.NoMemory holds h = tt
+pub boot-start_fault : (setup : Setup) (file : List ℕ) (p : Program) (b : BootFault) → IsProgramIn setup.file.now file p → (b ≡ boot.NoMemory) ⊎ (boot_fault p.segments setup.harts setup.memory ≡ Some b) → IsStartFault setup file (of_boot b)
+boot-start_fault setup file p boot.BadSize holds h = elim h [ inl e ↦ absurd (cc) | inr e ↦ inr (inl (boot.BadSize, record { program = p; holds = holds; refused = e }, refl)) ]
+boot-start_fault setup file p boot.BadHarts holds h = elim h [ inl e ↦ absurd (cc) | inr e ↦ inr (inl (boot.BadHarts, record { program = p; holds = holds; refused = e }, refl)) ]
+boot-start_fault setup file p boot.DoesNotFit holds h = elim h [ inl e ↦ absurd (cc) | inr e ↦ inr (inl (boot.DoesNotFit, record { program = p; holds = holds; refused = e }, refl)) ]
+boot-start_fault setup file p boot.NoMemory holds h = inr (inr refl)

@@ -1,25 +1,36 @@
 -- What there is before the first step of a run.
-use Rattle.std.specs.Prelude.{ℕ, ◌≡◌, List}
+use Rattle.std.specs.Prelude.{ℕ, ◌≡◌, ◌⊎◌, List, None}
+use Rattle.loader.specs.Programs.{Program}
+use Rattle.flat.specs.Boots.{boot_fault}
 use Rattle.protocol.specs.Caches.{Geometry}
 use Rattle.machine.specs.States.{State, setting_of}
 use Rattle.command_line.specs.declared.request.Run.{Run}
+use Rattle.command_line.specs.declared.request.Word.{Word}
 use Rattle.schedule.specs.declared.choices.Choice.{Choice}
 use Rattle.simulate.specs.Reports.{AllReadable}
 use Rattle.simulate.specs.Runs.{addresses}
-use Rattle.simulate.specs.Schedules.{AreChosenBy}
-use Rattle.simulate.specs.Starts.{IsStartOf}
+use Rattle.simulate.specs.Schedules.{AreChosenBy, IsScheduleFault}
+use Rattle.simulate.specs.Sources.{IsProgramIn}
+use Rattle.simulate.specs.Starts.{IsStartOf, IsStartFault, flat_start}
+use Rattle.simulate.specs.Unreadable.{IsFirstUnreadable}
+use Rattle.simulate.specs.declared.fault.Fault.{Fault}
+use Rattle.simulate.specs.declared.fault.Fault.TheVariants as fault
 
 -- the machine that the file's program begins in, the addresses of the words to show, which can be read, and the choices that the list spells
-pub record IsBegunBy (cache : Geometry) (run : Run) (file list : List ℕ) (first : State) (addrs : List ℕ) (choices : List Choice) : Type 0 where
-  pub starts : IsStartOf cache run.file.now file run.harts run.memory first
+pub record IsBegunBy (g : Geometry) (run : Run) (file list : List ℕ) (first : State) (addrs : List ℕ) (choices : List Choice) : Type 0 where
+  pub starts : IsStartOf g run.setup file first
   pub same : addrs ≡ addresses run.words.items
   pub readable : AllReadable (setting_of first) (addresses run.words.items)
   pub chosen : AreChosenBy list choices
 
--- some file's program has begun so, by some list
-abbrev pub HasBegun : Geometry → Run → State → List ℕ → List Choice → Type 0
-HasBegun cache run first addrs choices = (file : List ℕ) × (list : List ℕ) × IsBegunBy cache run file list first addrs choices
+-- the program boots, and the word is the first of the run's that nothing can be read at
+pub record CanNotShow (run : Run) (file : List ℕ) (k : ℕ) (w : Word) : Type 0 where
+  pub program : Program
+  pub holds : IsProgramIn run.setup.file.now file program
+  pub boots : boot_fault program.segments run.setup.harts run.setup.memory ≡ None
+  pub first : IsFirstUnreadable (flat_start program run.setup).setting run.words.items k w
 
--- this holds of each file and list of which a run has begun so
-abbrev pub OfBegun : Geometry → Run → State → List ℕ → List Choice → (List ℕ → List ℕ → Type 0) → Type 0
-OfBegun cache run first addrs choices P = (file list : List ℕ) → IsBegunBy cache run file list first addrs choices → P file list
+-- why a run of the file with these bytes, by this list, doesn't begin
+abbrev pub IsUnbegun : Run → List ℕ → List ℕ → Fault → Type 0
+IsUnbegun run file list why = IsStartFault run.setup file why
+    ⊎ (((k : ℕ) × (w : Word) × CanNotShow run file k w × (why ≡ fault.Word w.text)) ⊎ IsScheduleFault list why)

@@ -1,12 +1,10 @@
 -- The counts behind a report.
-use Rattle.std.specs.Prelude.{ℕ, ◌++◌, List, [], Option, Some, None}
+use Rattle.std.specs.Prelude.{ℕ, ◌++◌, List, []}
+use Rattle.command_line.specs.declared.request.Show.{Show}
+use Rattle.command_line.specs.declared.request.Show.TheVariants.{Counts}
 use Rattle.command_line.specs.declared.request.Stats.{Stats}
 use Rattle.command_line.specs.declared.request.Stats.TheVariants.{Table, Csv}
-use Rattle.protocol.specs.Caches.{Geometry}
-use Rattle.machine.specs.States.{State}
-use Rattle.schedule.specs.declared.choices.Choice.{Choice}
-use Rattle.watch.specs.Moments.{Moment}
-use Rattle.watch.specs.Watched.{PlaysWith}
+use Rattle.schedule.specs.Moments.{Moment}
 use Rattle.watch.specs.declared.counting.Tally.{Tally}
 use Rattle.watch.specs.declared.figures.Figure.{Figure}
 use Rattle.watch.specs.declared.kinds.Kind.{Kind}
@@ -21,21 +19,17 @@ abbrev pub counts_text : Stats → (ℕ → Kind → ℕ) → ℕ → (Figure �
 counts_text Table count harts figure = table count harts ++ machine_table figure
 counts_text Csv count harts figure = csv count harts ++ machine_lines figure
 
--- the same, or nothing where no form is asked for
-abbrev pub counts_part : Option Stats → Tally → ℕ → List ℕ
-counts_part None t harts = []
-counts_part (Some form) t harts = counts_text form (count_at t.harts) harts (figure_at t.machine)
+-- the counts of moments, where they are shown: how many of their entries count for each hart as each kind, and what is told of the machine
+abbrev pub behind_report : Show → ℕ → List Moment → List ℕ
+behind_report (Counts form) harts ms = counts_text form (λ h k. number_of h k ms) harts (figure_of ms)
+behind_report other harts ms = []
 
--- a report, and behind it, if a form is asked for, how many of the entries of these moments count for each hart as each kind, and what is told of the machine
-abbrev pub with_counts : Option Stats → List Moment → ℕ → List ℕ → List ℕ
-with_counts None moments harts report = report
-with_counts (Some form) moments harts report = report ++ counts_text form (λ h k. number_of h k moments) harts (figure_of moments)
+-- the same of what was counted
+abbrev pub counts_part : Show → Tally → ℕ → List ℕ
+counts_part (Counts form) t harts = counts_text form (count_at t.harts) harts (figure_at t.machine)
+counts_part other t harts = []
 
--- this is told of the moments, if a form is asked for
-abbrev pub AreCounts : Option Stats → List Moment → Tally → Type 0
-AreCounts None moments t = Unit {0}
-AreCounts (Some form) moments t = IsTally moments t
-
--- n steps by a schedule were made, and counted, if a form is asked for
-abbrev pub IsCountedIn : Option Stats → Geometry → List Choice → ℕ → State → State → Tally → Type 0
-IsCountedIn form g choices n v w t = (moments : List Moment) × PlaysWith g choices n v moments w × AreCounts form moments t
+-- this is told of the moments, where counts are shown
+abbrev pub AreCounts : Show → List Moment → Tally → Type 0
+AreCounts (Counts form) ms t = IsTally ms t
+AreCounts other ms t = Unit {0}

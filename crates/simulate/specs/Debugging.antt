@@ -1,16 +1,15 @@
 -- A program that is played by hand.
-use Rattle.std.specs.Prelude.{ℕ, ◌≡◌, ◌⊎◌, List, [], Option, Result, Ok, Err, codes}
+use Rattle.std.specs.Prelude.{ℕ, ◌≡◌, List, [], Result, Ok, Err, codes}
 use Rattle.words.specs.Sinks.{IsPut, IsUntouched, SinkState}
 use Rattle.protocol.specs.Caches.{Geometry}
 use Rattle.machine.specs.States.{State}
-use Rattle.command_line.specs.declared.request.Debug.{Debug}
+use Rattle.command_line.specs.declared.request.Setup.{Setup}
 use Rattle.debugger.specs.declared.fault.ConsoleFault.{ConsoleFault}
 use Rattle.debugger.specs.declared.fault.ConsoleFault.TheVariants.{Unreadable, Unwritten}
 use Rattle.debugger.specs.Plays.{Giving}
 use Rattle.debugger.specs.Debugging.{IsDebugged}
-use Rattle.simulate.specs.Faults.{fault_status, fault_text, line}
-use Rattle.simulate.specs.Starts.{IsStartOf, IsStartFault}
-use Rattle.simulate.specs.declared.fault.Fault.{Fault}
+use Rattle.simulate.specs.Faults.{line}
+use Rattle.simulate.specs.Starts.{IsStartOf}
 
 -- what the user is told where a line could not be read, or a text not be put
 abbrev pub end_text : ConsoleFault → List ℕ
@@ -22,25 +21,11 @@ abbrev pub TellsEnd : Result Unit ConsoleFault → SinkState → SinkState → �
 TellsEnd (Ok done) before after status = IsUntouched before after × (status ≡ 0)
 TellsEnd (Err fault) before after status = IsPut before after (end_text fault) × (status ≡ 3)
 
-module _ {I : Type 0} (g : Geometry) (gives : Giving I) (debug : Debug) (file prompt : List ℕ) (i j : I) (told_before told_after : SinkState)
-    (asked_before asked_after : SinkState) (status : ℕ) where
-  -- the file has a program, which boots as asked; a session of the machine that it begins in answers the lines of the input; and its end is told
-  pub record HasSession : Type 0 where
-    pub first : State
-    pub begins : IsStartOf g debug.file.now file debug.harts debug.memory first
-    pub end : Result Unit ConsoleFault
-    pub asked : SinkState
-    pub played : IsDebugged g gives first prompt i j told_before told_after asked_before asked end
-    pub told : TellsEnd end asked asked_after status
-
-  -- there is no such machine: the user is told why, and nothing else is done
-  pub record HasNone : Type 0 where
-    pub fault : Fault
-    pub why : IsStartFault debug.file.now file debug.harts debug.memory fault
-    pub input : j ≡ i
-    pub out : IsUntouched told_before told_after
-    pub told : IsPut asked_before asked_after (fault_text fault)
-    pub given : status ≡ fault_status fault
-
-  abbrev pub IsPlayedByHand : Type 0
-  IsPlayedByHand = HasSession ⊎ HasNone
+-- the file has a program, which boots as asked; a session of the machine that it begins in answers the lines of the input, and asks for each by the prompt; and its end is told
+pub record IsPlayedByHand {I : Type 0} (g : Geometry) (gives : Giving I) (setup : Setup) (file prompt : List ℕ) (i j : I) (told_before told_after asked_before asked_after : SinkState) (status : ℕ) : Type 0 where
+  pub first : State
+  pub starts : IsStartOf g setup file first
+  pub end : Result Unit ConsoleFault
+  pub asked : SinkState
+  pub played : IsDebugged g gives first prompt i j told_before told_after asked_before asked end
+  pub told : TellsEnd end asked asked_after status

@@ -13,15 +13,16 @@ use Rattle.flat.specs.BootFaults.{boot_fault_number, boot_fault_name}
 use Rattle.source_operands.specs.Faults.{fault_number as asm_number, fault_name as asm_name}
 use Rattle.schedule.specs.declared.lines.ScheduleFault.{ScheduleFault}
 use Rattle.schedule.specs.declared.lines.ScheduleFault.TheVariants as schedule
-use Rattle.watch.specs.declared.halt.Halt.{Halt}
-use Rattle.watch.specs.declared.halt.Halt.TheVariants as halt
+use Rattle.schedule.specs.declared.halt.Halt.{Halt}
+use Rattle.schedule.specs.declared.halt.Halt.TheVariants as halt
 use Rattle.simulate.specs.Quotes.{quotation}
 use Rattle.simulate.specs.Reports.{line_end}
 use Rattle.simulate.specs.declared.fault.Fault.{Fault}
 use Rattle.simulate.specs.declared.fault.RefusedLine.{RefusedLine}
-use Rattle.simulate.specs.declared.fault.Fault.TheVariants.{NotText, Refused, Value, TwoViews, LongPicture, ThreadsAlone, Unread, NotSource, Source, Load, Boot, Word, NotSchedule, Schedule, Unwritten, Unmade, NoMemory}
+use Rattle.simulate.specs.declared.fault.Fault.TheVariants.{NotText, Refused, Value, TwoViews, LongPicture, ThreadsAlone, Unread, NotSource, Source, Load, Boot, Word, NotSchedule, Schedule, Exchanged, Unwritten, Unmade, NoMemory}
 
--- 2 for the command line and a schedule, 3 for a file, 4 for what is in the file and for the machine that is asked for, 6 if memory ran out
+-- 2 for the command line and a schedule, 3 for a file, 4 for what is in the file and for the machine that is asked for, 6 if memory ran out, 7 where the lock gave back
+-- another board
 abbrev pub fault_status : Fault → ℕ
 fault_status NotText = 2
 fault_status (Refused text) = 2
@@ -37,6 +38,7 @@ fault_status (Boot fault) = 4
 fault_status (Word text) = 2
 fault_status NotSchedule = 2
 fault_status (Schedule number) = 2
+fault_status Exchanged = 7
 fault_status Unwritten = 3
 fault_status (Unmade file) = 3
 fault_status NoMemory = 6
@@ -77,6 +79,7 @@ fault_text (Boot fault) = refusal_line (codes "boot ") (boot_fault_number fault)
 fault_text (Word text) = line (codes "word ") text.now
 fault_text NotSchedule = line (codes "schedule is not text") []
 fault_text (Schedule number) = unspelled_text number
+fault_text Exchanged = line (codes "the threads gave back another machine") []
 fault_text Unwritten = line (codes "cannot write standard output") []
 fault_text (Unmade file) = line (codes "cannot write ") file.now
 fault_text NoMemory = line (codes "no memory") []

@@ -13,8 +13,8 @@ pub mod Starts
 pub mod Begins
 pub mod Shown
 pub mod Orders
-pub mod Answers
-pub mod Refusals
-pub mod Stops
+pub mod Given
 pub mod Threaded
+pub mod Files
+pub mod Carried
 pub mod ProgressLines

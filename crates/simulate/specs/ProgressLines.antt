@@ -1,5 +1,5 @@
 -- A run's progress, as a line of a terminal.
-use Rattle.std.specs.Prelude.{ℕ, ◌≡◌, ◌*◌, ◌/◌, ◌%◌, List, [], ◌∷◌, Result, codes, decimal, max, min}
+use Rattle.std.specs.Prelude.{ℕ, ◌*◌, ◌/◌, ◌%◌, List, [], ◌∷◌, codes, decimal, max, min}
 use Rattle.std.specs.List.{concat}
 
 -- goes to the start of the terminal's line, and clears it

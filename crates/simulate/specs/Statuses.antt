@@ -22,7 +22,3 @@ IsStatusOf f s = IsGreatest f f.setting.count s
 -- a status that goes with a report
 abbrev pub IsReported : ℕ → Type 0
 IsReported s = (s ≡ 0) ⊎ (s ≡ 1) ⊎ (s ≡ 5)
-
--- a status of a fault before the report
-abbrev pub IsRefused : ℕ → Type 0
-IsRefused s = (s ≡ 2) ⊎ (s ≡ 4) ⊎ (s ≡ 6)

@@ -1,5 +1,5 @@
 -- Words that can't be shown.
-use Rattle.std.specs.Prelude.{ℕ, ◌≡◌, false, List, Some, slice_get, take}
+use Rattle.std.specs.Prelude.{ℕ, ◌≡◌, ◌⊎◌, false, List, Some, slice_get, take}
 use Rattle.flat.specs.State.{Setting}
 use Rattle.command_line.specs.declared.request.Word.{Word}
 use Rattle.flat.specs.Reads.{is_readable}
@@ -17,6 +17,4 @@ pub record IsFirstUnreadable (s : Setting) (words : List Word) (k : ℕ) (w : Wo
 
 -- why the words can't be shown: the first that nothing can be read at, or that memory ran out
 abbrev pub IsUnreadable : Setting → List Word → Fault → Type 0
-IsUnreadable s words (fault.Word text) = (k : ℕ) × (w : Word) × IsFirstUnreadable s words k w × (w.text ≡ text)
-IsUnreadable s words NoMemory = Unit {0}
-IsUnreadable s words other = ⊥
+IsUnreadable s words why = ((k : ℕ) × (w : Word) × IsFirstUnreadable s words k w × (why ≡ fault.Word w.text)) ⊎ (why ≡ NoMemory)

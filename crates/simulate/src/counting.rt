@@ -1,68 +1,29 @@
-//! The steps of a run, with their counts where they are asked for, and the counts as text.
-ghost use Rattle.std.specs.Prelude.{◌≤◌, IfOk};
+//! The counts of a run as text.
+ghost use Rattle.std.specs.Prelude.{◌≤◌};
 ghost use Rattle.words.specs.Limits.{most_harts};
-ghost use Rattle.machine.specs.States.{geometry};
 ghost use Rattle.texts.specs.Puts.{Puts};
 ghost use Rattle.watch.specs.Kinds.{count_at};
 ghost use Rattle.watch.specs.Traffic.{figure_at};
 ghost use Rattle.command_line.specs.declared.request.Stats.TheVariants.{Table, Csv};
-ghost use Rattle.simulate.specs.Counted.{counts_part, counts_text, IsCountedIn};
+ghost use Rattle.simulate.specs.Counted.{counts_part, counts_text};
 
-use command_line::Stats;
-use machine::{Machine, Progress};
-use schedule::{Choice, follow};
-use std::alloc::AllocError;
-use watch::{Tally, put_csv, put_machine_csv, put_machine_table, put_table, tally_run};
+use command_line::{Show, Stats};
+use watch::{Tally, put_csv, put_machine_csv, put_machine_table, put_table};
 use words::{Sink, SinkFault};
 
-/// Makes the steps of a run, and counts what they do if a form is asked for. Progress is told on the way, and ends with them. It fails only if
-/// memory runs out.
-pub(crate) fn play<const SETS: usize, const WAYS: usize, P: Progress>(
-    machine: &mut Machine<SETS, WAYS>,
-    choices: &[Choice],
-    steps: u32,
-    stats: Option<Stats>,
-    progress: &mut P,
-) -> Result<Tally, AllocError>
-    ensures { IfOk result (IsCountedIn stats (geometry SETS WAYS) choices.now steps machine.old machine.new) }
-{
-    let counts = count_if(machine, choices, steps, stats, progress);
-    progress.end();
-    counts
-}
-
-/// Makes the steps of a run, and counts what they do if a form is asked for. The end of progress is left to the caller.
-fn count_if<const SETS: usize, const WAYS: usize, P: Progress>(
-    machine: &mut Machine<SETS, WAYS>,
-    choices: &[Choice],
-    steps: u32,
-    stats: Option<Stats>,
-    progress: &mut P,
-) -> Result<Tally, AllocError>
-    ensures { IfOk result (IsCountedIn stats (geometry SETS WAYS) choices.now steps machine.old machine.new) }
-{
-    match stats {
-        Some(_) => tally_run(machine, choices, steps, progress),
-        None => {
-            follow(machine, choices, steps, progress)?;
-            Ok(Tally::new())
-        }
-    }
-}
-
-/// Puts the counts in the form that is asked for, if one is.
+/// Puts the counts of a run, where they are shown.
 pub(crate) fn put_counts<S: Sink>(
-    stats: Option<Stats>,
+    show: Show<'_>,
     tally: &Tally,
     harts: usize,
     sink: &mut S,
 ) -> Result<(), SinkFault>
     requires { harts ≤ most_harts }
-    ensures { Puts (S.state sink.old) (S.state sink.new) (counts_part stats tally.now harts) result }
+    ensures { Puts (S.state sink.old) (S.state sink.new) (counts_part show.entry tally.now harts) result }
 {
-    match stats {
-        Some(form) => put_form(form, tally, harts, sink),
-        None => Ok(()),
+    match show {
+        Show::Counts(form) => put_form(form, tally, harts, sink),
+        Show::Report | Show::Trace | Show::View(..) => Ok(()),
     }
 }
 

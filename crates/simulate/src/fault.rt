@@ -10,10 +10,9 @@ use command_line::OrderFault;
 use flat::BootFault;
 use itoa::Buffer;
 use loader::LoadFault;
-use schedule::ScheduleFault;
+use schedule::{Halt, ScheduleFault};
 use std::alloc::{AllocError, AllocFailed};
 use texts::put_all;
-use watch::Halt;
 use words::{Sink, SinkFault};
 
 /// A line of a source that is refused.
@@ -55,6 +54,9 @@ pub enum Fault<'a> {
     NotSchedule,
     /// The number of a line of the schedule that spells no step.
     Schedule(usize),
+    /// The lock that the threads share gave back a board of another program, number of harts or size. No worker puts one there, but a lock tells a
+    /// proof nothing of what it holds.
+    Exchanged,
     /// Standard output failed.
     Unwritten,
     /// The path of a file that can't be written.
@@ -64,7 +66,7 @@ pub enum Fault<'a> {
 
 impl<'a> Fault<'a> {
     /// The status that the program ends with: 2 for the command line and a schedule, 3 for a file, 4 for what is in the file and for
-    /// the machine that is asked for, 6 if memory ran out.
+    /// the machine that is asked for, 6 if memory ran out, 7 for what can't be.
     pub fn status(&self) -> u8
         ensures { result ≡ fault_status self.now }
     {
@@ -75,6 +77,7 @@ impl<'a> Fault<'a> {
             Fault::Unread(_) | Fault::Unwritten | Fault::Unmade(_) => 3,
             Fault::NotSource | Fault::Source(_) | Fault::Load(_) | Fault::Boot(_) => 4,
             Fault::NoMemory => 6,
+            Fault::Exchanged => 7,
         }
     }
 
@@ -113,6 +116,7 @@ impl<'a> Fault<'a> {
             Fault::NotSource => (b"source is not text", ""),
             Fault::Word(text) => (b"word ", *text),
             Fault::NotSchedule => (b"schedule is not text", ""),
+            Fault::Exchanged => (b"the threads gave back another machine", ""),
             Fault::Unwritten => (b"cannot write standard output", ""),
             Fault::Unmade(file) => (b"cannot write ", *file),
             Fault::NoMemory => (b"no memory", ""),

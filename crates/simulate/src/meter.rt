@@ -5,7 +5,7 @@ ghost use Rattle.words.specs.declared.sink.SinkFault.{SinkFault as Fault};
 ghost use Rattle.simulate.specs.ProgressLines.{clear, a_second, progress_line};
 
 use itoa::Buffer;
-use machine::{PACE, Progress};
+use machine::{PROGRESS_INTERVAL, Progress};
 use std::time::{Clock, Duration, Instant};
 use texts::put_all;
 use words::{Sink, SinkFault};
@@ -81,7 +81,7 @@ impl<'c, C: Clock, S: Sink> Progress for Meter<'c, C, S> {
             × Puts (S.state self.old.sink) (S.state self.new.sink)
             (progress_line self.new.steps (a_second self.new.steps nanos) running) put) }
     {
-        self.steps = self.steps.saturating_add(u64::from(PACE));
+        self.steps = self.steps.saturating_add(u64::from(PROGRESS_INTERVAL));
         let Some(gone) = self.due_after() else {
             return;
         };

@@ -2,10 +2,9 @@ ghost use Rattle.std.specs.Prelude.{◌≡◌, ◌≤◌, ◌<◌, ◌*◌, ◌^
 ghost use Rattle.words.specs.Limits.{most_harts};
 ghost use Rattle.machine.specs.States.{geometry};
 ghost use Rattle.board.specs.Histories.{IsEnd};
-ghost use Rattle.simulate.specs.declared.fault.Fault.TheVariants.{NoMemory};
-ghost use Rattle.simulate.specs.declared.stop.Stop.TheVariants.{Refused, Exchanged};
+ghost use Rattle.simulate.specs.declared.fault.Fault.TheVariants.{NoMemory, Exchanged};
 
-use crate::stop::Stop;
+use crate::fault::Fault;
 use board::{Board, Finished, Gate, Journal, Lease, STEPS, Trace, Untraced, serve};
 use loader::Program;
 use std::alloc::{AllocError, Global};
@@ -44,14 +43,14 @@ pub(crate) fn run_board<
     harts: u32,
     size: u32,
     turns: u64,
-) -> Result<Finished<'p, SETS, WAYS, J>, Stop<'a>>
+) -> Result<Finished<'p, SETS, WAYS, J>, Fault<'a>>
 where
     J::Trace: Send,
     requires ways { 0 < WAYS }
     requires lines { SETS * WAYS < 2 ^ 32 }
     requires few { harts ≤ most_harts }
     ensures { MatchResult result (λ end. IsEnd (geometry SETS WAYS) program.now harts size (J.tells end.journal) end.machine)
-        (λ stop. (stop ≡ Refused NoMemory) ⊎ (stop ≡ Exchanged)) }
+        (λ fault. (fault ≡ NoMemory) ⊎ (fault ≡ Exchanged)) }
 {
     let desk = locked(alloc, board)?;
     serve::<Box<Board<'p, SETS, WAYS, J>>, Whole, R>(rt, &desk, harts as usize, &Whole, turns)?;
@@ -76,15 +75,15 @@ fn if_of<'p, 'a, const SETS: usize, const WAYS: usize, J: Journal<SETS, WAYS>>(
     program: &Program,
     harts: u32,
     size: u32,
-) -> Result<Finished<'p, SETS, WAYS, J>, Stop<'a>>
+) -> Result<Finished<'p, SETS, WAYS, J>, Fault<'a>>
     requires { IsEnd (geometry SETS WAYS) end.program.now end.harts end.size (J.tells end.journal) end.machine }
-    ensures end { MatchResult result (λ end. IsEnd (geometry SETS WAYS) program.now harts size (J.tells end.journal) end.machine) (λ stop. stop ≡ Exchanged) }
+    ensures end { MatchResult result (λ end. IsEnd (geometry SETS WAYS) program.now harts size (J.tells end.journal) end.machine) (λ fault. fault ≡ Exchanged) }
     // It is answered unless it was another's.
     ensures exchanged { OnErr result ((end.entry.program.now ≡ program.now) × (end.entry.harts ≡ harts) × (end.entry.size ≡ size) → ⊥) }
 {
     if end.harts == harts && end.size == size && end.program.same(program) {
         Ok(end)
     } else {
-        Err(Stop::Exchanged)
+        Err(Fault::Exchanged)
     }
 }

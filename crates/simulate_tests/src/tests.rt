@@ -4,6 +4,7 @@ mod counting;
 mod debugging;
 mod drawing;
 mod memory;
+mod meters;
 mod orders;
 mod paper;
 mod running;

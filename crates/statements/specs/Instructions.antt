@@ -3,6 +3,8 @@ use Rattle.std.specs.Prelude.{ℕ, ◌+◌, ◌-◌, ◌*◌, ◌/◌, ◌%◌, 
 use Rattle.disassembler.specs.Canonical.{full_fence}
 use Rattle.table.specs.declared.instr.Instr.{Instr}
 use Rattle.table.specs.declared.instr.Instr.TheVariants as instr
+use Rattle.table.specs.declared.instr.Row.{Row}
+use Rattle.table.specs.declared.instr.Row.TheVariants as row
 use Rattle.table.specs.declared.instr.BranchOp.{BranchOp}
 use Rattle.table.specs.declared.instr.LoadOp.{LoadOp}
 use Rattle.table.specs.declared.instr.StoreOp.{StoreOp}
@@ -203,19 +205,34 @@ pair_of pair text = do
   s ← register x.1
   Ok (pair_instr pair d s)
 
--- no operands
+-- op
+abbrev pub alone_of : Instr → List ℕ → Result Instr AsmFault
+alone_of instr [] = Ok instr
+alone_of instr (c ∷ cs) = Err Operand
+
 abbrev pub alone_instr : Alone → Instr
-alone_instr alone.Fence = instr.Fence full_fence
-alone_instr alone.Ecall = instr.Ecall
-alone_instr alone.Ebreak = instr.Ebreak
-alone_instr alone.TCommit = instr.TCommit
-alone_instr alone.TAbort = instr.TAbort
 alone_instr alone.Nop = instr.OpImm imm.Add 0 0 0
 alone_instr alone.Ret = instr.Jalr 0 1 0
 
-abbrev pub alone_of : Alone → List ℕ → Result Instr AsmFault
-alone_of op [] = Ok (alone_instr op)
-alone_of op (c ∷ cs) = Err Operand
+-- the instruction that a row makes of its operands, at a pc
+unfoldable pub by_row : Row → ℕ → Find → List ℕ → Result Instr AsmFault
+by_row row.Lui pc find text = upper_of instr.Lui text
+by_row row.Auipc pc find text = upper_of instr.Auipc text
+by_row row.Jal pc find text = jal_of pc find text
+by_row row.Jalr pc find text = jalr_of text
+by_row (row.Branch op) pc find text = branch_of op pc find text
+by_row (row.Load op) pc find text = load_of op text
+by_row (row.Store op) pc find text = store_of op text
+by_row (row.OpImm op) pc find text = op_imm_of op text
+by_row (row.ShiftImm op) pc find text = shift_imm_of op text
+by_row (row.Op op) pc find text = op_of op text
+by_row (row.Amo op) pc find text = amo_of op text
+by_row row.Fence pc find text = alone_of (instr.Fence full_fence) text
+by_row row.Ecall pc find text = alone_of instr.Ecall text
+by_row row.Ebreak pc find text = alone_of instr.Ebreak text
+by_row row.TBegin pc find text = tbegin_of pc find text
+by_row row.TCommit pc find text = alone_of instr.TCommit text
+by_row row.TAbort pc find text = alone_of instr.TAbort text
 
 -- Numbers of 32 bits in a register: their upper 20 bits, and the signed number of 12 bits that is left
 

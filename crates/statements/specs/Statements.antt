@@ -23,7 +23,7 @@ use Rattle.source_operands.specs.Cutting.{cut_word, is_name, trim}
 use Rattle.source_operands.specs.Places.{Labels, address, find}
 use Rattle.statements.specs.Forms.{form_named}
 use Rattle.source_operands.specs.Operands.{◌>>=◌, checked, guarded, Find, register, immediate, is_lost, value}
-use Rattle.statements.specs.Instructions.{two, last, op_of, op_imm_of, shift_imm_of, load_of, store_of, amo_of, upper_of, branch_of, branch_swapped_of, branch_zero_of, jal_of, jalr_of, tbegin_of, j_of, jr_of, pair_of, alone_of, upper_part, lower_part}
+use Rattle.statements.specs.Instructions.{two, last, by_row, branch_swapped_of, branch_zero_of, j_of, jr_of, pair_of, alone_of, alone_instr, upper_part, lower_part}
 
 -- what a statement makes: nothing, one or two instructions, numbers of a width, or zeros; or the section that it enters
 pub data Made : Type 0 where
@@ -149,25 +149,14 @@ directive_of op at find text = guarded (not (is_of_data op) || is_data at.sectio
 
 -- the one instruction that most forms make of their operands, at a pc
 unfoldable pub instruction_of : Form → ℕ → Find → List ℕ → Result Instr AsmFault
-instruction_of (form.Op op) pc find text = op_of op text
-instruction_of (form.OpImm op) pc find text = op_imm_of op text
-instruction_of (form.ShiftImm op) pc find text = shift_imm_of op text
-instruction_of (form.Load op) pc find text = load_of op text
-instruction_of (form.Store op) pc find text = store_of op text
-instruction_of (form.Amo op) pc find text = amo_of op text
-instruction_of (form.Branch op) pc find text = branch_of op pc find text
+instruction_of (form.Row row) pc find text = by_row row pc find text
 instruction_of (form.BranchSwapped op) pc find text = branch_swapped_of op pc find text
 instruction_of (form.BranchZero op) pc find text = branch_zero_of (λ s n. instr.Branch op s 0 n) pc find text
 instruction_of (form.BranchFromZero op) pc find text = branch_zero_of (λ s n. instr.Branch op 0 s n) pc find text
-instruction_of form.Lui pc find text = upper_of instr.Lui text
-instruction_of form.Auipc pc find text = upper_of instr.Auipc text
-instruction_of form.Jal pc find text = jal_of pc find text
-instruction_of form.Jalr pc find text = jalr_of text
-instruction_of form.TBegin pc find text = tbegin_of pc find text
 instruction_of form.J pc find text = j_of pc find text
 instruction_of form.Jr pc find text = jr_of text
 instruction_of (form.Pair op) pc find text = pair_of op text
-instruction_of (form.Alone op) pc find text = alone_of op text
+instruction_of (form.Alone op) pc find text = alone_of (alone_instr op) text
 instruction_of form pc find text = Err Unknown
 
 abbrev pub one : Result Instr AsmFault → Result Made AsmFault

@@ -2,16 +2,11 @@
 ghost use Rattle.std.specs.Prelude.{◌≡◌, map};
 ghost use Rattle.statements.specs.Forms as spec;
 
-use table::{AluOp, AmoOp, BranchOp, ImmOp, LoadOp, ShiftOp, StoreOp};
+use table::{BranchOp, Row, row_named};
 
-/// A statement without operands, each of which is one instruction.
+/// A pseudo-instruction without operands.
 #[derive(Clone, Copy, Debug, PartialEq, Eq)]
 pub enum Alone {
-    Fence,
-    Ecall,
-    Ebreak,
-    TCommit,
-    TAbort,
     Nop,
     Ret,
 }
@@ -44,36 +39,14 @@ pub enum Directive {
 /// The operands that a mnemonic has, and what it makes of them.
 #[derive(Clone, Copy, Debug, PartialEq, Eq)]
 pub enum Form {
-    /// `op rd, rs1, rs2`
-    Op(AluOp),
-    /// `op rd, rs1, imm`
-    OpImm(ImmOp),
-    /// `op rd, rs1, amount`
-    ShiftImm(ShiftOp),
-    /// `op rd, imm(rs1)`
-    Load(LoadOp),
-    /// `op rs2, imm(rs1)`
-    Store(StoreOp),
-    /// `op rd, rs2, (rs1)`
-    Amo(AmoOp),
-    /// `op rs1, rs2, addr`
-    Branch(BranchOp),
+    /// The operands of a row of the instruction table.
+    Row(Row),
     /// `op rs2, rs1, addr`
     BranchSwapped(BranchOp),
     /// `op rs1, addr`, with rs2 zero
     BranchZero(BranchOp),
     /// `op rs2, addr`, with rs1 zero
     BranchFromZero(BranchOp),
-    /// `lui rd, n`
-    Lui,
-    /// `auipc rd, n`
-    Auipc,
-    /// `jal rd, addr`
-    Jal,
-    /// `jalr rd, imm(rs1)`
-    Jalr,
-    /// `tbegin addr`
-    TBegin,
     /// `j addr`
     J,
     /// `jr rs1`
@@ -89,38 +62,11 @@ pub enum Form {
     Directive(Directive),
 }
 
-/// The mnemonics.
+/// The pseudo-instructions and the directives.
 #[rattlefmt::skip]
-const FORMS: [(&str, Form); 91] = [
-    ("lui", Form::Lui), ("auipc", Form::Auipc), ("jal", Form::Jal), ("jalr", Form::Jalr),
-    ("beq", Form::Branch(BranchOp::Eq)), ("bne", Form::Branch(BranchOp::Ne)),
-    ("blt", Form::Branch(BranchOp::Lt)), ("bge", Form::Branch(BranchOp::Ge)),
-    ("bltu", Form::Branch(BranchOp::Ltu)), ("bgeu", Form::Branch(BranchOp::Geu)),
-    ("lb", Form::Load(LoadOp::Byte)), ("lh", Form::Load(LoadOp::Half)), ("lw", Form::Load(LoadOp::Word)),
-    ("lbu", Form::Load(LoadOp::ByteUnsigned)), ("lhu", Form::Load(LoadOp::HalfUnsigned)),
-    ("sb", Form::Store(StoreOp::Byte)), ("sh", Form::Store(StoreOp::Half)),
-    ("sw", Form::Store(StoreOp::Word)),
-    ("addi", Form::OpImm(ImmOp::Add)), ("slti", Form::OpImm(ImmOp::Slt)),
-    ("sltiu", Form::OpImm(ImmOp::Sltu)), ("xori", Form::OpImm(ImmOp::Xor)), ("ori", Form::OpImm(ImmOp::Or)),
-    ("andi", Form::OpImm(ImmOp::And)),
-    ("slli", Form::ShiftImm(ShiftOp::Sll)), ("srli", Form::ShiftImm(ShiftOp::Srl)),
-    ("srai", Form::ShiftImm(ShiftOp::Sra)),
-    ("add", Form::Op(AluOp::Add)), ("sub", Form::Op(AluOp::Sub)), ("sll", Form::Op(AluOp::Sll)),
-    ("slt", Form::Op(AluOp::Slt)), ("sltu", Form::Op(AluOp::Sltu)), ("xor", Form::Op(AluOp::Xor)),
-    ("srl", Form::Op(AluOp::Srl)), ("sra", Form::Op(AluOp::Sra)), ("or", Form::Op(AluOp::Or)),
-    ("and", Form::Op(AluOp::And)), ("mul", Form::Op(AluOp::Mul)), ("mulh", Form::Op(AluOp::Mulh)),
-    ("mulhsu", Form::Op(AluOp::Mulhsu)), ("mulhu", Form::Op(AluOp::Mulhu)), ("div", Form::Op(AluOp::Div)),
-    ("divu", Form::Op(AluOp::Divu)), ("rem", Form::Op(AluOp::Rem)), ("remu", Form::Op(AluOp::Remu)),
-    ("amoadd.w", Form::Amo(AmoOp::Add)), ("amoswap.w", Form::Amo(AmoOp::Swap)),
-    ("amoxor.w", Form::Amo(AmoOp::Xor)), ("amoor.w", Form::Amo(AmoOp::Or)),
-    ("amoand.w", Form::Amo(AmoOp::And)), ("amomin.w", Form::Amo(AmoOp::Min)),
-    ("amomax.w", Form::Amo(AmoOp::Max)), ("amominu.w", Form::Amo(AmoOp::Minu)),
-    ("amomaxu.w", Form::Amo(AmoOp::Maxu)),
-    ("fence", Form::Alone(Alone::Fence)), ("ecall", Form::Alone(Alone::Ecall)),
-    ("ebreak", Form::Alone(Alone::Ebreak)), ("tcommit", Form::Alone(Alone::TCommit)),
-    ("tabort", Form::Alone(Alone::TAbort)), ("nop", Form::Alone(Alone::Nop)),
-    ("ret", Form::Alone(Alone::Ret)),
-    ("tbegin", Form::TBegin), ("j", Form::J), ("jr", Form::Jr), ("li", Form::Li), ("la", Form::La),
+const FORMS: [(&str, Form); 31] = [
+    ("nop", Form::Alone(Alone::Nop)), ("ret", Form::Alone(Alone::Ret)),
+    ("j", Form::J), ("jr", Form::Jr), ("li", Form::Li), ("la", Form::La),
     ("mv", Form::Pair(Pair::Mv)), ("not", Form::Pair(Pair::Not)), ("neg", Form::Pair(Pair::Neg)),
     ("seqz", Form::Pair(Pair::Seqz)), ("snez", Form::Pair(Pair::Snez)), ("sltz", Form::Pair(Pair::Sltz)),
     ("sgtz", Form::Pair(Pair::Sgtz)),
@@ -155,5 +101,8 @@ fn form_in(rows: &[(&str, Form)], name: &[u8]) -> Option<Form>
 pub(crate) fn form_named(name: &[u8]) -> Option<Form>
     ensures { result ≡ spec.form_named name.now }
 {
-    form_in(&FORMS, name)
+    match row_named(name) {
+        Some(row) => Some(Form::Row(row)),
+        None => form_in(&FORMS, name),
+    }
 }

@@ -11,7 +11,7 @@ use source_operands::{
     AsmFault, Names, abort_offset, amount as amount_of, based, branch_offset, cut, imm12, indirect,
     jump_offset, register, trim, upper,
 };
-use table::{AluOp, AmoOp, BranchOp, ImmOp, Instr, LoadOp, ShiftOp, StoreOp};
+use table::{AluOp, AmoOp, BranchOp, ImmOp, Instr, LoadOp, Row, ShiftOp, StoreOp};
 use words::Reg;
 
 /// The bits of the fence of all reads and writes before all after it.
@@ -58,7 +58,7 @@ fn three(text: &[u8]) -> Result<(&[u8], &[u8], &[u8]), AsmFault>
 
 /// `op rd, rs1, rs2`
 #[tactic(auto, unfolding(crate::specs::Instructions::op_of))]
-pub(crate) fn registers(op: AluOp, text: &[u8]) -> Result<Instr, AsmFault>
+fn registers(op: AluOp, text: &[u8]) -> Result<Instr, AsmFault>
     ensures { result ≡ spec.op_of op text.now }
 {
     let (rd, rs1, rs2) = three(text)?;
@@ -70,7 +70,7 @@ pub(crate) fn registers(op: AluOp, text: &[u8]) -> Result<Instr, AsmFault>
 
 /// `op rd, rs1, imm`
 #[tactic(auto, unfolding(crate::specs::Instructions::op_imm_of))]
-pub(crate) fn op_imm(op: ImmOp, text: &[u8]) -> Result<Instr, AsmFault>
+fn op_imm(op: ImmOp, text: &[u8]) -> Result<Instr, AsmFault>
     ensures { result ≡ spec.op_imm_of op text.now }
 {
     let (rd, rs1, imm) = three(text)?;
@@ -82,7 +82,7 @@ pub(crate) fn op_imm(op: ImmOp, text: &[u8]) -> Result<Instr, AsmFault>
 
 /// `op rd, rs1, amount`
 #[tactic(auto, unfolding(crate::specs::Instructions::shift_imm_of))]
-pub(crate) fn shift_imm(op: ShiftOp, text: &[u8]) -> Result<Instr, AsmFault>
+fn shift_imm(op: ShiftOp, text: &[u8]) -> Result<Instr, AsmFault>
     ensures { result ≡ spec.shift_imm_of op text.now }
 {
     let (rd, rs1, amount) = three(text)?;
@@ -99,7 +99,7 @@ pub(crate) fn shift_imm(op: ShiftOp, text: &[u8]) -> Result<Instr, AsmFault>
 
 /// `op rd, imm(rs1)`
 #[tactic(auto, unfolding(crate::specs::Instructions::load_of))]
-pub(crate) fn load(op: LoadOp, text: &[u8]) -> Result<Instr, AsmFault>
+fn load(op: LoadOp, text: &[u8]) -> Result<Instr, AsmFault>
     ensures { result ≡ spec.load_of op text.now }
 {
     let (rd, at) = two(text)?;
@@ -110,7 +110,7 @@ pub(crate) fn load(op: LoadOp, text: &[u8]) -> Result<Instr, AsmFault>
 
 /// `op rs2, imm(rs1)`
 #[tactic(auto, unfolding(crate::specs::Instructions::store_of))]
-pub(crate) fn store(op: StoreOp, text: &[u8]) -> Result<Instr, AsmFault>
+fn store(op: StoreOp, text: &[u8]) -> Result<Instr, AsmFault>
     ensures { result ≡ spec.store_of op text.now }
 {
     let (rs2, at) = two(text)?;
@@ -121,7 +121,7 @@ pub(crate) fn store(op: StoreOp, text: &[u8]) -> Result<Instr, AsmFault>
 
 /// `op rd, rs2, (rs1)`
 #[tactic(auto, unfolding(crate::specs::Instructions::amo_of))]
-pub(crate) fn amo(op: AmoOp, text: &[u8]) -> Result<Instr, AsmFault>
+fn amo(op: AmoOp, text: &[u8]) -> Result<Instr, AsmFault>
     ensures { result ≡ spec.amo_of op text.now }
 {
     let (rd, rs2, rs1) = three(text)?;
@@ -140,7 +140,7 @@ pub(crate) fn amo(op: AmoOp, text: &[u8]) -> Result<Instr, AsmFault>
 
 /// `lui rd, n`
 #[tactic(auto, unfolding(crate::specs::Instructions::upper_of))]
-pub(crate) fn lui(text: &[u8]) -> Result<Instr, AsmFault>
+fn lui(text: &[u8]) -> Result<Instr, AsmFault>
     ensures { result ≡ spec.upper_of instr.Lui text.now }
 {
     let (rd, n) = two(text)?;
@@ -151,7 +151,7 @@ pub(crate) fn lui(text: &[u8]) -> Result<Instr, AsmFault>
 
 /// `auipc rd, n`
 #[tactic(auto, unfolding(crate::specs::Instructions::upper_of))]
-pub(crate) fn auipc(text: &[u8]) -> Result<Instr, AsmFault>
+fn auipc(text: &[u8]) -> Result<Instr, AsmFault>
     ensures { result ≡ spec.upper_of instr.Auipc text.now }
 {
     let (rd, n) = two(text)?;
@@ -162,12 +162,7 @@ pub(crate) fn auipc(text: &[u8]) -> Result<Instr, AsmFault>
 
 /// `op rs1, rs2, addr`
 #[tactic(auto, unfolding(crate::specs::Instructions::branch_of))]
-pub(crate) fn branch(
-    op: BranchOp,
-    pc: u32,
-    names: Option<&Names>,
-    text: &[u8],
-) -> Result<Instr, AsmFault>
+fn branch(op: BranchOp, pc: u32, names: Option<&Names>, text: &[u8]) -> Result<Instr, AsmFault>
     ensures { result ≡ spec.branch_of op pc (option_map (λ n. find_in n.now) names.entry) text.now }
 {
     let (rs1, rs2, addr) = three(text)?;
@@ -248,7 +243,7 @@ pub(crate) fn branch_from_zero(
 
 /// `jal rd, addr`
 #[tactic(auto, unfolding(crate::specs::Instructions::jal_of))]
-pub(crate) fn jal(pc: u32, names: Option<&Names>, text: &[u8]) -> Result<Instr, AsmFault>
+fn jal(pc: u32, names: Option<&Names>, text: &[u8]) -> Result<Instr, AsmFault>
     ensures { result ≡ spec.jal_of pc (option_map (λ n. find_in n.now) names.entry) text.now }
 {
     let (rd, addr) = two(text)?;
@@ -259,7 +254,7 @@ pub(crate) fn jal(pc: u32, names: Option<&Names>, text: &[u8]) -> Result<Instr, 
 
 /// `jalr rd, imm(rs1)`
 #[tactic(auto, unfolding(crate::specs::Instructions::jalr_of))]
-pub(crate) fn jalr(text: &[u8]) -> Result<Instr, AsmFault>
+fn jalr(text: &[u8]) -> Result<Instr, AsmFault>
     ensures { result ≡ spec.jalr_of text.now }
 {
     let (rd, at) = two(text)?;
@@ -270,7 +265,7 @@ pub(crate) fn jalr(text: &[u8]) -> Result<Instr, AsmFault>
 
 /// `tbegin addr`
 #[tactic(auto, unfolding(crate::specs::Instructions::tbegin_of))]
-pub(crate) fn tbegin(pc: u32, names: Option<&Names>, text: &[u8]) -> Result<Instr, AsmFault>
+fn tbegin(pc: u32, names: Option<&Names>, text: &[u8]) -> Result<Instr, AsmFault>
     ensures { result ≡ spec.tbegin_of pc (option_map (λ n. find_in n.now) names.entry) text.now }
 {
     let addr = last(text)?;
@@ -343,26 +338,20 @@ pub(crate) fn registers_of_pair(pair: Pair, text: &[u8]) -> Result<Instr, AsmFau
     Ok(pair_instr(pair, d, s))
 }
 
-/// The instruction of a mnemonic without operands.
-fn alone_instr(op: Alone) -> Instr
+/// The instruction of a pseudo-instruction without operands.
+pub(crate) fn alone_instr(op: Alone) -> Instr
     ensures { result ≡ spec.alone_instr op }
 {
+    let zero = Reg::new(0);
     match op {
-        Alone::Fence => Instr::Fence {
-            bits: FenceBits::new(FULL_FENCE),
-        },
-        Alone::Ecall => Instr::Ecall,
-        Alone::Ebreak => Instr::Ebreak,
-        Alone::TCommit => Instr::TCommit,
-        Alone::TAbort => Instr::TAbort,
         Alone::Nop => Instr::OpImm {
             op: ImmOp::Add,
-            rd: Reg::new(0),
-            rs1: Reg::new(0),
+            rd: zero,
+            rs1: zero,
             imm: Imm12::new(0),
         },
         Alone::Ret => Instr::Jalr {
-            rd: Reg::new(0),
+            rd: zero,
             rs1: Reg::new(1),
             imm: Imm12::new(0),
         },
@@ -370,12 +359,46 @@ fn alone_instr(op: Alone) -> Instr
 }
 
 /// `op`
-pub(crate) fn without_operands(op: Alone, text: &[u8]) -> Result<Instr, AsmFault>
-    ensures { result ≡ spec.alone_of op text.now }
+pub(crate) fn without_operands(instr: Instr, text: &[u8]) -> Result<Instr, AsmFault>
+    ensures { result ≡ spec.alone_of instr text.now }
 {
     if text.is_empty() {
-        Ok(alone_instr(op))
+        Ok(instr)
     } else {
         Err(AsmFault::Operand)
+    }
+}
+
+/// The instruction that a row makes of its operands.
+#[tactic(auto, unfolding(crate::specs::Instructions::by_row))]
+pub(crate) fn by_row(
+    row: Row,
+    pc: u32,
+    names: Option<&Names>,
+    text: &[u8],
+) -> Result<Instr, AsmFault>
+    ensures { result ≡ spec.by_row row pc (option_map (λ n. find_in n.now) names.entry) text.now }
+{
+    match row {
+        Row::Lui => lui(text),
+        Row::Auipc => auipc(text),
+        Row::Jal => jal(pc, names, text),
+        Row::Jalr => jalr(text),
+        Row::Branch(op) => branch(op, pc, names, text),
+        Row::Load(op) => load(op, text),
+        Row::Store(op) => store(op, text),
+        Row::OpImm(op) => op_imm(op, text),
+        Row::ShiftImm(op) => shift_imm(op, text),
+        Row::Op(op) => registers(op, text),
+        Row::Amo(op) => amo(op, text),
+        Row::Fence => {
+            let bits = FenceBits::new(FULL_FENCE);
+            without_operands(Instr::Fence { bits }, text)
+        }
+        Row::Ecall => without_operands(Instr::Ecall, text),
+        Row::Ebreak => without_operands(Instr::Ebreak, text),
+        Row::TBegin => tbegin(pc, names, text),
+        Row::TCommit => without_operands(Instr::TCommit, text),
+        Row::TAbort => without_operands(Instr::TAbort, text),
     }
 }

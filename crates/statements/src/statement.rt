@@ -234,25 +234,14 @@ fn instruction(form: Form, pc: u32, names: Option<&Names>, text: &[u8]) -> Resul
     ensures { result ≡ spec.instruction_of form pc (option_map (λ n. find_in n.now) names.entry) text.now }
 {
     match form {
-        Form::Op(op) => shapes::registers(op, text),
-        Form::OpImm(op) => shapes::op_imm(op, text),
-        Form::ShiftImm(op) => shapes::shift_imm(op, text),
-        Form::Load(op) => shapes::load(op, text),
-        Form::Store(op) => shapes::store(op, text),
-        Form::Amo(op) => shapes::amo(op, text),
-        Form::Branch(op) => shapes::branch(op, pc, names, text),
+        Form::Row(row) => shapes::by_row(row, pc, names, text),
         Form::BranchSwapped(op) => shapes::branch_swapped(op, pc, names, text),
         Form::BranchZero(op) => shapes::branch_zero(op, pc, names, text),
         Form::BranchFromZero(op) => shapes::branch_from_zero(op, pc, names, text),
-        Form::Lui => shapes::lui(text),
-        Form::Auipc => shapes::auipc(text),
-        Form::Jal => shapes::jal(pc, names, text),
-        Form::Jalr => shapes::jalr(text),
-        Form::TBegin => shapes::tbegin(pc, names, text),
         Form::J => shapes::j(pc, names, text),
         Form::Jr => shapes::jr(text),
         Form::Pair(op) => shapes::registers_of_pair(op, text),
-        Form::Alone(op) => shapes::without_operands(op, text),
+        Form::Alone(op) => shapes::without_operands(shapes::alone_instr(op), text),
         Form::Li | Form::La | Form::Directive(_) => Err(AsmFault::Unknown),
     }
 }

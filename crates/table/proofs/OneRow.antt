@@ -4,7 +4,8 @@ use Rattle.std.proofs.lemmas.Bool.{and_parts, not-true, eqb-false}
 use Rattle.std.specs.Prelude.{IsSomeAnd, IsTrue, slice_get}
 use Rattle.std.specs.List.{list_all}
 use Rattle.operands.specs.Fields.{opcode_of}
-use Rattle.table.specs.Table.{Key, Row, fits, key, table, RowHas}
+use Rattle.table.specs.declared.instr.Row.{Row}
+use Rattle.table.specs.Table.{Key, fits, key, table, RowHas}
 use Rattle.table.specs.Table.Key.{Funct3, Funct7, Funct5, Word, Masked}
 use Rattle.table.proofs.Keys.{f3_fits, f7_fits, f5_fits, word_fits, masked_fits, opcode_fits, key_opcode, FitsF3, FitsF3F7, FitsF3F5}
 

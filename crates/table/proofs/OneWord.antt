@@ -2,10 +2,11 @@
 use Rattle.std.proofs.Common.{◌≡◌, ℕ, ◌<◌, ◌^◌, Bool, true, false, cond, List, [], ◌∷◌, Option, Some, refl, sym, ◌∙◌}
 use Rattle.std.proofs.lemmas.Option.{same_Some}
 use Rattle.operands.specs.Fields.{opcode_of, rd_of, rs1_of, rs2_of, aq_of, rl_of, imm_i_of, imm_s_of, imm_b_of, imm_u_of, imm_j_of, fence_bits_of}
-use Rattle.table.specs.Table.{Row, fits, key, instr, table, instr_in, decoded, branch_row, load_row, store_row, imm_row, shift_row, op_row}
+use Rattle.table.specs.Table.{fits, key, instr, table, instr_in, decoded, branch_row, load_row, store_row, imm_row, shift_row, op_row}
 use Rattle.table.specs.Atomics.{amo_row}
 use Rattle.table.specs.Table.Key.{Opcode, Funct3, Funct7, Funct5, Word, Masked}
-use Rattle.table.specs.Table.Row.{LUI, AUIPC, JAL, JALR, BRANCH, LOAD, STORE, OP_IMM, SHIFT_IMM, OP, AMO, FENCE, ECALL, EBREAK, TBEGIN, TCOMMIT, TABORT}
+use Rattle.table.specs.declared.instr.Row.{Row}
+use Rattle.table.specs.declared.instr.Row.TheVariants as row
 use Rattle.table.specs.declared.instr.Instr.{Instr}
 use Rattle.operands.proofs.Layouts.{r_word, amo_word, i_word, s_word, b_word, u_word, j_word, r_word-fields, amo_word-fields, i_word-fields, s_word-fields, b_word-fields, u_word-fields, j_word-fields}
 use Rattle.table.proofs.Encoding.{fence_word, encoded, fence_word-fields}
@@ -47,23 +48,23 @@ begin_row : (w : ℕ) → w < 2 ^ 32 → fits (Masked 0x01fff17f 0x0000000b) w �
 begin_row w h fit = let e : BeginFields w = passing_fields w (masked_fits 0x01fff17f 0x0000000b w fit) in rw (e.opcode, e.funct3, e.rs1, e.rs2) at (b_word-fields w h)
 
 is_back : (row : Row) → IsBack row
-is_back LUI = u_row 0x37
-is_back AUIPC = u_row 0x17
-is_back JAL = j_row 0x6f
-is_back JALR = i_row 0x67 0x0
-is_back (BRANCH op) = b_row 0x63 (branch_row op).funct3
-is_back (LOAD op) = i_row 0x03 (load_row op).funct3
-is_back (STORE op) = s_row 0x23 (store_row op).funct3
-is_back (OP_IMM op) = i_row 0x13 (imm_row op).funct3
-is_back (SHIFT_IMM op) = r_row 0x13 (shift_row op).funct3 (shift_row op).funct7
-is_back (OP op) = r_row 0x33 (op_row op).funct3 (op_row op).funct7
-is_back (AMO op) = amo_word_row 0x2f 0x2 (amo_row op).funct5
-is_back FENCE = fence_row
-is_back ECALL = word_row 0x00000073
-is_back EBREAK = word_row 0x00100073
-is_back TBEGIN = begin_row
-is_back TCOMMIT = word_row 0x0000100b
-is_back TABORT = word_row 0x0000200b
+is_back row.Lui = u_row 0x37
+is_back row.Auipc = u_row 0x17
+is_back row.Jal = j_row 0x6f
+is_back row.Jalr = i_row 0x67 0x0
+is_back (row.Branch op) = b_row 0x63 (branch_row op).funct3
+is_back (row.Load op) = i_row 0x03 (load_row op).funct3
+is_back (row.Store op) = s_row 0x23 (store_row op).funct3
+is_back (row.OpImm op) = i_row 0x13 (imm_row op).funct3
+is_back (row.ShiftImm op) = r_row 0x13 (shift_row op).funct3 (shift_row op).funct7
+is_back (row.Op op) = r_row 0x33 (op_row op).funct3 (op_row op).funct7
+is_back (row.Amo op) = amo_word_row 0x2f 0x2 (amo_row op).funct5
+is_back row.Fence = fence_row
+is_back row.Ecall = word_row 0x00000073
+is_back row.Ebreak = word_row 0x00100073
+is_back row.TBegin = begin_row
+is_back row.TCommit = word_row 0x0000100b
+is_back row.TAbort = word_row 0x0000200b
 
 at_row : (row : Row) (w : ℕ) (i : Instr) (here : Bool) (found : Option Instr) → w < 2 ^ 32 → fits (key row) w ≡ here → (found ≡ Some i → encoded i ≡ w) → cond here (Some (instr row w)) found ≡ Some i → encoded i ≡ w
 at_row row w i true found h fit later is = rw (← same_Some (instr row w) i is) (is_back row w h fit)

@@ -9,6 +9,7 @@ mod encoder;
 mod executor;
 mod instr;
 mod laws;
+mod names;
 mod slot;
 mod text;
 
@@ -21,7 +22,8 @@ pub use executor::{
     byte_count, effect_at, execute, extend_load, finish_load, finish_store, register,
     write_register, write_to,
 };
-pub use instr::{AluOp, AmoOp, BranchOp, ImmOp, Instr, LoadOp, ShiftOp, StoreOp};
+pub use instr::{AluOp, AmoOp, BranchOp, ImmOp, Instr, LoadOp, Row, ShiftOp, StoreOp};
 pub use laws::one_row;
+pub use names::row_named;
 pub use slot::Slot;
 pub use text::{Segment, Text};

@@ -5,9 +5,9 @@ use std::fmt::Write;
 use std::process::Abort;
 use std::test::Fail;
 use table::{
-    Act, AluOp, AmoOp, BranchOp, Effect, ImmOp, Instr, Load, LoadOp, MemoryAct, Segment, ShiftOp,
-    Store, StoreOp, Text, byte_count, decode, effect_at, encode, execute, extend_load, finish_amo,
-    finish_load, finish_store, one_row, register, write_register, write_to,
+    Act, AmoOp, Effect, Instr, Load, MemoryAct, Row, Segment, Store, Text, byte_count, decode,
+    effect_at, encode, execute, extend_load, finish_amo, finish_load, finish_store, one_row,
+    register, row_named, write_register, write_to,
 };
 use tables::{
     ATOMICS, BRANCHES, ILLEGAL, JUMPS, LINES, LOADED, LOADS, MISALIGNED, STORES, VALUES, WORDS,
@@ -15,26 +15,26 @@ use tables::{
 };
 use words::{Addr, Cause, Reg, Regs, Width};
 
-/// The assembler's name of an instruction.
-fn name(instr: &Instr) -> &'static str {
+/// The row of an instruction.
+fn row(instr: &Instr) -> Row {
     match *instr {
-        Instr::Lui { .. } => "lui",
-        Instr::Auipc { .. } => "auipc",
-        Instr::Jal { .. } => "jal",
-        Instr::Jalr { .. } => "jalr",
-        Instr::Branch { op, .. } => branch_name(op),
-        Instr::Load { op, .. } => load_name(op),
-        Instr::Store { op, .. } => store_name(op),
-        Instr::OpImm { op, .. } => imm_name(op),
-        Instr::ShiftImm { op, .. } => shift_name(op),
-        Instr::Op { op, .. } => alu_name(op),
-        Instr::Amo { op, .. } => amo_name(op),
-        Instr::Fence { .. } => "fence",
-        Instr::Ecall => "ecall",
-        Instr::Ebreak => "ebreak",
-        Instr::TBegin { .. } => "tbegin",
-        Instr::TCommit => "tcommit",
-        Instr::TAbort => "tabort",
+        Instr::Lui { .. } => Row::Lui,
+        Instr::Auipc { .. } => Row::Auipc,
+        Instr::Jal { .. } => Row::Jal,
+        Instr::Jalr { .. } => Row::Jalr,
+        Instr::Branch { op, .. } => Row::Branch(op),
+        Instr::Load { op, .. } => Row::Load(op),
+        Instr::Store { op, .. } => Row::Store(op),
+        Instr::OpImm { op, .. } => Row::OpImm(op),
+        Instr::ShiftImm { op, .. } => Row::ShiftImm(op),
+        Instr::Op { op, .. } => Row::Op(op),
+        Instr::Amo { op, .. } => Row::Amo(op),
+        Instr::Fence { .. } => Row::Fence,
+        Instr::Ecall => Row::Ecall,
+        Instr::Ebreak => Row::Ebreak,
+        Instr::TBegin { .. } => Row::TBegin,
+        Instr::TCommit => Row::TCommit,
+        Instr::TAbort => Row::TAbort,
     }
 }
 
@@ -74,94 +74,26 @@ fn number(r: Reg) -> u32 {
     r.index() as u32
 }
 
-fn branch_name(op: BranchOp) -> &'static str {
-    match op {
-        BranchOp::Eq => "beq",
-        BranchOp::Ne => "bne",
-        BranchOp::Lt => "blt",
-        BranchOp::Ge => "bge",
-        BranchOp::Ltu => "bltu",
-        BranchOp::Geu => "bgeu",
-    }
-}
-
-fn load_name(op: LoadOp) -> &'static str {
-    match op {
-        LoadOp::Byte => "lb",
-        LoadOp::Half => "lh",
-        LoadOp::Word => "lw",
-        LoadOp::ByteUnsigned => "lbu",
-        LoadOp::HalfUnsigned => "lhu",
-    }
-}
-
-fn store_name(op: StoreOp) -> &'static str {
-    match op {
-        StoreOp::Byte => "sb",
-        StoreOp::Half => "sh",
-        StoreOp::Word => "sw",
-    }
-}
-
-fn imm_name(op: ImmOp) -> &'static str {
-    match op {
-        ImmOp::Add => "addi",
-        ImmOp::Slt => "slti",
-        ImmOp::Sltu => "sltiu",
-        ImmOp::Xor => "xori",
-        ImmOp::Or => "ori",
-        ImmOp::And => "andi",
-    }
-}
-
-fn shift_name(op: ShiftOp) -> &'static str {
-    match op {
-        ShiftOp::Sll => "slli",
-        ShiftOp::Srl => "srli",
-        ShiftOp::Sra => "srai",
-    }
-}
-
-fn alu_name(op: AluOp) -> &'static str {
-    match op {
-        AluOp::Add => "add",
-        AluOp::Sub => "sub",
-        AluOp::Sll => "sll",
-        AluOp::Slt => "slt",
-        AluOp::Sltu => "sltu",
-        AluOp::Xor => "xor",
-        AluOp::Srl => "srl",
-        AluOp::Sra => "sra",
-        AluOp::Or => "or",
-        AluOp::And => "and",
-        AluOp::Mul => "mul",
-        AluOp::Mulh => "mulh",
-        AluOp::Mulhsu => "mulhsu",
-        AluOp::Mulhu => "mulhu",
-        AluOp::Div => "div",
-        AluOp::Divu => "divu",
-        AluOp::Rem => "rem",
-        AluOp::Remu => "remu",
-    }
-}
-
-fn amo_name(op: AmoOp) -> &'static str {
-    match op {
-        AmoOp::Add => "amoadd.w",
-        AmoOp::Swap => "amoswap.w",
-        AmoOp::Xor => "amoxor.w",
-        AmoOp::Or => "amoor.w",
-        AmoOp::And => "amoand.w",
-        AmoOp::Min => "amomin.w",
-        AmoOp::Max => "amomax.w",
-        AmoOp::Minu => "amominu.w",
-        AmoOp::Maxu => "amomaxu.w",
-    }
-}
-
-/// Asserts that an instruction is this word again.
+/// Asserts that an instruction is this word again, and that its row is found by its name.
 fn check_encodes(rt: &impl Abort, instr: Instr, word: u32) {
     assert_eq!(rt; encode(instr), word);
+    let row = row(&instr);
+    assert_eq!(rt; row_named(row.name().as_bytes()), Some(row));
+}
+
+#[test]
+fn other_names_have_no_row(rt: HostRuntime) {
+    for name in [
+        b"".as_slice(),
+        b"ad",
+        b"addx",
+        b"ADD",
+        b"mv",
+        b"lr.w",
+        b".word",
+    ] {
+        assert_eq!(rt; row_named(name), None);
+    }
 }
 
 #[test]
@@ -170,7 +102,7 @@ fn words_are_the_assemblers(rt: HostRuntime) -> Result<(), Fail> {
     for &word in &WORDS {
         if let Some(instr) = decode(word) {
             let [a, b, c] = operands(&instr);
-            writeln!(lines, "{} {a} {b} {c}", name(&instr))?;
+            writeln!(lines, "{} {a} {b} {c}", row(&instr).name())?;
             check_encodes(&rt, instr, word);
         }
     }

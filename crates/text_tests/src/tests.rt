@@ -3,3 +3,4 @@ mod formats;
 mod large;
 mod listings;
 mod memory;
+mod sample;

@@ -5,7 +5,7 @@ use Rattle.std.proofs.lemmas.List.{take-append-le}
 use Rattle.std.specs.Option.{option_map}
 use Rattle.std.specs.List.{flat_map, range_with_len}
 use Rattle.words.specs.declared.sink.SinkFault.{SinkFault}
-use Rattle.words.specs.Sinks.{SinkState, TookBeginning}
+use Rattle.words.specs.Sinks.{SinkState, TookBeginning, TookAll, TookPart}
 use Rattle.texts.specs.Puts.{Puts}
 use Rattle.texts.proofs.Pieces.{one-more, split-at, one-more_number, first-numbers}
 
@@ -29,6 +29,19 @@ begun-longer xs ys a b cut =
 nothing_more : (a : Option (List ℕ)) → a ≡ option_map (λ bytes. bytes ++ []) a
 nothing_more None = refl
 nothing_more (Some bytes) = ap (λ l. Some l) (sym (append-nil bytes))
+
+-- no text, a text behind another, and a beginning of one
+pub took-nothing : (a : SinkState) → TookAll a a []
+took-nothing a = record { whole = nothing_more a.taken; clean = refl }
+
+pub took-both : (a b c : SinkState) (xs ys : List ℕ) → TookAll a b xs → TookAll b c ys → TookAll a c (xs ++ ys)
+took-both a b c xs ys first later = record { whole = appended xs ys a.taken b.taken c.taken first.whole later.whole; clean = later.clean ∙ first.clean }
+
+pub took-then-part : (a b c : SinkState) (xs ys : List ℕ) → TookAll a b xs → TookPart b c ys → TookPart a c (xs ++ ys)
+took-then-part a b c xs ys first later = record { part = begun xs ys a.taken b.taken c.taken first.whole later.part; fault = later.fault ∙ ap (λ n. min (n + 1) 18446744073709551615) first.clean }
+
+pub took-part-longer : (a b : SinkState) (xs ys : List ℕ) → TookPart a b xs → TookPart a b (xs ++ ys)
+took-part-longer a b xs ys cut = record { part = begun-longer xs ys a.taken b.taken cut.part; fault = cut.fault }
 
 -- no text
 pub puts-nothing : (a : SinkState) → Puts a a [] (Ok tt)

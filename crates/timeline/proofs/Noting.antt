@@ -1,5 +1,5 @@
 -- The rows of moments that are noted one after another.
-use Rattle.std.proofs.Common.{◌≡◌, ◌≤◌, ◌+◌, ◌++◌, ℕ, zero, suc, List, [], ◌∷◌, length, Option, Result, Ok, Err, IsOk, OnErr, refl, sym, ap, ◌∙◌, arith, append_assoc, append-nil, length-append, Vec, vec_len, vec_capacity}
+use Rattle.std.proofs.Common.{◌≡◌, ◌≤◌, ◌+◌, ◌++◌, ℕ, zero, suc, List, [], ◌∷◌, length, Result, Ok, Err, IsOk, OnErr, refl, sym, ap, ◌∙◌, arith, append_assoc, append-nil, length-append, Vec, vec_len, vec_capacity}
 use Rattle.std.specs.List.{FoldsTo}
 use Rattle.words.specs.declared.sink.SinkFault.{SinkFault}
 use Rattle.words.specs.Sinks.{SinkState}
@@ -8,10 +8,12 @@ use Rattle.texts.proofs.Putting.{puts-same}
 use Rattle.protocol.specs.Caches.{Geometry}
 use Rattle.machine.specs.States.{State, setting_of}
 use Rattle.schedule.specs.declared.choices.Choice.{Choice}
-use Rattle.watch.specs.Moments.{Moment}
-use Rattle.watch.proofs.Lengths.{none_played, steps_at_most}
-use Rattle.watch.specs.Watched.{IsWatched, IsHalted}
-use Rattle.watch.specs.declared.halt.Halt.TheVariants.{Untold}
+use Rattle.schedule.specs.Moments.{Moment}
+use Rattle.schedule.proofs.Lengths.{none_played, steps_at_most}
+use Rattle.schedule.specs.Observed.{IsSeen, IsHalted, joined}
+use Rattle.schedule.proofs.Seeing.{holds_of_all}
+use Rattle.timeline.specs.Notes.{NotesRows, IsFull}
+use Rattle.schedule.specs.declared.halt.Halt.TheVariants.{Untold}
 use Rattle.timeline.specs.declared.row.Row.{Row}
 use Rattle.timeline.specs.Rows.{row_of, rows_from}
 use Rattle.timeline.specs.Drawings.{drawn}
@@ -30,48 +32,48 @@ pub on_err : {T E : Type 0} {P : Type 0} (r : Result T E) → P → OnErr r P
 on_err (Ok x) fact = tt
 on_err (Err e) fact = fact
 
+rows_both : (sets number : ℕ) (ms ns : List Moment) → rows_from sets number ms ++ rows_from sets (number + length ms) ns ≡ rows_from sets number (ms ++ ns)
+rows_both sets number [] ns = let none : number + 0 ≡ number = omega arith in ap (λ (k : ℕ). rows_from sets k ns) none
+rows_both sets number (m ∷ ms) ns =
+    let count : number + length (m ∷ ms) ≡ number + 1 + length ms = omega arith in
+    ap (λ (k : ℕ). row_of sets number m ∷ (rows_from sets (number + 1) ms ++ rows_from sets k ns)) count ∙ ap (λ (rows : List Row). row_of sets number m ∷ rows) (rows_both sets (number + 1) ms ns)
+
 module _ {Z : Type 0} (sets : ℕ) where
-  -- a row was noted, or there was no room for it
-  abbrev pub Notes : Vec Row Z → Moment → Vec Row Z → Type 0
-  Notes before m after = (after.items ≡ before.items ++ row_of sets (vec_len before) m ∷ []) × (vec_len after ≡ vec_len before + 1) × (vec_capacity before ≤ vec_capacity after)
+  pub rows_none : (x : Vec Row Z) → NotesRows sets x [] x
+  rows_none x = record { rows = sym (append-nil x.items); number = omega arith; room = omega arith }
 
-  abbrev pub Misses : Vec Row Z → Moment → Vec Row Z → Type 0
-  Misses before m after = vec_capacity before ≤ vec_len before
+  pub rows_more : (x y z : Vec Row Z) (ms ns : List Moment) → NotesRows sets x ms y → NotesRows sets y ns z → NotesRows sets x (ms ++ ns) z
+  rows_more x y z ms ns first later = record {
+    rows = later.rows ∙ ap (λ (rows : List Row). rows ++ rows_from sets (vec_len y) ns) first.rows ∙ ap (λ (k : ℕ). (x.items ++ rows_from sets (vec_len x) ms) ++ rows_from sets k ns) first.number
+        ∙ append_assoc x.items (rows_from sets (vec_len x) ms) (rows_from sets (vec_len x + length ms) ns) ∙ ap (λ (rows : List Row). x.items ++ rows) (rows_both sets (vec_len x) ms ns);
+    number = let here = first.number in let there = later.number in let long : length (ms ++ ns) ≡ length ms + length ns = length-append ms ns in omega (arith, here, there, long);
+    room = let here = first.room in let there = later.room in omega (arith, here, there);
+  }
 
-  all_noted : (x : Vec Row Z) (ms : List Moment) (y : Vec Row Z) → FoldsTo Notes x ms y → y.items ≡ x.items ++ rows_from sets (vec_len x) ms
-  all_noted x [] y same = ap (λ (l : Vec Row Z). l.items) (sym same) ∙ sym (append-nil x.items)
-  all_noted x (m ∷ ms) y (l, first, rest) =
-      let row = row_of sets (vec_len x) m in
-      all_noted l ms y rest ∙ ap (λ (rows : List Row). rows ++ rows_from sets (vec_len l) ms) first.0 ∙ ap (λ (k : ℕ). (x.items ++ row ∷ []) ++ rows_from sets k ms) first.1
-      ∙ append_assoc x.items (row ∷ []) (rows_from sets (vec_len x + 1) ms)
+  pub full_on : (x y z : Vec Row Z) (ms ns : List Moment) → NotesRows sets x ms y → IsFull y ns z → IsFull x (ms ++ ns) z
+  full_on x y z ms ns first full =
+      let number = first.number in
+      let room = first.room in
+      let long : length (ms ++ ns) ≡ length ms + length ns = length-append ms ns in
+      omega (arith, number, room, long, full)
 
-  all_counted : (x : Vec Row Z) (ms : List Moment) (y : Vec Row Z) → FoldsTo Notes x ms y → vec_len y ≡ vec_len x + length ms
-  all_counted x [] y same = let as_before : vec_len y ≡ vec_len x = ap (λ (l : Vec Row Z). vec_len l) (sym same) in omega (arith, as_before)
-  all_counted x (m ∷ ms) y (l, first, rest) =
-      let later = all_counted l ms y rest in
-      let one = first.1 in
-      omega (arith, later, one)
-
-  room_kept : (x : Vec Row Z) (ms : List Moment) (y : Vec Row Z) → FoldsTo Notes x ms y → vec_capacity x ≤ vec_capacity y
-  room_kept x [] y same = let as_before : vec_capacity y ≡ vec_capacity x = ap (λ (l : Vec Row Z). vec_capacity l) (sym same) in omega (arith, as_before)
-  room_kept x (m ∷ ms) y (l, first, rest) =
-      let later = room_kept l ms y rest in
-      let here = first.2 in
-      omega (arith, later, here)
+  -- the rows of moments that were noted group by group
+  pub noted_all : (groups : List (List Moment)) (x y : Vec Row Z) → FoldsTo (NotesRows sets) x groups y → NotesRows sets x (joined groups) y
+  noted_all groups x y folds = holds_of_all (NotesRows sets) (NotesRows sets x) (λ ms ns z w first later. rows_more x z w ms ns first later) groups x y (rows_none x) folds
 
 module _ {Z : Type 0} (g : Geometry) (choices : List Choice) (n : ℕ) (v w : State) (x y : Vec Row Z) (none : x.items ≡ []) (empty : vec_len x ≡ 0) where
-  pub told : IsWatched (Notes g.sets) g choices n v w x y → IsNoted g choices n v w y.items
-  told (ms, plays, folds) =
-      (ms, plays, all_noted g.sets x ms y folds ∙ ap (λ (rows : List Row). rows ++ rows_from g.sets (vec_len x) ms) none ∙ ap (λ (k : ℕ). rows_from g.sets k ms) empty)
+  pub told : IsSeen (NotesRows g.sets) g choices n v w x y → IsNoted g choices n v w y.items
+  told (groups, plays, folds) =
+      let ms = joined groups in
+      let notes = noted_all g.sets groups x y folds in
+      (ms, plays, notes.rows ∙ ap (λ (rows : List Row). rows ++ rows_from g.sets (vec_len x) ms) none ∙ ap (λ (k : ℕ). rows_from g.sets k ms) empty)
 
   -- where there is room for n rows, none is missed
-  pub never_full : n ≤ vec_capacity x → IsHalted (Notes g.sets) (Misses g.sets) g choices n v w x y Untold → ⊥
-  never_full enough (m, less, (ms, l, z, plays, folds, full)) =
-      let few = steps_at_most g choices (m + 1) v _ (ms ++ l ∷ []) w plays.0 in
-      let long : length (ms ++ l ∷ []) ≡ length ms + 1 = length-append ms (l ∷ []) in
-      let counted = all_counted g.sets x ms z folds in
-      let kept = room_kept g.sets x ms z folds in
-      omega (arith, enough, less, few, long, counted, kept, full, empty)
+  pub never_full : n ≤ vec_capacity x → IsHalted (NotesRows g.sets) IsFull g choices n v w x y Untold → ⊥
+  never_full enough (m, less, (groups, last, z, plays, folds, full)) =
+      let few = steps_at_most g choices (m + 1) v _ (joined groups ++ last) w plays.0 in
+      let too_many = full_on g.sets x z y (joined groups) last (noted_all g.sets groups x z folds) full in
+      omega (arith, enough, less, few, too_many, empty)
 
 module _ (g : Geometry) (choices : List Choice) (n : ℕ) (v w : State) (rows : List Row) (a b : SinkState) where
   -- the drawing of noted rows is the picture of their steps

@@ -7,7 +7,7 @@ use Rattle.protocol.specs.Messages.{shown as shown_message}
 use Rattle.machine.specs.States.{shown}
 use Rattle.schedule.specs.Spelling.{sort_name}
 use Rattle.schedule.specs.Steps.{name_of}
-use Rattle.watch.specs.Moments.{Moment}
+use Rattle.schedule.specs.Moments.{Moment}
 use Rattle.timeline.specs.Marks.{lane_of, label_of, edge_of}
 use Rattle.timeline.specs.declared.edge.Edge.{Edge}
 use Rattle.timeline.specs.declared.edge.Edge.TheVariants.{Begun, Committed, Aborted}
@@ -71,3 +71,8 @@ events_of sets time m = events_in sets time (lane_of m.step m.arrival) m
 abbrev pub events_from : ℕ → ℕ → List Moment → List ℕ
 events_from sets time [] = []
 events_from sets time (m ∷ ms) = events_of sets time m ++ events_from sets (next_time time) ms
+
+-- the time behind moments
+abbrev pub time_behind : ℕ → List Moment → ℕ
+time_behind time [] = time
+time_behind time (m ∷ ms) = time_behind (next_time time) ms

@@ -5,3 +5,4 @@ pub mod Rows
 pub mod Shapes
 pub mod Drawings
 pub mod Pictures
+pub mod Notes

@@ -1,7 +1,7 @@
 -- What a picture notes of each step, in a row of its own.
 use Rattle.std.specs.Prelude.{ℕ, ◌==◌, ◌+◌, ◌&&◌, nat_le, nat_lt, Bool, true, false, List, [], ◌∷◌}
 use Rattle.machine.specs.States.{shown}
-use Rattle.watch.specs.Moments.{Moment}
+use Rattle.schedule.specs.Moments.{Moment}
 use Rattle.timeline.specs.Marks.{lane_of, edge_of}
 use Rattle.timeline.specs.declared.edge.Edge.{Edge}
 use Rattle.timeline.specs.declared.edge.Edge.TheVariants.{Committed, Aborted}

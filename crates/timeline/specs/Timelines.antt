@@ -1,15 +1,14 @@
 -- The timeline of a run.
-use Rattle.std.specs.Prelude.{ℕ, ◌≡◌, ◌<◌, ◌+◌, ◌++◌, List, [], ◌∷◌, Option, codes, decimal, min}
+use Rattle.std.specs.Prelude.{ℕ, ◌<◌, ◌+◌, ◌++◌, List, [], ◌∷◌, codes, decimal}
 use Rattle.std.specs.List.{concat, flat_map, range_with_len}
-use Rattle.std.specs.Option.{option_map}
 use Rattle.words.specs.Sinks.{SinkState, TookAll, TookPart}
 use Rattle.protocol.specs.Caches.{Geometry}
 use Rattle.machine.specs.States.{State, setting_of}
 use Rattle.schedule.specs.declared.choices.Choice.{Choice}
-use Rattle.watch.specs.Moments.{Moment}
-use Rattle.watch.specs.Watched.{PlaysWith}
-use Rattle.watch.specs.declared.halt.Halt.{Halt}
-use Rattle.watch.specs.declared.halt.Halt.TheVariants.{NoMemory, Untold}
+use Rattle.schedule.specs.Moments.{Moment}
+use Rattle.schedule.specs.Runs.{Plays}
+use Rattle.schedule.specs.declared.halt.Halt.{Halt}
+use Rattle.schedule.specs.declared.halt.Halt.TheVariants.{NoMemory, Untold}
 use Rattle.timeline.specs.Events.{events_from}
 use Rattle.timeline.specs.Marks.{directory_lane}
 
@@ -40,11 +39,11 @@ timeline_of sets harts ms = opening harts ++ (events_from sets 0 ms ++ closing)
 -- n steps by a schedule were made, and the sink took their timeline
 abbrev pub IsShown : Geometry → List Choice → ℕ → State → State → SinkState → SinkState → Type 0
 IsShown g choices n v w before after =
-    (ms : List Moment) × PlaysWith g choices n v ms w × TookAll before after (timeline_of g.sets (setting_of v).count ms)
+    (ms : List Moment) × Plays g choices n v ms w × TookAll before after (timeline_of g.sets (setting_of v).count ms)
 
 -- what was made of n steps. Memory ran out: fewer, and the sink took the events of all of them, with no end. A put failed: some, or all, and it took a beginning of their timeline
 abbrev pub IsCutShort : Geometry → List Choice → ℕ → State → State → SinkState → SinkState → Halt → Type 0
-IsCutShort g choices n v w before after NoMemory = (m : ℕ) × (m < n) × (ms : List Moment) × PlaysWith g choices m v ms w
+IsCutShort g choices n v w before after NoMemory = (m : ℕ) × (m < n) × (ms : List Moment) × Plays g choices m v ms w
     × TookAll before after (begun_timeline g.sets (setting_of v).count ms)
-IsCutShort g choices n v w before after Untold = (m : ℕ) × (m < n + 1) × (ms : List Moment) × PlaysWith g choices m v ms w
+IsCutShort g choices n v w before after Untold = (m : ℕ) × (m < n + 1) × (ms : List Moment) × Plays g choices m v ms w
     × TookPart before after (timeline_of g.sets (setting_of v).count ms)

@@ -1,12 +1,13 @@
 ghost use Rattle.std.specs.Prelude.{◌≡◌, Ok, Err, IsErr, MatchResult};
 ghost use Rattle.std.specs.List.{flat_map, range_with_len};
-ghost use Rattle.words.specs.declared.sink.SinkFault.{SinkFault};
+ghost use Rattle.words.specs.Sinks.{TookPart};
 ghost use Rattle.texts.specs.Puts.{Puts};
 ghost use Rattle.machine.specs.States.{geometry};
-ghost use Rattle.watch.specs.declared.halt.Halt.TheVariants.{Untold};
-ghost use Rattle.timeline.specs.Events.{events_of, next_time};
+ghost use Rattle.schedule.specs.declared.halt.Halt.TheVariants.{Untold};
+ghost use Rattle.timeline.specs.Events.{events_from, events_of};
 ghost use Rattle.timeline.specs.Timelines as spec;
 ghost use Rattle.timeline.specs.Timelines.{IsShown, IsCutShort};
+ghost use Rattle.timeline.specs.Notes.{PutEvents};
 
 use crate::edge::edge_at;
 use crate::events::{Place, put_all_sent, put_arrival, put_begin, put_end, put_slice};
@@ -14,9 +15,8 @@ use crate::label::{DIRECTORY, lane};
 use itoa::Buffer;
 use machine::{Machine, Progress};
 use network::Flight;
-use schedule::Choice;
+use schedule::{Choice, Halt, Observer, Unseen, run};
 use texts::put_all;
-use watch::{Halt, WatchFault, Watcher, follow_watched};
 use words::{Entry, Sink, SinkFault, Step};
 
 /// A sink that a timeline is put into, and the time of the next step.
@@ -43,18 +43,14 @@ impl<S: Sink> Chart<S> {
     }
 }
 
-/// Notes steps as events.
+/// Puts steps as events.
 #[derive(Clone, Copy, Debug)]
 struct Drawer;
 
-impl<const SETS: usize, const WAYS: usize, S: Sink> Watcher<Machine<SETS, WAYS>, Chart<S>>
-    for Drawer {
-    ghost notes = { λ _ before sent step arrival entry w after.
-        Puts (S.state before.sink) (S.state after.sink) (events_of SETS before.time (record { sent = sent; step = step; arrival = arrival; entry = entry; after = w })) (Ok tt)
-        × (after.time ≡ next_time before.time) };
+impl<const SETS: usize, const WAYS: usize, S: Sink> Observer<SETS, WAYS, Chart<S>> for Drawer {
+    ghost saw = { λ _ before ms after. PutEvents SETS (S.state before.sink) before.time ms (S.state after.sink) after.time };
 
-    ghost misses = { λ _ before sent step arrival entry w after. (fault : SinkFault)
-        × Puts (S.state before.sink) (S.state after.sink) (events_of SETS before.time (record { sent = sent; step = step; arrival = arrival; entry = entry; after = w })) (Err fault) };
+    ghost missed = { λ _ before ms after. TookPart (S.state before.sink) (S.state after.sink) (events_from SETS before.time ms) };
 
     fn note(
         &self,
@@ -63,15 +59,15 @@ impl<const SETS: usize, const WAYS: usize, S: Sink> Watcher<Machine<SETS, WAYS>,
         arrival: &Option<Flight>,
         entry: &Option<Entry>,
         machine: &Machine<SETS, WAYS>,
-        log: &mut Chart<S>,
-    ) -> Result<(), WatchFault> {
-        let time = log.time;
-        match put_events(&mut log.sink, time, sent, step, arrival, entry, machine) {
+        chart: &mut Chart<S>,
+    ) -> Result<(), Unseen> {
+        let time = chart.time;
+        match put_events(&mut chart.sink, time, sent, step, arrival, entry, machine) {
             Ok(()) => {
-                log.time = time.saturating_add(1);
+                chart.time = time.saturating_add(1);
                 Ok(())
             }
-            Err(_) => Err(WatchFault),
+            Err(_) => Err(Unseen),
         }
     }
 }
@@ -157,7 +153,7 @@ fn put_harts<S: Sink>(sink: &mut S, harts: usize) -> Result<(), SinkFault>
     Ok(())
 }
 
-/// The choices in order, so many at most, and turns behind the last of them, as [`schedule::follow`] makes them. The events of each step are put
+/// The choices in order, so many at most, and turns behind the last of them, as [`schedule::run`] makes them. The events of each step are put
 /// before the next step. Progress is told on the way.
 ///
 /// If memory runs out, the machine is left where the steps before led, and their events were put, with no end of the timeline. If a put fails,
@@ -176,7 +172,7 @@ pub fn put_timeline<const SETS: usize, const WAYS: usize, S: Sink, P: Progress>(
     chart.time = 0;
     let harts = machine.harts();
     put_or_halt(put_opening(&mut chart.sink, harts))?;
-    follow_watched(machine, choices, steps, &Drawer, chart, progress)?;
+    run(machine, choices, steps, &Drawer, chart, progress)?;
     put_or_halt(put_all(&mut chart.sink, &[b"\n]}\n"]))
 }
 

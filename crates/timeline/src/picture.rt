@@ -1,29 +1,26 @@
 ghost use Rattle.std.specs.Prelude.{◌≡◌, ◌≤◌, ◌+◌, ◌++◌, [], ◌∷◌, MatchResult, IfOk, OnErr, IsErr, Ok, vec_len, vec_capacity};
 ghost use Rattle.machine.specs.States.{geometry};
-ghost use Rattle.watch.specs.declared.halt.Halt.TheVariants.{Untold};
-ghost use Rattle.timeline.specs.Rows.{row_of};
+ghost use Rattle.schedule.specs.declared.halt.Halt.TheVariants.{Untold};
 ghost use Rattle.timeline.specs.Pictures.{IsNoted, IsCut, IsPictured, IsNotPictured};
+ghost use Rattle.timeline.specs.Notes.{NotesRows, IsFull};
 
 use crate::drawing::put_drawing;
 use crate::edge::edge_at;
 use crate::row::Row;
 use machine::{Machine, Silent};
 use network::Flight;
-use schedule::Choice;
+use schedule::{Choice, Halt, Observer, Unseen, run};
 use std::alloc::{AllocError, Global};
-use watch::{Halt, WatchFault, Watcher, follow_watched};
 use words::{Entry, Sink, SinkFault, Step};
 
 /// Notes steps as rows.
 #[derive(Clone, Copy, Debug)]
 struct Noter;
 
-impl<const SETS: usize, const WAYS: usize> Watcher<Machine<SETS, WAYS>, Vec<Row>> for Noter {
-    ghost notes = { λ _ before sent step arrival entry w after.
-        (after.items ≡ before.items ++ row_of SETS (vec_len before) (record { sent = sent; step = step; arrival = arrival; entry = entry; after = w }) ∷ [])
-        × (vec_len after ≡ vec_len before + 1) × (vec_capacity before ≤ vec_capacity after) };
+impl<const SETS: usize, const WAYS: usize> Observer<SETS, WAYS, Vec<Row>> for Noter {
+    ghost saw = { λ _ before rows after. NotesRows SETS before rows after };
 
-    ghost misses = { λ _ before _ _ _ _ _ _. vec_capacity before ≤ vec_len before };
+    ghost missed = { λ _ before rows after. IsFull before rows after };
 
     fn note(
         &self,
@@ -32,10 +29,10 @@ impl<const SETS: usize, const WAYS: usize> Watcher<Machine<SETS, WAYS>, Vec<Row>
         arrival: &Option<Flight>,
         entry: &Option<Entry>,
         machine: &Machine<SETS, WAYS>,
-        log: &mut Vec<Row>,
-    ) -> Result<(), WatchFault> {
+        rows: &mut Vec<Row>,
+    ) -> Result<(), Unseen> {
         let row = Row {
-            number: log.len(),
+            number: rows.len(),
             sent,
             sent_behind: machine.sent(),
             step: *step,
@@ -43,9 +40,9 @@ impl<const SETS: usize, const WAYS: usize> Watcher<Machine<SETS, WAYS>, Vec<Row>
             entry: *entry,
             edge: edge_at(entry, machine),
         };
-        match log.push(row) {
+        match rows.push(row) {
             Ok(()) => Ok(()),
-            Err(_) => Err(WatchFault),
+            Err(_) => Err(Unseen),
         }
     }
 }
@@ -61,14 +58,14 @@ fn noted<const SETS: usize, const WAYS: usize>(
     ensures err { OnErr result (IsCut (geometry SETS WAYS) choices.now steps machine.old machine.new) }
 {
     let mut rows = Vec::with_capacity(alloc, steps as usize)?;
-    match follow_watched(machine, choices, steps, &Noter, &mut rows, &mut Silent) {
+    match run(machine, choices, steps, &Noter, &mut rows, &mut Silent) {
         Ok(()) => Ok(rows),
         Err(Halt::NoMemory) => Err(AllocError),
         Err(Halt::Untold) => unreachable!(),
     }
 }
 
-/// The choices in order, so many at most, and turns behind the last of them, as [`schedule::follow`] makes them. Their picture is put behind the
+/// The choices in order, so many at most, and turns behind the last of them, as [`schedule::run`] makes them. Their picture is put behind the
 /// last step.
 ///
 /// If memory runs out, the machine is left where the steps before led, and nothing is put. If a put fails, all steps were made, and a beginning

@@ -1,46 +1,54 @@
 -- The lines of entries that are put one after another.
-use Rattle.std.proofs.Common.{◌≡◌, ◌++◌, ℕ, List, [], ◌∷◌, Option, Result, Ok, Err, MatchResult, sym, ap, ◌∙◌, subst}
+use Rattle.std.proofs.Common.{◌≡◌, ◌++◌, ℕ, List, [], ◌∷◌, Result, Ok, Err, MatchResult, sym, subst}
 use Rattle.std.specs.List.{FoldsTo}
 use Rattle.std.proofs.lemmas.List.{append-nil}
 use Rattle.std.proofs.lemmas.List.Concat.{flat_map-append}
 use Rattle.words.specs.declared.sink.SinkFault.{SinkFault}
-use Rattle.words.specs.Sinks.{SinkState}
+use Rattle.words.specs.Sinks.{SinkState, TookAll, TookPart}
 use Rattle.texts.specs.Puts.{Puts}
-use Rattle.texts.proofs.Putting.{puts-nothing, puts-both, puts-same}
+use Rattle.texts.proofs.Putting.{took-nothing, took-both, took-then-part}
 use Rattle.protocol.specs.Caches.{Geometry}
 use Rattle.machine.specs.States.{State}
 use Rattle.schedule.specs.declared.choices.Choice.{Choice}
-use Rattle.watch.specs.Moments.{Moment}
-use Rattle.watch.specs.declared.halt.Halt.{Halt}
-use Rattle.watch.specs.declared.halt.Halt.TheVariants.{NoMemory, Untold}
-use Rattle.watch.specs.Watched.{IsWatched, IsHalted}
+use Rattle.schedule.specs.declared.halt.Halt.{Halt}
+use Rattle.schedule.specs.declared.halt.Halt.TheVariants.{NoMemory, Untold}
+use Rattle.schedule.specs.Moments.{Moment}
+use Rattle.schedule.specs.Observed.{IsSeen, IsHalted, joined}
+use Rattle.schedule.proofs.Seeing.{holds_of_all}
 use Rattle.watch.specs.Traces.{line_of, trace_of, IsTraced, IsCut}
 
--- the lines of some moments, and of one more
-trace_more : (ms : List Moment) (m : Moment) → trace_of ms ++ line_of m ≡ trace_of (ms ++ m ∷ [])
-trace_more ms m = sym (flat_map-append line_of ms (m ∷ []) ∙ ap (λ (l : List ℕ). trace_of ms ++ l) (append-nil (line_of m)))
+trace_both : (ms ns : List Moment) → trace_of ms ++ trace_of ns ≡ trace_of (ms ++ ns)
+trace_both ms ns = sym (flat_map-append line_of ms ns)
 
+traced_both : (a b c : SinkState) (ms ns : List Moment) → TookAll a b (trace_of ms) → TookAll b c (trace_of ns) → TookAll a c (trace_of (ms ++ ns))
+traced_both a b c ms ns first later = subst (λ (text : List ℕ). TookAll a c text) (trace_both ms ns) (took-both a b c (trace_of ms) (trace_of ns) first later)
+
+traced_part : (a b c : SinkState) (ms ns : List Moment) → TookAll a b (trace_of ms) → TookPart b c (trace_of ns) → TookPart a c (trace_of (ms ++ ns))
+traced_part a b c ms ns first later = subst (λ (text : List ℕ). TookPart a c text) (trace_both ms ns) (took-then-part a b c (trace_of ms) (trace_of ns) first later)
+
+-- the line of one moment
+pub traced_one : (a b : SinkState) (m : Moment) → Puts a b (line_of m) (Ok tt) → TookAll a b (trace_of (m ∷ []))
+traced_one a b m puts = subst (λ (text : List ℕ). TookAll a b text) (sym (append-nil (line_of m))) (record { whole = puts.whole; clean = puts.clean })
+
+pub untraced_one : (a b : SinkState) (m : Moment) (fault : SinkFault) → Puts a b (line_of m) (Err fault) → TookPart a b (trace_of (m ∷ []))
+untraced_one a b m fault puts = subst (λ (text : List ℕ). TookPart a b text) (sym (append-nil (line_of m))) (record { part = puts.part; fault = puts.fault })
+
+-- the lines of moments that were put group by group
 module _ {S : Type 0} (state : S → SinkState) where
-  -- a line was put, or not all of it
-  abbrev pub Notes : S → Moment → S → Type 0
-  Notes before m after = Puts (state before) (state after) (line_of m) (Ok tt)
+  abbrev pub Saw : S → List Moment → S → Type 0
+  Saw x ms y = TookAll (state x) (state y) (trace_of ms)
 
-  abbrev pub Misses : S → Moment → S → Type 0
-  Misses before m after = (fault : SinkFault) × Puts (state before) (state after) (line_of m) (Err fault)
+  abbrev pub Missed : S → List Moment → S → Type 0
+  Missed x ms y = TookPart (state x) (state y) (trace_of ms)
 
-  puts_all : (x : S) (ms : List Moment) (y : S) → FoldsTo Notes x ms y → Puts (state x) (state y) (trace_of ms) (Ok tt)
-  puts_all x [] y same = subst (λ (s : S). Puts (state x) (state s) [] (Ok tt)) same (puts-nothing (state x))
-  puts_all x (m ∷ ms) y (s, first, rest) = puts-both first (puts_all s ms y rest)
+  traced_all : (groups : List (List Moment)) (x y : S) → FoldsTo Saw x groups y → Saw x (joined groups) y
+  traced_all groups x y folds = holds_of_all Saw (Saw x) (λ ms ns z w first later. traced_both (state x) (state z) (state w) ms ns first later) groups x y (took-nothing (state x)) folds
 
-  traced : (g : Geometry) (choices : List Choice) (n : ℕ) (v w : State) (x y : S) → IsWatched Notes g choices n v w x y → IsTraced g choices n v w (state x) (state y)
-  traced g choices n v w x y (ms, plays, folds) = let puts = puts_all x ms y folds in (ms, plays, record { whole = puts.whole; clean = puts.clean })
-
-  -- what was noted by a run, as what the sink took
+  -- what was seen of a run, as what the sink took
   pub told : (g : Geometry) (choices : List Choice) (n : ℕ) (v w : State) (x y : S) (r : Result Unit Halt)
-      → MatchResult r (λ _. IsWatched Notes g choices n v w x y) (IsHalted Notes Misses g choices n v w x y)
+      → MatchResult r (λ _. IsSeen Saw g choices n v w x y) (IsHalted Saw Missed g choices n v w x y)
       → MatchResult r (λ _. IsTraced g choices n v w (state x) (state y)) (IsCut g choices n v w (state x) (state y))
-  told g choices n v w x y (Ok _) watched = traced g choices n v w x y watched
-  told g choices n v w x y (Err NoMemory) (m, less, watched) = (m, less, traced g choices m v w x y watched)
-  told g choices n v w x y (Err Untold) (m, less, (ms, l, z, plays, folds, (fault, puts))) =
-      let last = puts-same (trace_more ms l) (puts-both (puts_all x ms z folds) puts) in
-      (m, less, ms ++ l ∷ [], plays, record { part = last.part; fault = last.fault })
+  told g choices n v w x y (Ok _) (groups, plays, folds) = (joined groups, plays, traced_all groups x y folds)
+  told g choices n v w x y (Err NoMemory) (m, less, (groups, plays, folds)) = (m, less, (joined groups, plays, traced_all groups x y folds))
+  told g choices n v w x y (Err Untold) (m, less, (groups, last, z, plays, folds, missed)) =
+      (m, less, joined groups ++ last, plays, traced_part (state x) (state z) (state y) (joined groups) last (traced_all groups x z folds) missed)

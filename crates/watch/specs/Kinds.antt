@@ -5,7 +5,7 @@ use Rattle.words.specs.declared.cause.AbortCause.{AbortCause}
 use Rattle.words.specs.declared.cause.AbortCause.TheVariants as abort
 use Rattle.words.specs.declared.entry.Entry.{Entry}
 use Rattle.words.specs.declared.entry.Entry.TheVariants.{Retire, Abort, Trap, Refuse, Spill}
-use Rattle.watch.specs.Moments.{Moment}
+use Rattle.schedule.specs.Moments.{Moment}
 use Rattle.table.specs.declared.instr.Instr.{Instr}
 use Rattle.table.specs.declared.instr.Instr.TheVariants.{TBegin, TCommit}
 use Rattle.table.specs.Table.{decoded}

@@ -1,5 +1,3 @@
-pub mod Moments
-pub mod Watched
 pub mod Traces
 pub mod Kinds
 pub mod Traffic

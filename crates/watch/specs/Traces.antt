@@ -1,6 +1,5 @@
 -- What a sink took of a run's trace.
-use Rattle.std.specs.Prelude.{ℕ, ◌≡◌, ◌<◌, ◌+◌, ◌++◌, List, [], Option, Some, None, min}
-use Rattle.std.specs.Option.{option_map}
+use Rattle.std.specs.Prelude.{ℕ, ◌<◌, ◌+◌, List, [], Option, Some, None}
 use Rattle.std.specs.List.{flat_map}
 use Rattle.words.specs.declared.entry.Entry.{Entry}
 use Rattle.words.specs.Sinks.{SinkState, TookAll, TookPart}
@@ -8,10 +7,10 @@ use Rattle.protocol.specs.Caches.{Geometry}
 use Rattle.machine.specs.States.{State}
 use Rattle.lines.specs.Entries.{entry_line}
 use Rattle.schedule.specs.declared.choices.Choice.{Choice}
-use Rattle.watch.specs.Moments.{Moment}
-use Rattle.watch.specs.declared.halt.Halt.{Halt}
-use Rattle.watch.specs.declared.halt.Halt.TheVariants.{NoMemory, Untold}
-use Rattle.watch.specs.Watched.{PlaysWith}
+use Rattle.schedule.specs.declared.halt.Halt.{Halt}
+use Rattle.schedule.specs.declared.halt.Halt.TheVariants.{NoMemory, Untold}
+use Rattle.schedule.specs.Moments.{Moment}
+use Rattle.schedule.specs.Runs.{Plays}
 
 -- the line of a moment's entry, if it gave one
 abbrev pub line_if : Option Entry → List ℕ
@@ -27,10 +26,10 @@ trace_of ms = flat_map line_of ms
 
 -- n steps by a schedule were made, and the sink took the lines of their entries, all of them and in order
 abbrev pub IsTraced : Geometry → List Choice → ℕ → State → State → SinkState → SinkState → Type 0
-IsTraced g choices n v w before after = (ms : List Moment) × PlaysWith g choices n v ms w × TookAll before after (trace_of ms)
+IsTraced g choices n v w before after = (ms : List Moment) × Plays g choices n v ms w × TookAll before after (trace_of ms)
 
 -- what was made of n steps. Memory ran out: fewer, and the sink took the lines of all their entries. A put failed: some, and it took a beginning of these lines
 abbrev pub IsCut : Geometry → List Choice → ℕ → State → State → SinkState → SinkState → Halt → Type 0
 IsCut g choices n v w before after NoMemory = (m : ℕ) × (m < n) × IsTraced g choices m v w before after
 IsCut g choices n v w before after Untold =
-    (m : ℕ) × (m < n) × (ms : List Moment) × PlaysWith g choices (m + 1) v ms w × TookPart before after (trace_of ms)
+    (m : ℕ) × (m < n) × (ms : List Moment) × Plays g choices (m + 1) v ms w × TookPart before after (trace_of ms)

@@ -6,7 +6,7 @@ use Rattle.network.specs.declared.net.Flight.{Flight}
 use Rattle.protocol.specs.Messages.{Message, shown}
 use Rattle.schedule.specs.declared.choices.Sort.TheVariants.{Get, Put, Done, Grant, Forward, PutAck, Ack, Nack}
 use Rattle.schedule.specs.Steps.{name_of}
-use Rattle.watch.specs.Moments.{Moment}
+use Rattle.schedule.specs.Moments.{Moment}
 use Rattle.watch.specs.Kinds.{one_if}
 use Rattle.watch.specs.declared.figures.Sum.{Sum}
 use Rattle.watch.specs.declared.figures.Figure.{Figure}

@@ -1,26 +1,22 @@
-ghost use Rattle.std.specs.Prelude.{◌≡◌, MatchResult, Ok, Err};
-ghost use Rattle.words.specs.declared.sink.SinkFault.{SinkFault};
-ghost use Rattle.texts.specs.Puts.{Puts};
+ghost use Rattle.std.specs.Prelude.{◌≡◌, MatchResult};
+ghost use Rattle.words.specs.Sinks.{TookAll, TookPart};
 ghost use Rattle.machine.specs.States.{geometry};
-ghost use Rattle.watch.specs.Traces.{line_if, IsTraced, IsCut};
+ghost use Rattle.watch.specs.Traces.{trace_of, IsTraced, IsCut};
 
-use crate::following::follow_watched;
-use crate::halt::Halt;
-use crate::watcher::{WatchFault, Watcher};
 use lines::put_entry;
 use machine::{Machine, Progress};
 use network::Flight;
-use schedule::Choice;
+use schedule::{Choice, Halt, Observer, Unseen, run};
 use words::{Entry, Sink, Step};
 
-/// Notes the entries of steps in a sink, as lines.
+/// Puts the entries of steps into a sink, as lines.
 #[derive(Clone, Copy, Debug)]
 struct Recorder;
 
-impl<M, S: Sink> Watcher<M, S> for Recorder {
-    ghost notes = { λ _ before _ _ _ entry _ after. Puts (S.state before) (S.state after) (line_if entry) (Ok tt) };
+impl<const SETS: usize, const WAYS: usize, S: Sink> Observer<SETS, WAYS, S> for Recorder {
+    ghost saw = { λ _ before ms after. TookAll (S.state before) (S.state after) (trace_of ms) };
 
-    ghost misses = { λ _ before _ _ _ entry _ after. (fault : SinkFault) × Puts (S.state before) (S.state after) (line_if entry) (Err fault) };
+    ghost missed = { λ _ before ms after. TookPart (S.state before) (S.state after) (trace_of ms) };
 
     fn note(
         &self,
@@ -28,21 +24,21 @@ impl<M, S: Sink> Watcher<M, S> for Recorder {
         _step: &Step,
         _arrival: &Option<Flight>,
         entry: &Option<Entry>,
-        _machine: &M,
-        log: &mut S,
-    ) -> Result<(), WatchFault> {
+        _machine: &Machine<SETS, WAYS>,
+        sink: &mut S,
+    ) -> Result<(), Unseen> {
         let Some(entry) = entry else {
             return Ok(());
         };
-        match put_entry(entry, log) {
+        match put_entry(entry, sink) {
             Ok(()) => Ok(()),
-            Err(_) => Err(WatchFault),
+            Err(_) => Err(Unseen),
         }
     }
 }
 
-/// The choices in order, so many at most, and turns behind the last of them, as [`schedule::follow`] makes them. The line of each step's entry,
-/// if it gives one, is put before the next step. Progress is told on the way.
+/// Makes the choices in order, and turns behind the last of them, as [`schedule::run`] does. The line of each step's entry, if it gives one, is put
+/// before the next step. Progress is told on the way.
 ///
 /// If memory runs out, the machine is left where the steps before led, and their lines were put. If a put fails, the step of its line was made,
 /// and a beginning of the lines up to it was taken.
@@ -57,5 +53,5 @@ pub fn put_trace<const SETS: usize, const WAYS: usize, S: Sink, P: Progress>(
         (λ _. IsTraced (geometry SETS WAYS) choices.now steps machine.old machine.new (S.state sink.old) (S.state sink.new))
         (IsCut (geometry SETS WAYS) choices.now steps machine.old machine.new (S.state sink.old) (S.state sink.new)) }
 {
-    follow_watched(machine, choices, steps, &Recorder, sink, progress)
+    run(machine, choices, steps, &Recorder, sink, progress)
 }

@@ -1,7 +1,7 @@
 ghost use Rattle.std.specs.Prelude.{◌≡◌, ◌≤◌, ◌<◌, ◌+◌, ◌++◌, ◌∷◌, [], length, replicate, option_to_list, IfOk, OnOk, OnErr, Some, vec_len, vec_capacity};
 ghost use Rattle.words.specs.declared.entry.Step.TheVariants.{Core};
 ghost use Rattle.machine.specs.States.{geometry};
-ghost use Rattle.schedule.specs.Follows.{Makes};
+ghost use Rattle.schedule.specs.Runs.{Makes};
 ghost use Rattle.board.specs.Leases.{most_steps};
 ghost use Rattle.board.specs.Histories.{IsOf};
 

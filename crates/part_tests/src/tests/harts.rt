@@ -166,17 +166,17 @@ fn what_a_hart_does_by_itself(rt: HostRuntime) -> Result<(), Fail> {
     let rows = [
         Row::GivesAlone(lui),
         // The block has to be asked for.
-        Row::NeedsHub,
+        Row::NeedsMachine,
         Row::Takes(Kind::Read, LineState::Exclusive),
         Row::RetiresAlone,
         // An outermost transaction takes a stamp.
-        Row::NeedsHub,
+        Row::NeedsMachine,
         Row::Retires(1),
         Row::RetiresAlone,
         Row::RetiresAlone,
         Row::Depth(1),
         // A call inside a transaction traps.
-        Row::NeedsHub,
+        Row::NeedsMachine,
     ];
     check(
         &rt,
@@ -189,12 +189,12 @@ fn what_a_hart_does_by_itself(rt: HostRuntime) -> Result<(), Fail> {
 fn the_two_calls(rt: HostRuntime) -> Result<(), Fail> {
     let rows = [
         Row::Retires(1),
-        Row::NeedsHub,
+        Row::NeedsMachine,
         Row::Calls(Some(1)),
         Row::Retires(1),
         Row::Calls(None),
         Row::Status(Status::Exited(1)),
-        Row::NeedsHub,
+        Row::NeedsMachine,
     ];
     // addi a7, zero, 1; ecall; addi a7, zero, 93; ecall
     check(&rt, &[0x0010_0893, ECALL, 0x05d0_0893, ECALL], &rows)

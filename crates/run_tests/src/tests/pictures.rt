@@ -2,11 +2,11 @@
 use super::booted::booted;
 use super::refusing::Refusing;
 use elf_samples::{ABORTS, COMMITS};
+use schedule::Halt;
 use std::alloc::Global;
 use std::process::Abort;
 use std::str;
 use timeline::put_picture;
-use watch::Halt;
 use words::{Sink, Taken};
 
 const PICTURE: &str =

@@ -4,11 +4,11 @@ use super::refusing::Refusing;
 use elf_samples::{ABORTS, COMMITS};
 use json::{Scratch, is_valid};
 use machine::Silent;
+use schedule::Halt;
 use std::alloc::Global;
 use std::process::Abort;
 use std::str;
 use timeline::{Chart, put_timeline};
-use watch::Halt;
 use words::{Sink, Taken};
 
 const TIMELINE: &str = r#"{"traceEvents":[

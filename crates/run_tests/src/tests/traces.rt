@@ -3,9 +3,9 @@ use super::booted::booted;
 use super::refusing::Refusing;
 use elf_samples::COMMITS;
 use machine::Silent;
-use schedule::Choice;
+use schedule::{Choice, Halt};
 use std::process::Abort;
-use watch::{Halt, put_trace};
+use watch::put_trace;
 use words::{HartId, Sink, Taken};
 
 const TRACE: &str = "0 0x00001000 00000a0b tbegin 20\n\

@@ -3,11 +3,10 @@ ghost use Rattle.std.specs.Prelude.{⊤};
 
 use super::booted::booted;
 use elf_samples::COMMITS;
-use machine::Silent;
+use machine::{Machine, Silent};
 use network::Flight;
-use schedule::Choice;
+use schedule::{Choice, Halt, Observer, Unseen, run};
 use std::process::Abort;
-use watch::{Halt, WatchFault, Watcher, follow_watched};
 use words::{Addr, Entry, HartId, Step};
 
 /// The words that were retired, while there is room for them.
@@ -19,10 +18,10 @@ struct Words {
 
 struct Collector;
 
-impl<M> Watcher<M, Words> for Collector {
-    ghost notes = { λ _ _ _ _ _ _ _ _. ⊤ };
+impl<const SETS: usize, const WAYS: usize> Observer<SETS, WAYS, Words> for Collector {
+    ghost saw = { λ _ _ _ _. ⊤ };
 
-    ghost misses = { λ _ _ _ _ _ _ _ _. ⊤ };
+    ghost missed = { λ _ _ _ _. ⊤ };
 
     fn note(
         &self,
@@ -30,19 +29,19 @@ impl<M> Watcher<M, Words> for Collector {
         _step: &Step,
         _arrival: &Option<Flight>,
         entry: &Option<Entry>,
-        _machine: &M,
+        _machine: &Machine<SETS, WAYS>,
         log: &mut Words,
-    ) -> Result<(), WatchFault> {
+    ) -> Result<(), Unseen> {
         let Some(entry) = entry else {
             return Ok(());
         };
         if log.retired.len() == log.most {
-            return Err(WatchFault);
+            return Err(Unseen);
         }
         match entry {
             Entry::Retire { word, .. } => match log.retired.push(*word) {
                 Ok(()) => Ok(()),
-                Err(_) => Err(WatchFault),
+                Err(_) => Err(Unseen),
             },
             _ => Ok(()),
         }
@@ -67,7 +66,7 @@ fn watch_run(rt: &(impl Abort + AllocGlobal), chosen: usize, steps: u32, most: u
     };
     let choices = [Choice::Core(HartId::new(0)); 3];
     let choices = &choices[..chosen.min(3)];
-    let ended = follow_watched(
+    let ended = run(
         &mut machine,
         choices,
         steps,

@@ -1,15 +1,15 @@
-//! What command lines ask for, and the calls that carry it out. These say nothing of what they answer, so that no test's proof has to carry it.
+//! What command lines ask for, and the call that carries it out. These say nothing of what they answer, so that no test's proof has to carry it.
 use super::paper::Paper;
-use command_line::{Debug, Order, Request, Run, parse};
+use command_line::{Request, parse};
 use debugger::Typed;
 use elf_samples::elf_file;
-use machine::Silent;
-use simulate::debugging::play;
-use simulate::perform::perform;
-use simulate::showing::{Form, show_apart, trace_before};
+use machine::{Progress, Silent};
+use simulate::carry_out;
 use std::alloc::{AllocError, Global};
 use std::io;
 use std::io::{ErrorKind, Read};
+use std::sync::Wait;
+use std::thread::Threads;
 use timeline::Chart;
 
 /// The ELF file of a program of these words.
@@ -18,61 +18,122 @@ pub(crate) fn file_of(alloc: Global, words: &[u32]) -> Result<Vec<u8>, AllocErro
 }
 
 /// What the words ask for, if nothing is wrong with them.
-fn request_of<'a>(alloc: Global, words: &'a [&'a str]) -> Option<Request<'a>> {
+pub(crate) fn request_of<'a>(alloc: Global, words: &'a [&'a str]) -> Option<Request<'a>> {
     parse(alloc, words).ok()
 }
 
-/// What the words ask to be carried out at once.
-pub(crate) fn order_of<'a>(alloc: Global, words: &'a [&'a str]) -> Option<Order<'a>> {
-    match request_of(alloc, words)? {
-        Request::Order(order) => Some(order),
-        _ => None,
+/// Where the texts of a request go.
+#[derive(Drop)]
+pub(crate) struct Sheets {
+    /// Standard output.
+    pub(crate) out: Paper,
+    /// Standard error.
+    pub(crate) error: Paper,
+    /// The file of a view or of a history.
+    pub(crate) page: Paper,
+}
+
+impl Sheets {
+    /// Those that take all puts.
+    pub(crate) fn endless(alloc: Global) -> Self {
+        Sheets {
+            out: Paper::endless(alloc),
+            error: Paper::endless(alloc),
+            page: Paper::endless(alloc),
+        }
+    }
+
+    /// Those of which standard output takes so many puts.
+    pub(crate) fn cut(alloc: Global, left: u32) -> Self {
+        let mut sheets = Sheets::endless(alloc);
+        sheets.out = Paper::new(alloc, left);
+        sheets
+    }
+
+    /// Those with this file.
+    pub(crate) fn with_page(alloc: Global, page: Paper) -> Self {
+        let mut sheets = Sheets::endless(alloc);
+        sheets.page = page;
+        sheets
     }
 }
 
-/// The run that the words ask for.
-pub(crate) fn run_of<'a>(alloc: Global, words: &'a [&'a str]) -> Option<Run<'a>> {
-    match order_of(alloc, words)? {
-        Order::Run(run) => Some(run),
-        _ => None,
-    }
-}
-
-/// What the words ask to be played by hand.
-pub(crate) fn debug_of<'a>(alloc: Global, words: &'a [&'a str]) -> Option<Debug<'a>> {
-    match request_of(alloc, words)? {
-        Request::Debug(debug) => Some(debug),
-        _ => None,
-    }
-}
-
-/// What became of a command line.
+/// What became of a request.
 #[derive(Drop)]
 pub(crate) struct Told {
     pub(crate) status: u8,
     /// The file that is to be written, if there is one.
     pub(crate) image: Option<Vec<u8>>,
-    /// Standard output.
     pub(crate) out: Paper,
-    /// Standard error.
     pub(crate) error: Paper,
+    pub(crate) page: Paper,
 }
 
-/// An order, carried out on a file and a schedule.
-pub(crate) fn performed(
-    alloc: Global,
-    order: &Order<'_>,
+/// A request, carried out on a file and a schedule, with no input.
+pub(crate) fn carried(
+    rt: &(impl AllocGlobal + Threads + Wait + Sync),
+    request: &Request<'_>,
     file: &[u8],
     schedule: &[u8],
-    mut out: Paper,
-    mut error: Paper,
+    sheets: Sheets,
 ) -> Told {
-    let outcome = perform(
-        alloc,
-        order,
+    let mut input = input_of(&[], false);
+    let files = (file, schedule);
+    carried_all(rt, request, files, &mut input, "", &mut Silent, sheets)
+}
+
+/// A program that is played by hand.
+pub(crate) fn played(
+    rt: &(impl AllocGlobal + Threads + Wait + Sync),
+    request: &Request<'_>,
+    file: &[u8],
+    input: &mut Typed<Keys<'_>>,
+    prompt: &str,
+    sheets: Sheets,
+) -> Told {
+    let files = (file, [].as_slice());
+    carried_all(rt, request, files, input, prompt, &mut Silent, sheets)
+}
+
+/// A run that tells its progress.
+pub(crate) fn run_told(
+    rt: &(impl AllocGlobal + Threads + Wait + Sync),
+    request: &Request<'_>,
+    file: &[u8],
+    progress: &mut impl Progress,
+    sheets: Sheets,
+) -> Told {
+    let mut input = input_of(&[], false);
+    let files = (file, [].as_slice());
+    carried_all(rt, request, files, &mut input, "", progress, sheets)
+}
+
+/// A request, carried out on a file and a schedule.
+fn carried_all(
+    rt: &(impl AllocGlobal + Threads + Wait + Sync),
+    request: &Request<'_>,
+    (file, schedule): (&[u8], &[u8]),
+    input: &mut Typed<Keys<'_>>,
+    prompt: &str,
+    progress: &mut impl Progress,
+    sheets: Sheets,
+) -> Told {
+    let Sheets {
+        mut out,
+        mut error,
+        page,
+    } = sheets;
+    let mut chart = Chart::new(page);
+    let outcome = carry_out(
+        rt,
+        rt.alloc(),
+        request,
         file,
         schedule,
-        &mut Silent,
+        input,
+        prompt,
+        progress,
+        &mut chart,
         &mut out,
         &mut error,
     );
@@ -81,67 +142,7 @@ pub(crate) fn performed(
         image: outcome.image,
         out,
         error,
-    }
-}
-
-/// A run whose trace goes to the file `t`, and its trace.
-pub(crate) fn traced_apart(
-    alloc: Global,
-    run: &Run<'_>,
-    file: &[u8],
-    schedule: &[u8],
-    trace: Paper,
-) -> (Told, Paper) {
-    shown_apart(alloc, run, Form::Trace, file, schedule, trace)
-}
-
-/// A run of which this is shown in the file `t`, and what is shown.
-pub(crate) fn shown_apart(
-    alloc: Global,
-    run: &Run<'_>,
-    form: Form,
-    file: &[u8],
-    schedule: &[u8],
-    paper: Paper,
-) -> (Told, Paper) {
-    let (mut out, mut error) = (Paper::endless(alloc), Paper::endless(alloc));
-    let mut chart = Chart::new(paper);
-    let status = show_apart(
-        alloc,
-        run,
-        form,
-        "t",
-        file,
-        schedule,
-        &mut Silent,
-        &mut chart,
-        &mut out,
-        &mut error,
-    );
-    let told = Told {
-        status,
-        image: None,
-        out,
-        error,
-    };
-    (told, chart.into_sink())
-}
-
-/// A run whose trace stands before the report.
-pub(crate) fn traced_before(
-    alloc: Global,
-    run: &Run<'_>,
-    file: &[u8],
-    schedule: &[u8],
-    mut out: Paper,
-) -> Told {
-    let mut error = Paper::endless(alloc);
-    let status = trace_before(alloc, run, file, schedule, &mut out, &mut error);
-    Told {
-        status,
-        image: None,
-        out,
-        error,
+        page: chart.into_sink(),
     }
 }
 
@@ -177,24 +178,5 @@ pub(crate) fn input_of(bytes: &[u8], fails: bool) -> Typed<Keys<'_>> {
     Typed {
         bytes: keys.bytes(),
         failed: 0,
-    }
-}
-
-/// A program that is played by hand.
-pub(crate) fn played(
-    alloc: Global,
-    debug: &Debug<'_>,
-    file: &[u8],
-    input: &mut Typed<Keys<'_>>,
-    prompt: &str,
-    mut out: Paper,
-    mut error: Paper,
-) -> Told {
-    let status = play(alloc, debug, file, input, prompt, &mut out, &mut error);
-    Told {
-        status,
-        image: None,
-        out,
-        error,
     }
 }

@@ -1,11 +1,13 @@
 //! Programs that are played by hand, with a file, an input or an output that fails.
-use super::calls::{debug_of, file_of, input_of, played};
+use super::calls::{Sheets, file_of, input_of, played, request_of};
 use super::checks::check_told;
 use super::paper::Paper;
-use command_line::Debug;
+use command_line::Request;
 use elf_samples::COMMITS;
 use std::process::Abort;
+use std::sync::Wait;
 use std::test::Fail;
+use std::thread::Threads;
 
 static WORDS: [&str; 5] = ["logtm", "debug", "f", "--memory", "65536"];
 
@@ -22,18 +24,16 @@ const UNWRITTEN: &str = "logtm: cannot write standard output\n";
 
 /// That a session, with so many puts of each kind, is whole or ends since a put failed; the status is its own.
 fn check_cut(
-    rt: &(impl Abort + AllocGlobal),
-    debug: &Debug<'_>,
+    rt: &(impl Abort + AllocGlobal + Threads + Wait + Sync),
+    request: &Request<'_>,
     file: &[u8],
     puts: u32,
     prompts: u32,
 ) -> u8 {
     let mut input = input_of(TYPED, false);
-    let (out, error) = (
-        Paper::new(rt.alloc(), puts),
-        Paper::new(rt.alloc(), prompts),
-    );
-    let told = played(rt.alloc(), debug, file, &mut input, "? ", out, error);
+    let mut sheets = Sheets::cut(rt.alloc(), puts);
+    sheets.error = Paper::new(rt.alloc(), prompts);
+    let told = played(rt, request, file, &mut input, "? ", sheets);
     assert!(rt; TOLD.as_bytes().starts_with(&told.out.bytes));
     if told.status == 0 {
         check_told(rt, &told, 0, TOLD, "? ? ? ? ? ");
@@ -48,25 +48,25 @@ fn check_cut(
 #[test]
 fn each_put_of_a_session_is_refused(rt: HostRuntime) -> Result<(), Fail> {
     let file = file_of(rt.alloc(), &COMMITS)?;
-    let debug = debug_of(rt.alloc(), WORDS.as_slice()).expect(&rt, "a debug");
+    let request = request_of(rt.alloc(), WORDS.as_slice()).expect(&rt, "a request");
     let mut whole = false;
     for puts in 0..60 {
-        let status = check_cut(&rt, &debug, &file, puts, 100);
+        let status = check_cut(&rt, &request, &file, puts, 100);
         // Once the puts are enough, more of them are too.
         assert!(rt; !whole || status == 0);
         whole = status == 0;
     }
     assert!(rt; whole);
     for prompts in 0..5 {
-        assert_eq!(rt; check_cut(&rt, &debug, &file, 100, prompts), 3);
+        assert_eq!(rt; check_cut(&rt, &request, &file, 100, prompts), 3);
     }
-    assert_eq!(rt; check_cut(&rt, &debug, &file, 100, 5), 0);
+    assert_eq!(rt; check_cut(&rt, &request, &file, 100, 5), 0);
     Ok(())
 }
 
 /// That a session without prompts ends with status 3 and these texts, where the input ends or fails, and so many puts are taken.
 fn check_end(
-    rt: &(impl Abort + AllocGlobal),
+    rt: &(impl Abort + AllocGlobal + Threads + Wait + Sync),
     typed: &[u8],
     fails: bool,
     puts: u32,
@@ -74,10 +74,10 @@ fn check_end(
     error: &str,
 ) {
     let file = file_of(rt.alloc(), &COMMITS).expect(rt, "memory");
-    let debug = debug_of(rt.alloc(), WORDS.as_slice()).expect(rt, "a debug");
+    let request = request_of(rt.alloc(), WORDS.as_slice()).expect(rt, "a request");
     let mut input = input_of(typed, fails);
-    let (paper, errors) = (Paper::new(rt.alloc(), puts), Paper::endless(rt.alloc()));
-    let told = played(rt.alloc(), &debug, &file, &mut input, "", paper, errors);
+    let sheets = Sheets::cut(rt.alloc(), puts);
+    let told = played(rt, &request, &file, &mut input, "", sheets);
     check_told(rt, &told, 3, out, error);
 }
 
@@ -98,11 +98,16 @@ fn what_ended_a_session_is_told(rt: HostRuntime) {
 }
 
 /// That a program is refused, and no line of the input is read.
-fn check_refused(rt: &(impl Abort + AllocGlobal), words: &[&str], file: &[u8], text: &str) {
-    let debug = debug_of(rt.alloc(), words).expect(rt, "a debug");
+fn check_refused(
+    rt: &(impl Abort + AllocGlobal + Threads + Wait + Sync),
+    words: &[&str],
+    file: &[u8],
+    text: &str,
+) {
+    let request = request_of(rt.alloc(), words).expect(rt, "a request");
     let mut input = input_of(TYPED, false);
-    let (out, error) = (Paper::endless(rt.alloc()), Paper::endless(rt.alloc()));
-    let told = played(rt.alloc(), &debug, file, &mut input, "? ", out, error);
+    let sheets = Sheets::endless(rt.alloc());
+    let told = played(rt, &request, file, &mut input, "? ", sheets);
     check_told(rt, &told, 4, "", text);
     let first = input.bytes.next().expect(rt, "a byte");
     assert_eq!(rt; first.ok(), Some(b's'));

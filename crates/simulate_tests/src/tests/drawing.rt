@@ -1,12 +1,12 @@
 //! Timelines and pictures that cannot be put.
-use super::calls::{file_of, run_of, shown_apart};
-use super::checks::check_told;
+use super::calls::{Sheets, file_of};
+use super::checks::{Viewed, check, check_each_view_put};
 use super::paper::Paper;
-use command_line::Run;
 use elf_samples::COMMITS;
-use simulate::showing::Form;
 use std::process::Abort;
+use std::sync::Wait;
 use std::test::Fail;
+use std::thread::Threads;
 
 /// Two steps of a program that begins a transaction.
 const TIMELINE: &str = r#"{"traceEvents":[
@@ -19,67 +19,53 @@ const TIMELINE: &str = r#"{"traceEvents":[
 ]}
 "#;
 
-const REPORT: &str = "hart 0: running\n";
+static TIMED: [&str; 6] = ["logtm", "run", "f", "--steps", "2", "--timeline=t.json"];
 
-const UNWRITTEN: &str = "logtm: cannot write t\n";
+static DRAWN: [&str; 6] = ["logtm", "run", "f", "--steps", "2", "--timeline=t.svg"];
 
-static TWO_STEPS: [&str; 5] = ["logtm", "run", "f", "--steps", "2"];
-
-/// That a timeline is whole if so many puts are enough: 9 for the names of the lanes, 5 for the transaction's begin, 7 for each step, and the last line;
-/// and else that it is cut, which is told.
-fn check_timeline_cut(rt: &(impl Abort + AllocGlobal), run: &Run<'_>, file: &[u8], left: u32) {
-    let paper = Paper::new(rt.alloc(), left);
-    let (told, timeline) = shown_apart(rt.alloc(), run, Form::Timeline, file, &[], paper);
-    assert!(rt; TIMELINE.as_bytes().starts_with(&timeline.bytes));
-    assert_eq!(rt; told.status == 5, left >= 29);
-    if told.status == 5 {
-        assert_eq!(rt;
-            (timeline.bytes.len(), timeline.failed),
-            (TIMELINE.len(), 0)
-        );
-        assert_eq!(rt; told.out.bytes.len(), REPORT.len());
-    } else {
-        assert_eq!(rt; timeline.failed, 1);
-        check_told(rt, &told, 3, "", UNWRITTEN);
-    }
-}
+/// The timeline takes 9 puts for the names of the lanes, 5 for the transaction's begin, 7 for each step, and one for the last line.
+const WHOLE: Viewed = Viewed {
+    puts: 29,
+    view: TIMELINE,
+    status: 5,
+    report: "hart 0: running\n",
+    unmade: "logtm: cannot write t.json\n",
+};
 
 #[test]
 fn each_put_of_the_timeline_is_refused(rt: HostRuntime) -> Result<(), Fail> {
     let file = file_of(rt.alloc(), &COMMITS)?;
-    let run = run_of(rt.alloc(), TWO_STEPS.as_slice()).expect(&rt, "a run");
-    for left in 0..35 {
-        check_timeline_cut(&rt, &run, &file, left);
-    }
+    check_each_view_put(&rt, TIMED.as_slice(), &file, 35, &WHOLE);
     Ok(())
 }
 
 /// That a run is told of whose timeline or picture, on this paper, is cut.
 fn check_cut(
-    rt: &(impl Abort + AllocGlobal),
-    run: &Run<'_>,
-    form: Form,
+    rt: &(impl Abort + AllocGlobal + Threads + Wait + Sync),
+    words: &[&str],
     file: &[u8],
-    paper: Paper,
+    page: Paper,
+    unmade: &str,
 ) {
-    let (told, shown) = shown_apart(rt.alloc(), run, form, file, &[], paper);
-    check_told(rt, &told, 3, "", UNWRITTEN);
-    assert_eq!(rt; shown.failed, 1);
+    let sheets = Sheets::with_page(rt.alloc(), page);
+    let told = check(rt, words, file, sheets, 3, "", unmade);
+    assert_eq!(rt; told.page.failed, 1);
 }
 
 #[test]
 fn a_timeline_that_is_not_written_out_is_told(rt: HostRuntime) -> Result<(), Fail> {
     let file = file_of(rt.alloc(), &COMMITS)?;
-    let run = run_of(rt.alloc(), TWO_STEPS.as_slice()).expect(&rt, "a run");
-    check_cut(&rt, &run, Form::Timeline, &file, Paper::stuck(rt.alloc()));
+    let stuck = Paper::stuck(rt.alloc());
+    check_cut(&rt, TIMED.as_slice(), &file, stuck, WHOLE.unmade);
     Ok(())
 }
 
 #[test]
 fn a_picture_that_is_cut_is_told(rt: HostRuntime) -> Result<(), Fail> {
     let file = file_of(rt.alloc(), &COMMITS)?;
-    let run = run_of(rt.alloc(), TWO_STEPS.as_slice()).expect(&rt, "a run");
-    check_cut(&rt, &run, Form::Picture, &file, Paper::new(rt.alloc(), 10));
-    check_cut(&rt, &run, Form::Picture, &file, Paper::stuck(rt.alloc()));
+    for page in [Paper::new(rt.alloc(), 10), Paper::stuck(rt.alloc())] {
+        let unmade = "logtm: cannot write t.svg\n";
+        check_cut(&rt, DRAWN.as_slice(), &file, page, unmade);
+    }
     Ok(())
 }

@@ -1,5 +1,5 @@
 //! What the words of a command line ask for, and how they are refused.
-use command_line::{Cache, Debug, Order, OrderFault, Request, Run, Target, View, parse};
+use command_line::{Cache, OrderFault, Request, Run, Setup, Show, Stats, View, Way, parse};
 use std::alloc::Global;
 use texts::number;
 
@@ -31,23 +31,46 @@ fn reads_numbers(rt: HostRuntime) {
     }
 }
 
-// The run that the words ask for.
+/// The run that the words ask for.
 fn run_of(alloc: Global, words: &'static [&'static str]) -> Option<Run<'static>> {
     match parse(alloc, words) {
-        Ok(Request::Order(Order::Run(run))) => Some(run),
+        Ok(Request::Run(run)) => Some(run),
         _ => None,
+    }
+}
+
+/// The schedule of a run by turns, if it has one, and what is shown of it.
+fn turns_of(
+    alloc: Global,
+    words: &'static [&'static str],
+) -> Option<(Option<&'static str>, Show<'static>)> {
+    match run_of(alloc, words)?.way {
+        Way::Turns { schedule, show } => Some((schedule, show)),
+        Way::Threads { .. } => None,
+    }
+}
+
+/// Whether a run has neither schedule nor threads, and no more is shown of it than its report.
+fn is_plain(run: &Run<'_>) -> bool {
+    match run.way {
+        Way::Turns {
+            schedule: None,
+            show: Show::Report,
+        } => true,
+        _ => false,
     }
 }
 
 #[test]
 fn reads_a_run(rt: HostRuntime) {
     let run = run_of(rt.alloc(), &["logtm", "run", "first.elf"]).expect(&rt, "a run");
-    assert_eq!(rt; run.file, "first.elf");
+    assert_eq!(rt; run.setup.file, "first.elf");
     assert_eq!(rt;
-        (run.harts, run.memory, run.steps),
+        (run.setup.harts, run.setup.memory, run.steps),
         (1, 1_048_576, 10_000_000)
     );
-    assert_eq!(rt; run.cache, Cache::Normal);
+    assert_eq!(rt; run.setup.cache, Cache::Normal);
+    assert!(rt; is_plain(&run));
     assert_eq!(rt; run.words.len(), 0);
 }
 
@@ -70,9 +93,13 @@ static LONG: [&str; 13] = [
 #[test]
 fn reads_options_and_words(rt: HostRuntime) {
     let run = run_of(rt.alloc(), LONG.as_slice()).expect(&rt, "a run");
-    assert_eq!(rt; run.file, "first.elf");
-    assert_eq!(rt; (run.harts, run.memory, run.steps), (2, 2_141_133, 7));
-    assert_eq!(rt; run.cache, Cache::Small);
+    assert_eq!(rt; run.setup.file, "first.elf");
+    assert_eq!(rt;
+        (run.setup.harts, run.setup.memory, run.steps),
+        (2, 2_141_133, 7)
+    );
+    assert_eq!(rt; run.setup.cache, Cache::Small);
+    assert!(rt; is_plain(&run));
     let expected = [("0x2000", 8192), ("8196", 8196), ("0", 0)];
     assert_eq!(rt; run.words.len(), expected.len());
     for (word, (text, addr)) in run.words.iter().zip(expected) {
@@ -91,15 +118,16 @@ fn reads_the_name_of_a_cache(rt: HostRuntime) {
     ];
     for (words, cache) in cases {
         let run = run_of(rt.alloc(), words).expect(&rt, "a run");
-        assert_eq!(rt; run.cache, cache);
+        assert_eq!(rt; run.setup.cache, cache);
+        assert!(rt; is_plain(&run));
     }
 }
 
-// The paths that an order to list or to assemble names.
+/// The paths that an order to list or to assemble names.
 fn paths(alloc: Global, words: &'static [&'static str]) -> Option<(&'static str, &'static str)> {
     match parse(alloc, words) {
-        Ok(Request::Order(Order::Dis { file })) => Some((file, "")),
-        Ok(Request::Order(Order::Asm { source, target })) => Some((source, target)),
+        Ok(Request::Dis { file }) => Some((file, "")),
+        Ok(Request::Asm { source, target }) => Some((source, target)),
         _ => None,
     }
 }
@@ -118,7 +146,7 @@ fn reads_the_other_subcommands(rt: HostRuntime) {
     }
 }
 
-// The text of a refusal.
+/// The text of a refusal.
 fn refusal(alloc: Global, words: &'static [&'static str]) -> Option<String> {
     match parse(alloc, words) {
         Err(OrderFault::Refused(text)) => Some(text),
@@ -128,7 +156,16 @@ fn refusal(alloc: Global, words: &'static [&'static str]) -> Option<String> {
 
 #[test]
 fn refuses_as_clap_does(rt: HostRuntime) {
-    let cases: [(&[&str], &str); 34] = [
+    let cases: [(&[&str], &str); 37] = [
+        (
+            &["logtm", "--version"],
+            "logtm 1.0.0\nProved in the logic dac8208d650f15bf\n",
+        ),
+        (
+            &["logtm", "run", "f", "--version"],
+            "unexpected argument '--version'",
+        ),
+        (&["logtm", "-V"], "unexpected argument '-V'"),
         (&["logtm", "debug"], "<FILE>"),
         (
             &["logtm", "debug", "--help"],
@@ -227,7 +264,7 @@ fn refuses_as_clap_does(rt: HostRuntime) {
     }
 }
 
-// The malformed value.
+/// The malformed value.
 fn bad_value(alloc: Global, words: &'static [&'static str]) -> Option<&'static str> {
     match parse(alloc, words) {
         Err(OrderFault::Value(value)) => Some(value),
@@ -241,10 +278,10 @@ fn a_blank_is_no_part_of_a_name(rt: HostRuntime) {
     assert_eq!(rt; bad_value(rt.alloc(), words), Some("normal "));
 }
 
-// Whether the words give an order with so many words, or memory ran out.
+/// Whether the words give an order with so many words, or memory ran out.
 fn gives(alloc: Global, words: &'static [&'static str], count: usize) -> bool {
     match parse(alloc, words) {
-        Ok(Request::Order(Order::Run(run))) => run.words.len() == count,
+        Ok(Request::Run(run)) => is_plain(&run) && run.words.len() == count,
         Ok(_request) => false,
         Err(fault) => match fault {
             OrderFault::NoMemory => true,
@@ -255,10 +292,10 @@ fn gives(alloc: Global, words: &'static [&'static str], count: usize) -> bool {
     }
 }
 
-// Whether the words ask to assemble this source into this target, or memory ran out.
+/// Whether the words ask to assemble this source into this target, or memory ran out.
 fn assembles(alloc: Global, words: &'static [&'static str], from: &str, to: &str) -> bool {
     match parse(alloc, words) {
-        Ok(Request::Order(Order::Asm { source, target })) => source == from && target == to,
+        Ok(Request::Asm { source, target }) => source == from && target == to,
         Ok(_request) => false,
         Err(fault) => match fault {
             OrderFault::NoMemory => true,
@@ -269,8 +306,8 @@ fn assembles(alloc: Global, words: &'static [&'static str], from: &str, to: &str
     }
 }
 
-// Whether the words have this bad value, or clap refuses them with this in its text, or memory ran
-// out.
+/// Whether the words have this bad value, or clap refuses them with this in its text, or memory ran
+/// out.
 fn fails(alloc: Global, words: &'static [&'static str], part: &str) -> bool {
     match parse(alloc, words) {
         Ok(_request) => false,
@@ -283,10 +320,10 @@ fn fails(alloc: Global, words: &'static [&'static str], part: &str) -> bool {
     }
 }
 
-// What the words ask to be played by hand.
-fn debug_of(alloc: Global, words: &'static [&'static str]) -> Option<Debug<'static>> {
+/// What the words ask to be played by hand.
+fn setup_of(alloc: Global, words: &'static [&'static str]) -> Option<Setup<'static>> {
     match parse(alloc, words) {
-        Ok(Request::Debug(debug)) => Some(debug),
+        Ok(Request::Debug(setup)) => Some(setup),
         _ => None,
     }
 }
@@ -329,21 +366,18 @@ fn reads_what_is_played_by_hand(rt: HostRuntime) {
         ),
     ];
     for (words, sizes, cache) in cases {
-        let debug = debug_of(rt.alloc(), words).expect(&rt, "a debug");
-        assert_eq!(rt; debug.file, "f");
-        assert_eq!(rt; (debug.harts, debug.memory), sizes);
-        assert_eq!(rt; debug.cache, cache);
+        let setup = setup_of(rt.alloc(), words).expect(&rt, "a setup");
+        assert_eq!(rt; setup.file, "f");
+        assert_eq!(rt; (setup.harts, setup.memory), sizes);
+        assert_eq!(rt; setup.cache, cache);
     }
 }
 
-// Where the trace of a run of `f` goes: to standard output as a dash.
-fn target(alloc: Global, words: &'static [&'static str]) -> Option<&'static str> {
-    match parse(alloc, words) {
-        Ok(Request::Shown(shown)) => match shown.view {
-            View::Trace(Target::Output) => Some("-"),
-            View::Trace(Target::File(path)) => Some(path),
-            View::Timeline(_) | View::Picture(_) => None,
-        },
+/// Where a view of a run goes, if it is to be shown; a trace on standard output to a dash.
+fn path_of(alloc: Global, words: &'static [&'static str], view: View) -> Option<&'static str> {
+    match turns_of(alloc, words)?.1 {
+        Show::View(shown, path) if shown == view => Some(path),
+        Show::Trace if view == View::Trace => Some("-"),
         _ => None,
     }
 }
@@ -363,18 +397,7 @@ fn reads_where_a_trace_goes(rt: HostRuntime) {
         (&["logtm", "debug", "f"], None),
     ];
     for (words, path) in cases {
-        assert_eq!(rt; target(rt.alloc(), words), path);
-    }
-}
-
-// Where the timeline of a run goes.
-fn timeline(alloc: Global, words: &'static [&'static str]) -> Option<&'static str> {
-    match parse(alloc, words) {
-        Ok(Request::Shown(shown)) => match shown.view {
-            View::Timeline(path) => Some(path),
-            View::Trace(_) | View::Picture(_) => None,
-        },
-        _ => None,
+        assert_eq!(rt; path_of(rt.alloc(), words, View::Trace), path);
     }
 }
 
@@ -402,18 +425,7 @@ fn reads_where_a_timeline_goes(rt: HostRuntime) {
         ),
     ];
     for (words, path) in cases {
-        assert_eq!(rt; timeline(rt.alloc(), words), path);
-    }
-}
-
-// Where the picture of a run goes.
-fn picture(alloc: Global, words: &'static [&'static str]) -> Option<&'static str> {
-    match parse(alloc, words) {
-        Ok(Request::Shown(shown)) => match shown.view {
-            View::Picture(path) => Some(path),
-            View::Trace(_) | View::Timeline(_) => None,
-        },
-        _ => None,
+        assert_eq!(rt; path_of(rt.alloc(), words, View::Timeline), path);
     }
 }
 
@@ -432,15 +444,52 @@ fn reads_where_a_picture_goes(rt: HostRuntime) {
         (&["logtm", "run", "f", "--trace=t.svg", "--steps=1"], None),
     ];
     for (words, path) in cases {
-        assert_eq!(rt; picture(rt.alloc(), words), path);
+        assert_eq!(rt; path_of(rt.alloc(), words, View::Picture), path);
     }
 }
 
-// Where the history of a run in threads goes: an empty path where it is not kept.
+/// The schedule of a run by turns, if it has one, and the form of its counts, if these are shown.
+fn counted(
+    alloc: Global,
+    words: &'static [&'static str],
+) -> Option<(Option<&'static str>, Option<Stats>)> {
+    let (schedule, show) = turns_of(alloc, words)?;
+    match show {
+        Show::Report => Some((schedule, None)),
+        Show::Counts(form) => Some((schedule, Some(form))),
+        Show::Trace | Show::View(..) => None,
+    }
+}
+
+#[test]
+fn reads_a_schedule_and_a_form_of_counts(rt: HostRuntime) {
+    let cases: [(&[&str], Option<(Option<&str>, Option<Stats>)>); 6] = [
+        (&["logtm", "run", "f"], Some((None, None))),
+        (
+            &["logtm", "run", "f", "--stats", "table"],
+            Some((None, Some(Stats::Table))),
+        ),
+        (
+            &["logtm", "run", "--stats=csv", "--schedule=l", "f"],
+            Some((Some("l"), Some(Stats::Csv))),
+        ),
+        (
+            &["logtm", "run", "f", "--schedule", "f"],
+            Some((Some("f"), None)),
+        ),
+        (&["logtm", "run", "f", "--trace=-"], None),
+        (&["logtm", "run", "f", "--threads"], None),
+    ];
+    for (words, expected) in cases {
+        assert_eq!(rt; counted(rt.alloc(), words), expected);
+    }
+}
+
+/// Where the history of a run in threads goes: an empty path where it is not kept.
 fn history(alloc: Global, words: &'static [&'static str]) -> Option<&'static str> {
-    match parse(alloc, words) {
-        Ok(Request::Threaded(threaded)) => Some(threaded.history.unwrap_or("")),
-        _ => None,
+    match run_of(alloc, words)?.way {
+        Way::Threads { history } => Some(history.unwrap_or("")),
+        Way::Turns { .. } => None,
     }
 }
 

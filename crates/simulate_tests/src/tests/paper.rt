@@ -1,7 +1,7 @@
 //! A sink that fails.
 ghost use Rattle.std.specs.Prelude.{None};
 
-use simulate::showing::Page;
+use simulate::Page;
 use std::alloc::Global;
 use words::{Sink, SinkFault};
 
@@ -42,7 +42,7 @@ impl Paper {
     /// One that has all the room that it needs, and takes no memory later. `None` if memory ran out.
     pub(crate) fn roomy(alloc: Global) -> Option<Self> {
         let mut paper = Paper::endless(alloc);
-        match Vec::with_capacity(alloc, 256) {
+        match Vec::with_capacity(alloc, 8192) {
             Ok(bytes) => {
                 paper.bytes = bytes;
                 Some(paper)

@@ -1,10 +1,14 @@
-//! Programs that are run, and texts that cannot be put.
-use super::calls::{file_of, order_of, performed};
-use super::checks::{Cuts, check_cut};
+//! Programs that are run or listed, what they are refused for, and texts that cannot be put.
+use super::calls::{Sheets, carried, file_of, request_of};
+use super::checks::{check_each_put, check_told};
 use super::paper::Paper;
-use command_line::Order;
+use command_line::Request;
+use elf_samples::EXIT;
+use simulate::Fault;
 use std::process::Abort;
+use std::sync::Wait;
 use std::test::Fail;
+use std::thread::Threads;
 
 /// li a7, 1; li a0, 'H'; ecall; li a0, '\n'; ecall; and then the program that exits with 0.
 pub(crate) static PRINTS: [u32; 8] = [
@@ -22,37 +26,36 @@ pub(crate) static PRINTS: [u32; 8] = [
 pub(crate) const REPORT: &str =
     "hart 0 output 2 bytes\nH\n\nhart 0: exit 0\nhart 1 output 2 bytes\nH\n\nhart 1: exit 0\nword 0x00001000 = 0x00100893\n";
 
-/// That the report is cut where so many puts are too few.
-fn check_report_cut(
-    rt: &(impl Abort + AllocGlobal),
-    order: &Order<'_>,
-    file: &[u8],
-    left: u32,
-    cuts: &mut Cuts,
-) {
-    let (out, error) = (Paper::new(rt.alloc(), left), Paper::endless(rt.alloc()));
-    let told = performed(rt.alloc(), order, file, &[], out, error);
-    assert!(rt; REPORT.as_bytes().starts_with(&told.out.bytes));
-    check_cut(rt, cuts, &told);
-}
+/// The program that exits with 0.
+pub(crate) const LISTING: &str =
+    "0x00001000: 05d00893  addi a7, zero, 93\n0x00001004: 00000513  addi a0, zero, 0\n0x00001008: 00000073  ecall\n";
 
 #[test]
 fn a_failed_put_cuts_the_report(rt: HostRuntime) -> Result<(), Fail> {
     let file = file_of(rt.alloc(), &PRINTS)?;
     let words = ["logtm", "run", "f", "--harts=2", "0x1000"];
-    let order = order_of(rt.alloc(), &words).expect(&rt, "an order");
-    let mut cuts = Cuts::new();
-    for left in 0..100 {
-        check_report_cut(&rt, &order, &file, left, &mut cuts);
-    }
-    assert_eq!(rt; cuts.whole, Some(REPORT.len()));
+    let text = check_each_put(&rt, &words, &file, 100);
+    assert_eq!(rt; text.as_slice(), REPORT.as_bytes());
+    Ok(())
+}
+
+#[test]
+fn a_failed_put_cuts_the_listing(rt: HostRuntime) -> Result<(), Fail> {
+    let file = file_of(rt.alloc(), &EXIT)?;
+    let text = check_each_put(&rt, &["logtm", "dis", "f"], &file, 100);
+    assert_eq!(rt; text.as_slice(), LISTING.as_bytes());
     Ok(())
 }
 
 /// That a fault which is told with so many puts ends a run with its own status.
-fn check_untold(rt: &(impl Abort + AllocGlobal), order: &Order<'_>, left: u32) {
-    let (out, error) = (Paper::endless(rt.alloc()), Paper::new(rt.alloc(), left));
-    let told = performed(rt.alloc(), order, &[], &[], out, error);
+fn check_untold(
+    rt: &(impl Abort + AllocGlobal + Threads + Wait + Sync),
+    request: &Request<'_>,
+    left: u32,
+) {
+    let mut sheets = Sheets::endless(rt.alloc());
+    sheets.error = Paper::new(rt.alloc(), left);
+    let told = carried(rt, request, &[], &[], sheets);
     assert_eq!(rt; (told.status, told.error.failed), (4, 1));
     assert!(rt; b"logtm: load 1 Truncated\n".starts_with(&told.error.bytes));
     assert_eq!(rt; told.out.bytes.len(), 0);
@@ -61,8 +64,72 @@ fn check_untold(rt: &(impl Abort + AllocGlobal), order: &Order<'_>, left: u32) {
 #[test]
 fn a_fault_that_is_not_told_stays(rt: HostRuntime) {
     let words = ["logtm", "run", "f"];
-    let order = order_of(rt.alloc(), &words).expect(&rt, "an order");
+    let request = request_of(rt.alloc(), &words).expect(&rt, "a request");
     for left in 0..5 {
-        check_untold(&rt, &order, left);
+        check_untold(&rt, &request, left);
     }
+}
+
+// The program is read before the words to show, and these before the schedule. Nothing is put of a run that has not begun.
+/// Checks that a run of a file by a schedule is refused: nothing is put but what is told.
+fn check_refused(
+    rt: &(impl Abort + AllocGlobal + Threads + Wait + Sync),
+    request: &Request<'_>,
+    file: &[u8],
+    schedule: &[u8],
+    status: u8,
+    text: &str,
+) {
+    let told = carried(rt, request, file, schedule, Sheets::endless(rt.alloc()));
+    check_told(rt, &told, status, "", text);
+    assert_eq!(rt; told.page.bytes.len(), 0);
+}
+
+#[test]
+fn the_first_of_three_faults_is_told(rt: HostRuntime) -> Result<(), Fail> {
+    let file = file_of(rt.alloc(), &PRINTS)?;
+    let words = ["logtm", "run", "f", "--schedule=l", "--trace=t", "3"];
+    let word = request_of(rt.alloc(), &words).expect(&rt, "a request");
+    let words = ["logtm", "run", "f", "--schedule=l", "--trace=-", "8"];
+    let none = request_of(rt.alloc(), &words).expect(&rt, "a request");
+    let truncated = "logtm: load 1 Truncated\n";
+    check_refused(&rt, &word, b"", b"nothing\n", 4, truncated);
+    check_refused(&rt, &word, &file, b"nothing\n", 2, "logtm: word 3\n");
+    let line = "logtm: schedule line 2: no step\n";
+    check_refused(&rt, &none, &file, b"#\nnothing\n", 2, line);
+    let text = "logtm: schedule is not text\n";
+    check_refused(&rt, &none, &file, b"\xff", 2, text);
+    check_refused(&rt, &none, b"", b"\xff", 4, truncated);
+    Ok(())
+}
+
+#[test]
+fn a_request_without_a_view_leaves_its_file(rt: HostRuntime) -> Result<(), Fail> {
+    let file = file_of(rt.alloc(), &EXIT)?;
+    let cases: [&[&str]; 6] = [
+        &["logtm", "run", "f"],
+        &["logtm", "run", "f", "--stats=csv"],
+        &["logtm", "run", "f", "--trace=-"],
+        &["logtm", "run", "f", "--threads"],
+        &["logtm", "debug", "f"],
+        &["logtm", "dis", "f"],
+    ];
+    for words in cases {
+        let request = request_of(rt.alloc(), words).expect(&rt, "a request");
+        let sheets = Sheets::with_page(rt.alloc(), Paper::stuck(rt.alloc()));
+        let told = carried(&rt, &request, &file, &[], sheets);
+        assert_eq!(rt;
+            (told.status, told.page.bytes.len(), told.page.failed),
+            (0, 0, 0)
+        );
+    }
+    Ok(())
+}
+
+#[test]
+fn an_exchanged_machine_is_told(rt: HostRuntime) {
+    let mut error = Paper::endless(rt.alloc());
+    assert_eq!(rt; Fault::Exchanged.tell(&mut error), 7);
+    let text = b"logtm: the threads gave back another machine\n";
+    assert_eq!(rt; error.bytes.as_slice(), text.as_slice());
 }

@@ -1,8 +1,7 @@
 //! Traces that cannot be put, in one sink with the report and apart from it.
-use super::calls::{file_of, run_of, traced_apart, traced_before};
-use super::checks::{Cuts, check_cut, check_told};
+use super::calls::{Sheets, carried, file_of, request_of};
+use super::checks::{Viewed, check, check_each_put, check_each_view_put};
 use super::paper::Paper;
-use command_line::Run;
 use elf_samples::COMMITS;
 use std::process::Abort;
 use std::test::Fail;
@@ -19,65 +18,81 @@ const TRACE: &str = "0 0x00001000 00000a0b tbegin 20\n\
 
 const REPORT: &str = "hart 0: exit 0\nword 0x00002000 = 0x00000007\n";
 
-const UNWRITTEN: &str = "logtm: cannot write t\n";
+const UNMADE: &str = "logtm: cannot write t\n";
 
-static SHOWS: [&str; 6] = ["logtm", "run", "f", "--memory", "65536", "0x2000"];
+const UNWRITTEN: &str = "logtm: cannot write standard output\n";
 
-/// That a trace is whole if so many puts are enough, one for each of its eight lines; and else that it is cut, which is told.
-fn check_trace_cut(rt: &(impl Abort + AllocGlobal), run: &Run<'_>, file: &[u8], left: u32) {
-    let paper = Paper::new(rt.alloc(), left);
-    let (told, trace) = traced_apart(rt.alloc(), run, file, &[], paper);
-    assert!(rt; TRACE.as_bytes().starts_with(&trace.bytes));
-    assert_eq!(rt; told.status == 0, left >= 8);
-    if told.status == 0 {
-        assert_eq!(rt; (trace.bytes.len(), trace.failed), (TRACE.len(), 0));
-        assert_eq!(rt; told.out.bytes.len(), REPORT.len());
-    } else {
-        assert_eq!(rt; trace.failed, 1);
-        check_told(rt, &told, 3, "", UNWRITTEN);
-    }
-}
+static APART: [&str; 7] = [
+    "logtm",
+    "run",
+    "f",
+    "--memory",
+    "65536",
+    "--trace=t",
+    "0x2000",
+];
+
+static BEFORE: [&str; 7] = [
+    "logtm",
+    "run",
+    "f",
+    "--memory",
+    "65536",
+    "--trace=-",
+    "0x2000",
+];
+
+/// The trace takes one put for each of its eight lines.
+const WHOLE: Viewed = Viewed {
+    puts: 8,
+    view: TRACE,
+    status: 0,
+    report: REPORT,
+    unmade: UNMADE,
+};
 
 #[test]
 fn each_put_of_the_trace_is_refused(rt: HostRuntime) -> Result<(), Fail> {
     let file = file_of(rt.alloc(), &COMMITS)?;
-    let run = run_of(rt.alloc(), SHOWS.as_slice()).expect(&rt, "a run");
-    for left in 0..20 {
-        check_trace_cut(&rt, &run, &file, left);
-    }
+    check_each_view_put(&rt, APART.as_slice(), &file, 20, &WHOLE);
     Ok(())
 }
 
 #[test]
 fn a_trace_that_is_not_written_out_is_told(rt: HostRuntime) -> Result<(), Fail> {
     let file = file_of(rt.alloc(), &COMMITS)?;
-    let run = run_of(rt.alloc(), SHOWS.as_slice()).expect(&rt, "a run");
-    let (told, trace) = traced_apart(rt.alloc(), &run, &file, &[], Paper::stuck(rt.alloc()));
-    check_told(&rt, &told, 3, "", UNWRITTEN);
-    assert_eq!(rt; trace.failed, 1);
+    let sheets = Sheets::with_page(rt.alloc(), Paper::stuck(rt.alloc()));
+    let told = check(&rt, APART.as_slice(), &file, sheets, 3, "", UNMADE);
+    assert_eq!(rt; told.page.bytes.as_slice(), TRACE.as_bytes());
+    assert_eq!(rt; told.page.failed, 1);
     Ok(())
 }
 
-/// That a trace and the report behind it are cut where so many puts are too few.
-fn check_both_cut(
-    rt: &(impl Abort + AllocGlobal),
-    run: &Run<'_>,
-    file: &[u8],
-    left: u32,
-    cuts: &mut Cuts,
-) {
-    let told = traced_before(rt.alloc(), run, file, &[], Paper::new(rt.alloc(), left));
-    check_cut(rt, cuts, &told);
+/// That a text is the trace, and behind it this.
+fn check_both(rt: &impl Abort, text: &[u8], behind: &str) {
+    let (trace, report) = text.split_at(TRACE.len().min(text.len()));
+    assert_eq!(rt; trace, TRACE.as_bytes());
+    assert_eq!(rt; report, behind.as_bytes());
 }
 
 #[test]
 fn each_put_of_both_is_refused(rt: HostRuntime) -> Result<(), Fail> {
     let file = file_of(rt.alloc(), &COMMITS)?;
-    let run = run_of(rt.alloc(), SHOWS.as_slice()).expect(&rt, "a run");
-    let mut cuts = Cuts::new();
-    for left in 0..120 {
-        check_both_cut(&rt, &run, &file, left, &mut cuts);
-    }
-    assert_eq!(rt; cuts.whole, Some(TRACE.len() + REPORT.len()));
+    let text = check_each_put(&rt, BEFORE.as_slice(), &file, 120);
+    check_both(&rt, &text, REPORT);
+    Ok(())
+}
+
+// Eight puts are those of the trace, and the next is the report's first: of "hart " half is taken.
+#[test]
+fn a_report_is_cut_behind_its_trace(rt: HostRuntime) -> Result<(), Fail> {
+    let file = file_of(rt.alloc(), &COMMITS)?;
+    let request = request_of(rt.alloc(), BEFORE.as_slice()).expect(&rt, "a request");
+    let mut sheets = Sheets::cut(rt.alloc(), 8);
+    sheets.page = Paper::stuck(rt.alloc());
+    let told = carried(&rt, &request, &file, &[], sheets);
+    assert_eq!(rt; (told.status, told.out.failed, told.page.failed), (3, 1, 0));
+    assert_eq!(rt; told.error.bytes.as_slice(), UNWRITTEN.as_bytes());
+    check_both(&rt, &told.out.bytes, "ha");
     Ok(())
 }

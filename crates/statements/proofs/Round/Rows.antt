@@ -1,7 +1,8 @@
 -- The text of an instruction is read back as that instruction, row by row of the instruction table.
-use Rattle.std.proofs.Common.{◌≡◌, ℕ, ◌+◌, ◌%◌, ◌^◌, ◌<◌, ◌≤◌, Bool, true, false, not, ◌&&◌, nat_le, List, [], ◌∷◌, ◌++◌, length, Option, Some, option_map, Result, Ok, codes, refl, sym, ap, ◌∙◌, arith, append-nil}
+use Rattle.std.proofs.Common.{◌≡◌, ℕ, ◌+◌, ◌%◌, ◌^◌, ◌<◌, ◌≤◌, Bool, true, false, not, ◌&&◌, nat_le, List, [], ◌∷◌, ◌++◌, length, Option, Some, option_map, Result, Ok, refl, sym, ap, ◌∙◌, arith, append-nil}
 use Rattle.std.specs.Prelude.{decimal}
 use Rattle.std.specs.List.{list_all}
+use Rattle.std.specs.Option.{option_or}
 use Rattle.std.proofs.lemmas.Bool.{and_parts, not-true, leb-true, eqb-true}
 use Rattle.std.proofs.lemmas.Option.{same_Some}
 use Rattle.operands.specs.Fields.{rd_of, rs1_of, rs2_of, aq_of, rl_of, imm_i_of, imm_s_of, imm_b_of, imm_u_of, imm_j_of, fence_bits_of}
@@ -22,12 +23,13 @@ use Rattle.table.specs.declared.instr.ImmOp.TheVariants as imm
 use Rattle.table.specs.declared.instr.ShiftOp.TheVariants as shift
 use Rattle.table.specs.declared.instr.AluOp.TheVariants as alu
 use Rattle.table.specs.declared.instr.AmoOp.TheVariants as amo
-use Rattle.table.specs.Table.{Row, fits, key, instr}
-use Rattle.table.specs.Table.Row.{LUI, AUIPC, JAL, JALR, BRANCH, LOAD, STORE, OP_IMM, SHIFT_IMM, OP, AMO, FENCE, ECALL, EBREAK, TBEGIN, TCOMMIT, TABORT}
+use Rattle.table.specs.Table.{name_of, fits, key, instr}
+use Rattle.table.specs.declared.instr.Row.{Row}
+use Rattle.table.specs.declared.instr.Row.TheVariants as row
 use Rattle.table.proofs.Keys.{masked_fits}
 use Rattle.disassembler.specs.Mnemonics.{register as register_text}
 use Rattle.disassembler.specs.Canonical.{signed, upper as upper_text, one as text_one, two as text_two, three as text_three, spelled, full_fence}
-use Rattle.disassembler.proofs.Rows.{row_name}
+use Rattle.disassembler.proofs.Rows.{named-row}
 use Rattle.disassembler.proofs.Apart.{unordered, full}
 use Rattle.disassembler.proofs.Differing.{fence-text}
 use Rattle.source_operands.specs.declared.fault.AsmFault.{AsmFault}
@@ -37,10 +39,9 @@ use Rattle.source_operands.specs.declared.place.Section.TheVariants.{Text}
 use Rattle.source_operands.specs.Cutting.{is_empty}
 use Rattle.source_operands.specs.Operands.{guarded}
 use Rattle.source_operands.specs.Places.{Labels, find}
-use Rattle.statements.specs.declared.form.Form.{Form}
 use Rattle.statements.specs.declared.form.Form.TheVariants as form
-use Rattle.statements.specs.declared.form.Alone.TheVariants as alone
-use Rattle.statements.specs.Forms.{form_named}
+use Rattle.statements.specs.Forms.{forms, form_of, form_named}
+use Rattle.statements.specs.Instructions.{by_row}
 use Rattle.statements.specs.Statements.{is_data, one, instruction_of, by_form, by_name, pc_of}
 use Rattle.statements.specs.Statements.Made.{One}
 use Rattle.statements.specs.Lines.{line_of}
@@ -51,25 +52,6 @@ use Rattle.statements.proofs.Round.Instructions.{pair, triple, op_read, op_imm_r
 
 -- Mnemonics
 
-abbrev form_of_row : Row → Form
-form_of_row LUI = form.Lui
-form_of_row AUIPC = form.Auipc
-form_of_row JAL = form.Jal
-form_of_row JALR = form.Jalr
-form_of_row (BRANCH op) = form.Branch op
-form_of_row (LOAD op) = form.Load op
-form_of_row (STORE op) = form.Store op
-form_of_row (OP_IMM op) = form.OpImm op
-form_of_row (SHIFT_IMM op) = form.ShiftImm op
-form_of_row (OP op) = form.Op op
-form_of_row (AMO op) = form.Amo op
-form_of_row FENCE = form.Alone alone.Fence
-form_of_row ECALL = form.Alone alone.Ecall
-form_of_row EBREAK = form.Alone alone.Ebreak
-form_of_row TBEGIN = form.TBegin
-form_of_row TCOMMIT = form.Alone alone.TCommit
-form_of_row TABORT = form.Alone alone.TAbort
-
 abbrev pub is_token : List ℕ → Bool
 is_token t = list_all is_solid t && (not (is_empty t) && nat_le (length t) 20)
 
@@ -79,55 +61,51 @@ token_is t h =
     let b = and_parts (not (is_empty t)) (nat_le (length t) 20) a.1 in
     record { solid = a.0; some = not-true (is_empty t) b.0; short = leb-true (length t) 20 b.1 }
 
--- what is computed of each row
-abbrev IsRead : Row → Type 0
-IsRead row = (form_named (row_name row) ≡ Some (form_of_row row)) × (is_token (row_name row) ≡ true)
-
-branch-read : (op : BranchOp) → IsRead (BRANCH op)
+named-form : (row : Row) → form_named (name_of row) ≡ Some (form.Row row)
 unfolding form_named
-branch-read branch.Eq = (refl, refl)
-branch-read op = (refl, refl)
+named-form row = ap (λ found. option_or (option_map (λ row. form.Row row) found) (form_of forms (name_of row))) (named-row row)
 
-load-read : (op : LoadOp) → IsRead (LOAD op)
-unfolding form_named
-load-read load.Byte = (refl, refl)
-load-read op = (refl, refl)
+-- each name is a token
+abbrev IsNamed : Row → Type 0
+IsNamed row = is_token (name_of row) ≡ true
 
-store-read : (op : StoreOp) → IsRead (STORE op)
-unfolding form_named
-store-read store.Byte = (refl, refl)
-store-read op = (refl, refl)
+branch-name : (op : BranchOp) → IsNamed (row.Branch op)
+branch-name branch.Eq = refl
+branch-name op = refl
 
-imm-read : (op : ImmOp) → IsRead (OP_IMM op)
-unfolding form_named
-imm-read imm.Add = (refl, refl)
-imm-read op = (refl, refl)
+load-name : (op : LoadOp) → IsNamed (row.Load op)
+load-name load.Byte = refl
+load-name op = refl
 
-shift-read : (op : ShiftOp) → IsRead (SHIFT_IMM op)
-unfolding form_named
-shift-read shift.Sll = (refl, refl)
-shift-read op = (refl, refl)
+store-name : (op : StoreOp) → IsNamed (row.Store op)
+store-name store.Byte = refl
+store-name op = refl
 
-op-read : (op : AluOp) → IsRead (OP op)
-unfolding form_named
-op-read alu.Add = (refl, refl)
-op-read op = (refl, refl)
+imm-name : (op : ImmOp) → IsNamed (row.OpImm op)
+imm-name imm.Add = refl
+imm-name op = refl
 
-amo-read : (op : AmoOp) → IsRead (AMO op)
-unfolding form_named
-amo-read amo.Add = (refl, refl)
-amo-read op = (refl, refl)
+shift-name : (op : ShiftOp) → IsNamed (row.ShiftImm op)
+shift-name shift.Sll = refl
+shift-name op = refl
 
-row-read : (row : Row) → IsRead row
-unfolding form_named
-row-read (BRANCH op) = branch-read op
-row-read (LOAD op) = load-read op
-row-read (STORE op) = store-read op
-row-read (OP_IMM op) = imm-read op
-row-read (SHIFT_IMM op) = shift-read op
-row-read (OP op) = op-read op
-row-read (AMO op) = amo-read op
-row-read row = (refl, refl)
+op-name : (op : AluOp) → IsNamed (row.Op op)
+op-name alu.Add = refl
+op-name op = refl
+
+amo-name : (op : AmoOp) → IsNamed (row.Amo op)
+amo-name amo.Add = refl
+amo-name op = refl
+
+row-name : (row : Row) → IsNamed row
+row-name (row.Branch op) = branch-name op
+row-name (row.Load op) = load-name op
+row-name (row.Store op) = store-name op
+row-name (row.OpImm op) = imm-name op
+row-name (row.ShiftImm op) = shift-name op
+row-name (row.Op op) = op-name op
+row-name (row.Amo op) = amo-name op
+row-name row = refl
 
 -- Lines
 
@@ -136,23 +114,23 @@ module _ (at : Place) (labels : Option Labels) (text : at.section ≡ Text) wher
   made_one : (r : Result Instr AsmFault) (i : Instr) → r ≡ Ok i → guarded (not (is_data at.section)) Directive (one r) ≡ Ok (One i)
   made_one r i is = ap (λ s. guarded (not (is_data s)) Directive (one r)) text ∙ ap one is
 
-  followed : (n : ℕ) (row : Row) (rest t : List ℕ) (i : Instr) → IsBody n rest → n ≤ 200 → row_name row ++ 32 ∷ rest ≡ t
-      → by_form (form_of_row row) at labels rest ≡ Ok (One i) → line_of at labels t ≡ Ok (One i)
+  followed : (n : ℕ) (row : Row) (rest t : List ℕ) (i : Instr) → IsBody n rest → n ≤ 200 → name_of row ++ 32 ∷ rest ≡ t
+      → by_form (form.Row row) at labels rest ≡ Ok (One i) → line_of at labels t ≡ Ok (One i)
   followed n row rest t i body few same makes =
-      ap (line_of at labels) (sym same) ∙ line_followed n (row_name row) rest at labels (token_is (row_name row) (row-read row).1) body few
-      ∙ ap (λ o. by_name o (row_name row) at labels rest) (row-read row).0 ∙ makes
+      ap (line_of at labels) (sym same) ∙ line_followed n (name_of row) rest at labels (token_is (name_of row) (row-name row)) body few
+      ∙ ap (λ o. by_name o (name_of row) at labels rest) (named-form row) ∙ makes
 
-  alone_line : (row : Row) (t : List ℕ) (i : Instr) → row_name row ≡ t → by_form (form_of_row row) at labels [] ≡ Ok (One i) → line_of at labels t ≡ Ok (One i)
+  alone_line : (row : Row) (t : List ℕ) (i : Instr) → name_of row ≡ t → by_form (form.Row row) at labels [] ≡ Ok (One i) → line_of at labels t ≡ Ok (One i)
   alone_line row t i same makes =
-      ap (line_of at labels) (sym same) ∙ line_alone (row_name row) at labels (token_is (row_name row) (row-read row).1)
-      ∙ ap (λ o. by_name o (row_name row) at labels []) (row-read row).0 ∙ makes
+      ap (line_of at labels) (sym same) ∙ line_alone (name_of row) at labels (token_is (name_of row) (row-name row))
+      ∙ ap (λ o. by_name o (name_of row) at labels []) (named-form row) ∙ makes
 
-  with_pair : (row : Row) (a b t : List ℕ) (i : Instr) → IsToken a → IsToken b → row_name row ++ 32 ∷ pair a b ≡ t
-      → by_form (form_of_row row) at labels (pair a b) ≡ Ok (One i) → line_of at labels t ≡ Ok (One i)
+  with_pair : (row : Row) (a b t : List ℕ) (i : Instr) → IsToken a → IsToken b → name_of row ++ 32 ∷ pair a b ≡ t
+      → by_form (form.Row row) at labels (pair a b) ≡ Ok (One i) → line_of at labels t ≡ Ok (One i)
   with_pair row a b t i ha hb same makes = followed 42 row (pair a b) t i (body_more 20 a b ha (body_one b hb)) (omega arith) same makes
 
-  with_triple : (row : Row) (a b c t : List ℕ) (i : Instr) → IsToken a → IsToken b → IsToken c → row_name row ++ 32 ∷ triple a b c ≡ t
-      → by_form (form_of_row row) at labels (triple a b c) ≡ Ok (One i) → line_of at labels t ≡ Ok (One i)
+  with_triple : (row : Row) (a b c t : List ℕ) (i : Instr) → IsToken a → IsToken b → IsToken c → name_of row ++ 32 ∷ triple a b c ≡ t
+      → by_form (form.Row row) at labels (triple a b c) ≡ Ok (One i) → line_of at labels t ≡ Ok (One i)
   with_triple row a b c t i ha hb hc same makes =
       followed 64 row (triple a b c) t i (body_more 42 a (pair b c) ha (body_more 20 b c hb (body_one c hc))) (omega arith) same makes
 
@@ -198,56 +176,56 @@ imm_j w h = record { small = omega arith; within = omega arith }
 
 pub row_is_read : (row : Row) (w : ℕ) (t : List ℕ) (at : Place) (labels : Option Labels) → w < 2 ^ 32 → fits (key row) w ≡ true → at.section ≡ Text
     → spelled (instr row w) ≡ Some t → line_of at labels t ≡ Ok (One (instr row w))
-unfolding instruction_of
-row_is_read LUI w t at labels h fit text e =
-    with_pair at labels text LUI (register_text (rd_of w)) (upper_text (imm_u_of w)) t _ (register_token _ (rd-small w)) (upper_token _) (spelled_two (codes "lui") _ _ t (same_Some _ t e))
+unfolding instruction_of by_row
+row_is_read row.Lui w t at labels h fit text e =
+    with_pair at labels text row.Lui (register_text (rd_of w)) (upper_text (imm_u_of w)) t _ (register_token _ (rd-small w)) (upper_token _) (spelled_two (name_of row.Lui) _ _ t (same_Some _ t e))
     (made_one at labels text _ _ (upper_of_read instrs.Lui (rd_of w) (imm_u_of w) (rd-small w) (omega arith) (omega arith)))
-row_is_read AUIPC w t at labels h fit text e =
-    with_pair at labels text AUIPC (register_text (rd_of w)) (upper_text (imm_u_of w)) t _ (register_token _ (rd-small w)) (upper_token _) (spelled_two (codes "auipc") _ _ t (same_Some _ t e))
+row_is_read row.Auipc w t at labels h fit text e =
+    with_pair at labels text row.Auipc (register_text (rd_of w)) (upper_text (imm_u_of w)) t _ (register_token _ (rd-small w)) (upper_token _) (spelled_two (name_of row.Auipc) _ _ t (same_Some _ t e))
     (made_one at labels text _ _ (upper_of_read instrs.Auipc (rd_of w) (imm_u_of w) (rd-small w) (omega arith) (omega arith)))
-row_is_read JAL w t at labels h fit text e =
+row_is_read row.Jal w t at labels h fit text e =
     let n = imm_j w h in
-    with_pair at labels text JAL (register_text (rd_of w)) (signed (imm_j_of w)) t _ (register_token _ (rd-small w)) (signed_token _ n.small) (spelled_two (codes "jal") _ _ t (same_Some _ t e))
+    with_pair at labels text row.Jal (register_text (rd_of w)) (signed (imm_j_of w)) t _ (register_token _ (rd-small w)) (signed_token _ n.small) (spelled_two (name_of row.Jal) _ _ t (same_Some _ t e))
     (made_one at labels text _ _ (jal_read (rd_of w) (imm_j_of w) (pc_of labels at) (option_map find labels) (rd-small w) n.small n.within (omega arith)))
-row_is_read JALR w t at labels h fit text e =
+row_is_read row.Jalr w t at labels h fit text e =
     let n = imm_i w h in
-    with_pair at labels text JALR (register_text (rd_of w)) (in_parentheses (signed (imm_i_of w)) (register_text (rs1_of w))) t _ (register_token _ (rd-small w)) (based_token _ _ n.small (rs1-small w)) (same_Some _ t e)
+    with_pair at labels text row.Jalr (register_text (rd_of w)) (in_parentheses (signed (imm_i_of w)) (register_text (rs1_of w))) t _ (register_token _ (rd-small w)) (based_token _ _ n.small (rs1-small w)) (same_Some _ t e)
     (made_one at labels text _ _ (jalr_read (rd_of w) (rs1_of w) (imm_i_of w) (rd-small w) (rs1-small w) n.small n.within))
-row_is_read (BRANCH op) w t at labels h fit text e =
+row_is_read (row.Branch op) w t at labels h fit text e =
     let n = imm_b w h in
-    with_triple at labels text (BRANCH op) (register_text (rs1_of w)) (register_text (rs2_of w)) (signed (imm_b_of w)) t _ (register_token _ (rs1-small w)) (register_token _ (rs2-small w)) (signed_token _ n.small) (spelled_three (row_name (BRANCH op)) _ _ _ t (same_Some _ t e))
+    with_triple at labels text (row.Branch op) (register_text (rs1_of w)) (register_text (rs2_of w)) (signed (imm_b_of w)) t _ (register_token _ (rs1-small w)) (register_token _ (rs2-small w)) (signed_token _ n.small) (spelled_three (name_of (row.Branch op)) _ _ _ t (same_Some _ t e))
     (made_one at labels text _ _ (branch_read op (rs1_of w) (rs2_of w) (imm_b_of w) (pc_of labels at) (option_map find labels) (rs1-small w) (rs2-small w) n.small n.within (omega arith)))
-row_is_read (LOAD op) w t at labels h fit text e =
+row_is_read (row.Load op) w t at labels h fit text e =
     let n = imm_i w h in
-    with_pair at labels text (LOAD op) (register_text (rd_of w)) (in_parentheses (signed (imm_i_of w)) (register_text (rs1_of w))) t _ (register_token _ (rd-small w)) (based_token _ _ n.small (rs1-small w)) (same_Some _ t e)
+    with_pair at labels text (row.Load op) (register_text (rd_of w)) (in_parentheses (signed (imm_i_of w)) (register_text (rs1_of w))) t _ (register_token _ (rd-small w)) (based_token _ _ n.small (rs1-small w)) (same_Some _ t e)
     (made_one at labels text _ _ (load_read op (rd_of w) (rs1_of w) (imm_i_of w) (rd-small w) (rs1-small w) n.small n.within))
-row_is_read (STORE op) w t at labels h fit text e =
+row_is_read (row.Store op) w t at labels h fit text e =
     let n = imm_s w h in
-    with_pair at labels text (STORE op) (register_text (rs2_of w)) (in_parentheses (signed (imm_s_of w)) (register_text (rs1_of w))) t _ (register_token _ (rs2-small w)) (based_token _ _ n.small (rs1-small w)) (same_Some _ t e)
+    with_pair at labels text (row.Store op) (register_text (rs2_of w)) (in_parentheses (signed (imm_s_of w)) (register_text (rs1_of w))) t _ (register_token _ (rs2-small w)) (based_token _ _ n.small (rs1-small w)) (same_Some _ t e)
     (made_one at labels text _ _ (store_read op (rs2_of w) (rs1_of w) (imm_s_of w) (rs2-small w) (rs1-small w) n.small n.within))
-row_is_read (OP_IMM op) w t at labels h fit text e =
+row_is_read (row.OpImm op) w t at labels h fit text e =
     let n = imm_i w h in
-    with_triple at labels text (OP_IMM op) (register_text (rd_of w)) (register_text (rs1_of w)) (signed (imm_i_of w)) t _ (register_token _ (rd-small w)) (register_token _ (rs1-small w)) (signed_token _ n.small) (spelled_three (row_name (OP_IMM op)) _ _ _ t (same_Some _ t e))
+    with_triple at labels text (row.OpImm op) (register_text (rd_of w)) (register_text (rs1_of w)) (signed (imm_i_of w)) t _ (register_token _ (rd-small w)) (register_token _ (rs1-small w)) (signed_token _ n.small) (spelled_three (name_of (row.OpImm op)) _ _ _ t (same_Some _ t e))
     (made_one at labels text _ _ (op_imm_read op (rd_of w) (rs1_of w) (imm_i_of w) (rd-small w) (rs1-small w) n.small n.within))
-row_is_read (SHIFT_IMM op) w t at labels h fit text e =
-    with_triple at labels text (SHIFT_IMM op) (register_text (rd_of w)) (register_text (rs1_of w)) (decimal (rs2_of w)) t _ (register_token _ (rd-small w)) (register_token _ (rs1-small w)) (decimal_token _ (omega arith)) (spelled_three (row_name (SHIFT_IMM op)) _ _ _ t (same_Some _ t e))
+row_is_read (row.ShiftImm op) w t at labels h fit text e =
+    with_triple at labels text (row.ShiftImm op) (register_text (rd_of w)) (register_text (rs1_of w)) (decimal (rs2_of w)) t _ (register_token _ (rd-small w)) (register_token _ (rs1-small w)) (decimal_token _ (omega arith)) (spelled_three (name_of (row.ShiftImm op)) _ _ _ t (same_Some _ t e))
     (made_one at labels text _ _ (shift_imm_read op (rd_of w) (rs1_of w) (rs2_of w) (rd-small w) (rs1-small w) (rs2-small w)))
-row_is_read (OP op) w t at labels h fit text e =
-    with_triple at labels text (OP op) (register_text (rd_of w)) (register_text (rs1_of w)) (register_text (rs2_of w)) t _ (register_token _ (rd-small w)) (register_token _ (rs1-small w)) (register_token _ (rs2-small w)) (spelled_three (row_name (OP op)) _ _ _ t (same_Some _ t e))
+row_is_read (row.Op op) w t at labels h fit text e =
+    with_triple at labels text (row.Op op) (register_text (rd_of w)) (register_text (rs1_of w)) (register_text (rs2_of w)) t _ (register_token _ (rd-small w)) (register_token _ (rs1-small w)) (register_token _ (rs2-small w)) (spelled_three (name_of (row.Op op)) _ _ _ t (same_Some _ t e))
     (made_one at labels text _ _ (op_read op (rd_of w) (rs1_of w) (rs2_of w) (rd-small w) (rs1-small w) (rs2-small w)))
-row_is_read (AMO op) w t at labels h fit text e =
+row_is_read (row.Amo op) w t at labels h fit text e =
     let plain = unordered (aq_of w) (rl_of w) _ t e in
-    with_triple at labels text (AMO op) (register_text (rd_of w)) (register_text (rs2_of w)) (in_parentheses [] (register_text (rs1_of w))) t _ (register_token _ (rd-small w)) (register_token _ (rs2-small w)) (indirect_token _ (rs1-small w)) plain.2
+    with_triple at labels text (row.Amo op) (register_text (rd_of w)) (register_text (rs2_of w)) (in_parentheses [] (register_text (rs1_of w))) t _ (register_token _ (rd-small w)) (register_token _ (rs2-small w)) (indirect_token _ (rs1-small w)) plain.2
     (made_one at labels text _ _ (amo_read op (rd_of w) (rs1_of w) (rs2_of w) (rd-small w) (rs1-small w) (rs2-small w)))
     ∙ ap (λ aq. Ok (One (instrs.Amo op (rd_of w) (rs1_of w) (rs2_of w) aq false))) (sym plain.0) ∙ ap (λ rl. Ok (One (instrs.Amo op (rd_of w) (rs1_of w) (rs2_of w) (aq_of w) rl))) (sym plain.1)
-row_is_read FENCE w t at labels h fit text e =
-    alone_line at labels text FENCE t (instrs.Fence full_fence) (fence-text _ _ t e) (made_one at labels text _ _ refl)
+row_is_read row.Fence w t at labels h fit text e =
+    alone_line at labels text row.Fence t (instrs.Fence full_fence) (fence-text _ _ t e) (made_one at labels text _ _ refl)
     ∙ ap (λ bits. Ok (One (instrs.Fence bits))) (sym (eqb-true (fence_bits_of w) full_fence (full _ _ t e)))
-row_is_read ECALL w t at labels h fit text e = alone_line at labels text ECALL t _ (same_Some _ t e) (made_one at labels text _ _ refl)
-row_is_read EBREAK w t at labels h fit text e = alone_line at labels text EBREAK t _ (same_Some _ t e) (made_one at labels text _ _ refl)
-row_is_read TBEGIN w t at labels h fit text e =
+row_is_read row.Ecall w t at labels h fit text e = alone_line at labels text row.Ecall t _ (same_Some _ t e) (made_one at labels text _ _ refl)
+row_is_read row.Ebreak w t at labels h fit text e = alone_line at labels text row.Ebreak t _ (same_Some _ t e) (made_one at labels text _ _ refl)
+row_is_read row.TBegin w t at labels h fit text e =
     let n = imm_b w h in
-    followed at labels text 20 TBEGIN (signed (imm_b_of w)) t _ (body_one _ (signed_token _ n.small)) (omega arith) (spelled_one (codes "tbegin") _ t (same_Some _ t e))
+    followed at labels text 20 row.TBegin (signed (imm_b_of w)) t _ (body_one _ (signed_token _ n.small)) (omega arith) (spelled_one (name_of row.TBegin) _ t (same_Some _ t e))
     (made_one at labels text _ _ (tbegin_read (imm_b_of w) (pc_of labels at) (option_map find labels) n.small n.within (offset_is_quarter w (masked_fits 0x01fff17f 0x0000000b w fit))))
-row_is_read TCOMMIT w t at labels h fit text e = alone_line at labels text TCOMMIT t _ (same_Some _ t e) (made_one at labels text _ _ refl)
-row_is_read TABORT w t at labels h fit text e = alone_line at labels text TABORT t _ (same_Some _ t e) (made_one at labels text _ _ refl)
+row_is_read row.TCommit w t at labels h fit text e = alone_line at labels text row.TCommit t _ (same_Some _ t e) (made_one at labels text _ _ refl)
+row_is_read row.TAbort w t at labels h fit text e = alone_line at labels text row.TAbort t _ (same_Some _ t e) (made_one at labels text _ _ refl)

@@ -165,7 +165,7 @@ pub(crate) fn check_gives_alone(rt: &impl Abort, hart: &mut Small, text: &Text, 
 
 pub(crate) fn check_needs_hub(rt: &impl Abort, hart: &mut Small, text: &Text) {
     let before = *hart;
-    assert_eq!(rt; hart.local(text), Local::NeedsHub);
+    assert_eq!(rt; hart.local(text), Local::NeedsMachine);
     check_same(rt, hart, &before, true);
 }
 

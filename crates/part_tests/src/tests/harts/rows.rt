@@ -54,7 +54,7 @@ pub(crate) enum Row {
     /// By itself it retires a word with this entry.
     GivesAlone(Entry),
     /// By itself it does nothing.
-    NeedsHub,
+    NeedsMachine,
     /// A register holds this word.
     Register(usize, u32),
     Pc(u32),
@@ -93,7 +93,7 @@ fn check_step(rt: &impl Abort, hart: &mut Small, text: &Text, row: &Row) {
         Row::Spills => check_spills(rt, hart, text),
         Row::RetiresAlone => check_retires_alone(rt, hart, text),
         Row::GivesAlone(entry) => check_gives_alone(rt, hart, text, *entry),
-        Row::NeedsHub => check_needs_hub(rt, hart, text),
+        Row::NeedsMachine => check_needs_hub(rt, hart, text),
         other => check_message(rt, hart, other),
     }
 }

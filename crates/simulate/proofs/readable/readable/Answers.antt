@@ -1,4 +1,4 @@
-use Rattle.std.proofs.Common.{◌++◌, ◌∷◌, [], refl, ap, sym, ◌∙◌}
+use Rattle.std.proofs.Common.{◌++◌, ◌∷◌, [], inl, refl, ap, sym, ◌∙◌}
 use Rattle.std.proofs.lemmas.Option.{slice_get-get_or}
 use Rattle.flat.specs.Reads.{is_readable}
 use Rattle.simulate.proofs.Reading.{addresses-more, readable-more}
@@ -16,4 +16,4 @@ pub returns-then-not-is_readable-clause-refused : goal.returns-then-not-is_reada
 returns-then-not-is_readable-clause-refused g c =
     let s = g.M.Engine.setting c.args.machine.now in
     let unreadable = ap (is_readable s) (sym c.new-addr.ensures) ∙ sym c.is_readable.ensures ∙ c.if-not-is_readable.true in
-    (c.loop-word.word-index, _, record { stands = slice_get-get_or c.args.words.now c.loop-word.word-index _ c.loop-word-test.true; here = unreadable; before = c.loop-word.invariant.1 }, refl)
+    inl (c.loop-word.word-index, _, record { stands = slice_get-get_or c.args.words.now c.loop-word.word-index _ c.loop-word-test.true; here = unreadable; before = c.loop-word.invariant.1 }, refl)

@@ -1,6 +1,6 @@
 use Rattle.std.proofs.Common.{◌++◌}
 use Rattle.texts.proofs.Putting.{puts-both, puts-cut, puts-same}
-use Rattle.watch.specs.Moments.{Moment}
+use Rattle.schedule.specs.Moments.{Moment}
 use Rattle.timeline.specs.Marks.{label_of}
 use Rattle.timeline.specs.Events.{slice_event, arrival_event, sent_events, events_behind}
 use Rattle.timeline.proofs.Putting.{same_events}

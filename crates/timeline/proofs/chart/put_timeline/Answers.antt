@@ -13,15 +13,15 @@ returns-in_err-put_or_halt g c =
     (cut_opening (geometry g.row.SETS g.row.WAYS) c.args.choices.now c.args.steps c.args.machine.now (g.S.Sink.state c.args.chart.now.sink) (g.S.Sink.state c.put_opening.new.sink)
     c.put_opening.result c.in_err-put_or_halt.ensures.1 (puts-same (ap opening c.harts-harts.ensures.value) c.put_opening.ensures))
 
-pub returns-in_err-follow_watched : goal.returns-in_err-follow_watched
-returns-in_err-follow_watched g c =
-    let p = err_from_is_err_and c.from_residual-in_err-follow_watched.result c.from_residual-in_err-follow_watched.ensures.1 in
+pub returns-in_err-run : goal.returns-in_err-run
+returns-in_err-run g c =
+    let p = err_from_is_err_and c.from_residual-in_err-run.result c.from_residual-in_err-run.ensures.1 in
     let begun = well_put c.put_opening.result c.in_ok-put_or_halt.ensures (puts-same (ap opening c.harts-harts.ensures.value) c.put_opening.ensures) in
     rw (p.1, p.2)
-    (halted (geometry g.row.SETS g.row.WAYS) c.args.choices.now c.args.steps c.args.machine.now c.follow_watched.new.machine (λ l. g.S.Sink.state l.sink) (λ l. l.time) (record { sink = c.put_opening.new.sink; time = 0 }) c.follow_watched.new.log refl (g.S.Sink.state c.args.chart.now.sink) begun c.in_err-follow_watched.field-0.0 c.in_err-follow_watched.ensures)
+    (halted (geometry g.row.SETS g.row.WAYS) c.args.choices.now c.args.steps c.args.machine.now c.run.new.machine (λ l. g.S.Sink.state l.sink) (λ l. l.time) (record { sink = c.put_opening.new.sink; time = 0 }) c.run.new.log refl (g.S.Sink.state c.args.chart.now.sink) begun c.in_err-run.field-0.0 c.in_err-run.ensures)
 
 pub returns : goal.returns
 returns g c =
     let begun = well_put c.put_opening.result c.in_ok-put_or_halt.ensures (puts-same (ap opening c.harts-harts.ensures.value) c.put_opening.ensures) in
-    given (geometry g.row.SETS g.row.WAYS) c.args.choices.now c.args.steps c.args.machine.now c.follow_watched.new.machine (λ l. g.S.Sink.state l.sink) (λ l. l.time) (record { sink = c.put_opening.new.sink; time = 0 }) c.follow_watched.new.log refl (g.S.Sink.state c.args.chart.now.sink) begun (g.S.Sink.state c.put_all.new.sink)
-    c.in_ok-follow_watched.ensures c.put_all.result c.put_or_halt-2.result c.put_all.ensures c.put_or_halt-2.ensures
+    given (geometry g.row.SETS g.row.WAYS) c.args.choices.now c.args.steps c.args.machine.now c.run.new.machine (λ l. g.S.Sink.state l.sink) (λ l. l.time) (record { sink = c.put_opening.new.sink; time = 0 }) c.run.new.log refl (g.S.Sink.state c.args.chart.now.sink) begun (g.S.Sink.state c.put_all.new.sink)
+    c.in_ok-run.ensures c.put_all.result c.put_or_halt-2.result c.put_all.ensures c.put_or_halt-2.ensures

@@ -1,8 +1,9 @@
 use Rattle.std.proofs.Common.{subst}
 use Rattle.machine.specs.States.{geometry}
-use Rattle.watch.specs.declared.halt.Halt.{Halt}
-use Rattle.watch.specs.Watched.{IsHalted}
-use Rattle.timeline.proofs.Noting.{Notes, Misses, cut_first, on_err, told, never_full}
+use Rattle.schedule.specs.declared.halt.Halt.{Halt}
+use Rattle.schedule.specs.Observed.{IsHalted}
+use Rattle.timeline.specs.Notes.{NotesRows, IsFull}
+use Rattle.timeline.proofs.Noting.{cut_first, on_err, told, never_full}
 use Rattle.timeline.proofs.picture.noted.Goals as goal
 
 pub returns-in_err-rows-clause-err : goal.returns-in_err-rows-clause-err
@@ -13,9 +14,9 @@ returns-in_err-rows-clause-err g c =
 pub unreachable-requires : goal.unreachable-requires
 unreachable-requires g c =
     let G = geometry g.row.SETS g.row.WAYS in
-    let cut = subst (λ (h : Halt). IsHalted (Notes G.sets) (Misses G.sets) G c.args.choices.now c.args.steps c.args.machine.now c.follow_watched.new.machine c.in_ok-rows.rows c.follow_watched.new.log h) c.in-Err-Untold.field-0-is c.in-Err-Untold.ensures in
-    never_full G c.args.choices.now c.args.steps c.args.machine.now c.follow_watched.new.machine c.in_ok-rows.rows c.follow_watched.new.log c.in_ok-rows.ensures.items c.in_ok-rows.ensures.len c.in_ok-rows.ensures.capacity cut
+    let cut = subst (λ (h : Halt). IsHalted (NotesRows G.sets) IsFull G c.args.choices.now c.args.steps c.args.machine.now c.run.new.machine c.in_ok-rows.rows c.run.new.log h) c.in-Err-Untold.field-0-is c.in-Err-Untold.ensures in
+    never_full G c.args.choices.now c.args.steps c.args.machine.now c.run.new.machine c.in_ok-rows.rows c.run.new.log c.in_ok-rows.ensures.items c.in_ok-rows.ensures.len c.in_ok-rows.ensures.capacity cut
 
 pub returns-in-Ok-clause-ok : goal.returns-in-Ok-clause-ok
 returns-in-Ok-clause-ok g c =
-    told (geometry g.row.SETS g.row.WAYS) c.args.choices.now c.args.steps c.args.machine.now c.follow_watched.new.machine c.in_ok-rows.rows c.follow_watched.new.log c.in_ok-rows.ensures.items c.in_ok-rows.ensures.len c.in-Ok.ensures
+    told (geometry g.row.SETS g.row.WAYS) c.args.choices.now c.args.steps c.args.machine.now c.run.new.machine c.in_ok-rows.rows c.run.new.log c.in_ok-rows.ensures.items c.in_ok-rows.ensures.len c.in-Ok.ensures

@@ -1,0 +1,29 @@
+use Rattle.std.proofs.Common.{codes}
+use Rattle.std.proofs.lemmas.Result.{err_from_is_err_and}
+use Rattle.clap.specs.Words.{first_of, found_of, rows_of}
+use Rattle.texts.specs.Numbers.{number_of}
+use Rattle.command_line.specs.Reading.{cache_of, malformed, stats_of, words_of}
+use Rattle.command_line.proofs.Values.{first_behind, first_of_more}
+use Rattle.command_line.proofs.reading.read_options.Goals as goal
+
+pub returns-in_err-stats : goal.returns-in_err-stats
+returns-in_err-stats c =
+    let rows = rows_of (found_of c.args.matches.now) in
+    let p = err_from_is_err_and c.from_residual-in_err-stats.result c.from_residual-in_err-stats.ensures.1 in
+    rw (p.1, p.2) (
+    first_behind number_of 1 _ (first_of (codes "harts") rows) _ _ c.in_ok-harts.ensures (
+    first_behind number_of 1048576 _ (first_of (codes "memory") rows) _ _ c.in_ok-memory.ensures (
+    first_behind number_of 10000000 _ (first_of (codes "steps") rows) _ _ c.in_ok-steps.ensures (
+    first_behind cache_of _ _ (first_of (codes "cache") rows) _ _ c.in_ok-cache.ensures (
+    first_of_more _ (malformed number_of (words_of rows)) _ c.in_err-stats.ensures)))))
+
+pub returns-in_err-words : goal.returns-in_err-words
+returns-in_err-words c =
+    let rows = rows_of (found_of c.args.matches.now) in
+    let p = err_from_is_err_and c.from_residual-in_err-words.result c.from_residual-in_err-words.ensures.1 in
+    rw (p.1, p.2) (
+    first_behind number_of 1 _ (first_of (codes "harts") rows) _ _ c.in_ok-harts.ensures (
+    first_behind number_of 1048576 _ (first_of (codes "memory") rows) _ _ c.in_ok-memory.ensures (
+    first_behind number_of 10000000 _ (first_of (codes "steps") rows) _ _ c.in_ok-steps.ensures (
+    first_behind cache_of _ _ (first_of (codes "cache") rows) _ _ c.in_ok-cache.ensures (
+    first_behind stats_of _ _ (first_of (codes "stats") rows) _ _ c.in_ok-stats.ensures c.in_err-words.ensures)))))

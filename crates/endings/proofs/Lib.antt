@@ -1,0 +1,10 @@
+pub mod Walked
+pub mod Unseen
+pub mod Lowest
+pub mod LocalWords
+pub mod InOrder
+pub mod Pasts
+pub mod Waits
+pub mod Together
+pub mod Beside
+pub mod Reached

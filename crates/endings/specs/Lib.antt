@@ -1,0 +1,3 @@
+pub mod Moves
+pub mod Walks
+pub mod Reasons

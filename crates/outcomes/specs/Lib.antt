@@ -1,0 +1,6 @@
+pub mod Overlays
+pub mod Harts
+pub mod Standings
+pub mod Turns
+pub mod Pools
+pub mod Searches

@@ -1,0 +1,15 @@
+-- Plain turns are turns.
+use Rattle.std.proofs.Common.{◌≡◌, ℕ, suc, List, [], ◌∷◌, length, Some, refl, ap}
+use Rattle.words.specs.declared.entry.Entry.{Entry}
+use Rattle.words.specs.declared.entry.Step.TheVariants.{Core}
+use Rattle.protocol.specs.Caches.{Geometry}
+use Rattle.machine.specs.States.{State}
+use Rattle.machine.specs.Turns.{TakesPlain}
+use Rattle.schedule.specs.Moments.{Moment, moment}
+use Rattle.schedule.specs.Runs.{TookTurns}
+
+pub took_plain : (g : Geometry) (v w : State) (after last : ℕ) (es : List Entry) → TakesPlain g v after es w last → (ms : List Moment) × TookTurns g v after ms w last × (length es ≡ length ms)
+took_plain g v w after last [] (same, is) = ([], (same, is), refl)
+took_plain g v w after last (e ∷ es) (i, u, quiescent, turn, plain, rest, later) =
+    let on = took_plain g u w i last es later in
+    (moment v (Core i) (Some e) u ∷ on.0, (Core i, Some e, u, turn.next, (turn.made, turn.numbers), refl, on.1), ap suc on.2)

@@ -1,0 +1,10 @@
+use Rattle.std.proofs.Common.{inr, ◌∙◌}
+use Rattle.machine.specs.States.{geometry}
+use Rattle.schedule.proofs.PlainTurns.{took_plain}
+use Rattle.schedule.proofs.unobserved.UnobservedObserverUnit.take_turns.Goals as goal
+
+pub returns-clause-turns : goal.returns-clause-turns
+returns-clause-turns g c =
+    let plain = c.plain_turns-plain.ensures.turns in
+    let took = took_plain (geometry g.row.SETS g.row.WAYS) c.args.machine.now c.plain_turns-plain.new.self c.args.last.hart c.plain_turns-plain.result.last.hart plain.0 plain.1 in
+    inr (took.0, took.1, plain.2 ∙ took.2, tt)

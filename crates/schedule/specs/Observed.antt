@@ -1,0 +1,49 @@
+-- A run of which an observer sees each moment.
+use Rattle.std.specs.Prelude.{ℕ, ◌≡◌, ◌<◌, ◌+◌, ◌⊎◌, ◌++◌, List, [], ◌∷◌, length, Option, Some, None}
+use Rattle.std.specs.List.{flat_map, FoldsTo}
+use Rattle.words.specs.declared.entry.Entry.{Entry}
+use Rattle.words.specs.declared.entry.Step.{Step}
+use Rattle.protocol.specs.Caches.{Geometry}
+use Rattle.machine.specs.States.{State}
+use Rattle.schedule.specs.declared.choices.Choice.{Choice}
+use Rattle.schedule.specs.declared.halt.Halt.{Halt}
+use Rattle.schedule.specs.declared.halt.Halt.TheVariants.{NoMemory, Untold}
+use Rattle.schedule.specs.Moments.{Moment, moment}
+use Rattle.schedule.specs.Runs.{Makes, Plays, TookTurns}
+
+-- what an observer says of two states of its log and the moments between them
+abbrev pub Sight : Type 0 → Type 1
+Sight L = L → List Moment → L → Type 0
+
+-- the moments of all groups, in order
+abbrev pub joined : List (List Moment) → List Moment
+joined groups = flat_map (λ ms. ms) groups
+
+-- a step leads from one machine to another, and its moment was seen; where there is no step, nothing changed
+abbrev pub MakesSeen : {L : Type 0} → Sight L → Geometry → State → Option Step → State → L → L → Type 0
+MakesSeen saw g v None w x y = (w ≡ v) × (y ≡ x)
+MakesSeen saw g v (Some step) w x y = (e : Option Entry) × Makes g v (Some step) e w × saw x (moment v step e w ∷ []) y
+
+-- why a step's moment was not seen: memory ran out, and nothing was changed; or the step was made, and the observer could not tell of it
+abbrev pub StopsAt : {L : Type 0} → Sight L → Geometry → State → Step → State → L → L → Halt → Type 0
+StopsAt missed g v step w x y NoMemory = (w ≡ v) × (y ≡ x)
+StopsAt missed g v step w x y Untold = (e : Option Entry) × Makes g v (Some step) e w × missed x (moment v step e w ∷ []) y
+
+-- so many turns were taken, the first after one hart's, and all were seen at once, or there was none; the last core step was then this hart's
+abbrev pub TakesSeen : {L : Type 0} → Sight L → Geometry → State → ℕ → ℕ → State → ℕ → L → L → Type 0
+TakesSeen saw g v after n w last x y =
+    ((n ≡ 0) × (w ≡ v) × (last ≡ after) × (y ≡ x)) ⊎ ((ms : List Moment) × TookTurns g v after ms w last × (n ≡ length ms) × saw x ms y)
+
+-- n steps by a schedule were made, and their moments were seen, group by group
+abbrev pub IsSeen : {L : Type 0} → Sight L → Geometry → List Choice → ℕ → State → State → L → L → Type 0
+IsSeen saw g choices n v w x y = (groups : List (List Moment)) × Plays g choices n v (joined groups) w × FoldsTo saw x groups y
+
+-- n steps were made: the moments but the last ones were seen, and of these the observer could not tell
+abbrev pub IsMissed : {L : Type 0} → Sight L → Sight L → Geometry → List Choice → ℕ → State → State → L → L → Type 0
+IsMissed {L} saw missed g choices n v w x y = (groups : List (List Moment)) × (last : List Moment) × (z : L)
+    × Plays g choices n v (joined groups ++ last) w × FoldsTo saw x groups z × missed z last y
+
+-- what was made of n steps. Memory ran out: fewer, and all were seen. The observer failed: some, and it could not tell of the last
+abbrev pub IsHalted : {L : Type 0} → Sight L → Sight L → Geometry → List Choice → ℕ → State → State → L → L → Halt → Type 0
+IsHalted saw missed g choices n v w x y NoMemory = (m : ℕ) × (m < n) × IsSeen saw g choices m v w x y
+IsHalted saw missed g choices n v w x y Untold = (m : ℕ) × (m < n) × IsMissed saw missed g choices (m + 1) v w x y

@@ -1,0 +1,57 @@
+-- The steps of a run by a schedule, moment by moment.
+use Rattle.std.specs.Prelude.{ℕ, ◌≡◌, ◌⊎◌, ◌-◌, ◌++◌, zero, suc, List, [], ◌∷◌, Option, Some, None}
+use Rattle.words.specs.declared.entry.Entry.{Entry}
+use Rattle.words.specs.declared.entry.Step.{Step}
+use Rattle.flat.specs.State.{Flat}
+use Rattle.flat.specs.Steps.{IsRun}
+use Rattle.protocol.specs.Caches.{Geometry}
+use Rattle.protocol.specs.Machine.{Steps}
+use Rattle.isolation.specs.Belongs.{Belongs}
+use Rattle.machine.specs.Mail.{NumbersOn}
+use Rattle.machine.specs.States.{State, setting_of, shown}
+use Rattle.machine.specs.Turns.{IsNextTurn, hart_after}
+use Rattle.schedule.specs.declared.choices.Choice.{Choice}
+use Rattle.schedule.specs.Moments.{Moment, moment, moments, entries_of}
+use Rattle.schedule.specs.Steps.{IsStepOf}
+
+-- a step is made, and gives this entry, or none; where there is no step, nothing changes
+abbrev pub Makes : Geometry → State → Option Step → Option Entry → State → Type 0
+Makes g v None e w = (e ≡ None) × (w ≡ v)
+Makes g v (Some step) e w = Steps g (shown g.sets v) step e (shown g.sets w) × NumbersOn v.flights v.sent w.flights w.sent
+
+-- the hart of the last core step
+abbrev pub last_after : Option Step → ℕ → ℕ
+last_after None after = after
+last_after (Some step) after = hart_after step after
+
+-- turns, the first after one hart's, with these moments; the last core step was then this hart's
+abbrev pub TookTurns : Geometry → State → ℕ → List Moment → State → ℕ → Type 0
+TookTurns g v after [] w last = (w ≡ v) × (last ≡ after)
+TookTurns g v after (m ∷ ms) w last =
+    (step : Step) × (e : Option Entry) × (u : State)
+    × IsNextTurn (shown g.sets v) v.flights after (Some step) × Makes g v (Some step) e u × (m ≡ moment v step e u) × TookTurns g u (hart_after step after) ms w last
+
+-- turns, the first after a hart's, until there is none or n were taken, with their moments
+abbrev pub TakesTurns : Geometry → ℕ → State → ℕ → List Moment → State → Type 0
+TakesTurns g zero v after ms w = (ms ≡ []) × (w ≡ v)
+TakesTurns g (suc n) v after ms w =
+    (IsNextTurn (shown g.sets v) v.flights after None × (ms ≡ []) × (w ≡ v))
+    ⊎ ((step : Step) × (e : Option Entry) × (u : State) × (rest : List Moment)
+    × IsNextTurn (shown g.sets v) v.flights after (Some step) × Makes g v (Some step) e u × TakesTurns g n u (hart_after step after) rest w × (ms ≡ moment v step e u ∷ rest))
+
+-- n steps, where the last core step was a hart's: each choice in order is made, enabled or not; and behind the last choice turns are taken
+abbrev pub Follows : Geometry → List Choice → ℕ → State → ℕ → List Moment → State → Type 0
+Follows g [] n v after ms w = TakesTurns g n v after ms w
+Follows g (c ∷ cs) zero v after ms w = (ms ≡ []) × (w ≡ v)
+Follows g (c ∷ cs) (suc n) v after ms w =
+    (step : Option Step) × (e : Option Entry) × (u : State) × (rest : List Moment)
+    × IsStepOf g.sets v after c step × Makes g v step e u × Follows g cs n u (last_after step after) rest w × (ms ≡ moments v step e u ++ rest)
+
+-- the entries carry each flat state that belongs to the one machine to a state that belongs to the other
+abbrev pub CarryAll : Geometry → State → List Entry → State → Type 0
+CarryAll g v es w = (f : Flat) → Belongs g f (shown g.sets v) → (h : Flat) × IsRun f es h × Belongs g h (shown g.sets w)
+
+-- n steps by a schedule lead from one machine to another, where the highest hart counts as that of the last core step. These are their moments, whose
+-- entries carry flat states on
+abbrev pub Plays : Geometry → List Choice → ℕ → State → List Moment → State → Type 0
+Plays g choices n v ms w = Follows g choices n v ((setting_of v).count - 1) ms w × CarryAll g v (entries_of ms) w

@@ -1,0 +1,125 @@
+-- A run by turns, from what its parts came to.
+use Rattle.std.proofs.Common.{◌≡◌, ◌++◌, ℕ, List, Ok, Err, inl, inr, refl, sym, subst, ap, ap₂, ◌∙◌}
+use Rattle.words.specs.declared.sink.SinkFault.{SinkFault}
+use Rattle.words.specs.Sinks.{SinkState, TookAll, TookPart}
+use Rattle.command_line.specs.declared.request.Run.{Run}
+use Rattle.command_line.specs.declared.request.Show.{Show}
+use Rattle.command_line.specs.declared.request.Show.TheVariants as shows
+use Rattle.command_line.specs.declared.request.Stats.{Stats}
+use Rattle.command_line.specs.declared.request.Stats.TheVariants.{Table, Csv}
+use Rattle.protocol.specs.Caches.{Geometry}
+use Rattle.flat.specs.State.{Setting}
+use Rattle.machine.specs.States.{State, setting_of}
+use Rattle.schedule.specs.declared.choices.Choice.{Choice}
+use Rattle.schedule.specs.Moments.{Moment}
+use Rattle.schedule.specs.Runs.{Plays}
+use Rattle.watch.specs.declared.counting.Tally.{Tally}
+use Rattle.watch.specs.Kinds.{count_at, number_of}
+use Rattle.watch.specs.Traffic.{figure_at, figure_of}
+use Rattle.watch.specs.Runs.{IsTally}
+use Rattle.watch.proofs.SameTexts.{same_table, same_csv, same_machine_table, same_machine_lines}
+use Rattle.texts.specs.Puts.{Puts}
+use Rattle.texts.proofs.Putting.{took-both, took-then-part, took-part-longer}
+use Rattle.simulate.specs.Begins.{IsBegunBy, IsUnbegun}
+use Rattle.simulate.specs.Conclusions.{IsConcluded, IsHalfConcluded}
+use Rattle.simulate.specs.Counted.{AreCounts, behind_report, counts_part, counts_text}
+use Rattle.simulate.specs.Given.{AreTextsOf, IsGiven, IsNotGiven}
+use Rattle.simulate.specs.Reports.{AllReadable, report_of}
+use Rattle.simulate.specs.Shown.{Texts, Sinks, TakeAll, IsShown, IsCutShort, shown_before, shown_so_far, shown_texts}
+use Rattle.simulate.specs.Statuses.{IsStatusOf}
+use Rattle.simulate.specs.declared.fault.Fault.{Fault}
+use Rattle.simulate.specs.declared.fault.Fault.TheVariants.{Unwritten}
+use Rattle.simulate.proofs.Performing.{HasEnd, end_of, its_report, same_setting, still_readable}
+
+-- a run that has not begun
+pub not_begun : (g : Geometry) (run : Run) (show : Show) (file list : List ℕ) (sinks : Sinks) (fault : Fault) → IsUnbegun run file list fault → IsNotGiven g run show file list sinks sinks fault
+not_begun g run show file list sinks fault why = inl (why, refl, refl)
+
+text_of : (form : Stats) (ms : List Moment) (t : Tally) (harts : ℕ) → IsTally ms t → counts_text form (count_at t.harts) harts (figure_at t.machine) ≡ counts_text form (λ h k. number_of h k ms) harts (figure_of ms)
+text_of Table ms t harts are =
+    ap₂ (λ (a b : List ℕ). a ++ b) (same_table (count_at t.harts) (λ h k. number_of h k ms) are.harts harts) (same_machine_table (figure_at t.machine) (figure_of ms) are.machine)
+text_of Csv ms t harts are =
+    ap₂ (λ (a b : List ℕ). a ++ b) (same_csv (count_at t.harts) (λ h k. number_of h k ms) are.harts harts) (same_machine_lines (figure_at t.machine) (figure_of ms) are.machine)
+
+-- the counts that were put are those of the moments
+put_as : (s : Show) (ms : List Moment) (t : Tally) (n m : ℕ) → AreCounts s ms t → n ≡ m → counts_part s t n ≡ behind_report s m ms
+put_as shows.Report ms t n m are same = refl
+put_as (shows.Counts form) ms t n m are same = text_of form ms t n are ∙ ap (λ (k : ℕ). counts_text form (λ h k. number_of h k ms) k (figure_of ms)) same
+put_as shows.Trace ms t n m are same = refl
+put_as (shows.View view path) ms t n m are same = refl
+
+module _ (g : Geometry) (run : Run) (show : Show) (file list : List ℕ) (v w : State) (addrs : List ℕ) (choices followed : List Choice) (begun : IsBegunBy g run file list v addrs choices) (same : followed ≡ choices) where
+  ends : (steps : ℕ) (ms : List Moment) → Plays g followed steps v ms w → HasEnd g run file list steps ms v w
+  ends steps ms plays = end_of g run file list v addrs choices followed begun same steps ms w plays
+
+  -- its steps were not all made and shown
+  pub cut_short : (before after : Sinks) (fault : Fault) → IsCutShort show g followed run.steps v w before after fault → IsNotGiven g run show file list before after fault
+  cut_short before after fault (inl (is, (m, less, (ms, plays, took)))) =
+      let e = ends m ms plays in
+      inr (inl (is, (m, less, (ms, e.end, e.comes, subst (λ (s : Setting). TakeAll before after (shown_so_far show g.sets s.count ms)) (sym e.same) took))))
+  cut_short before after fault (inr (inl (is, trace, (m, within, (ms, plays, part, kept))))) =
+      let e = ends m ms plays in
+      inr (inr (inl (is, trace, (m, within, (ms, e.end, e.comes, subst (λ (s : Setting). TookPart before.output after.output (shown_before show g.sets s.count ms).output) (sym e.same) part, kept)))))
+  cut_short before after fault (inr (inr (view, path, of, is, (m, within, (ms, plays, part, kept))))) =
+      let e = ends m ms plays in
+      inr (inr (inr (inl (view, path, of, is, (m, within, (ms, e.end, e.comes, subst (λ (s : Setting). TookPart before.file after.file (shown_before show g.sets s.count ms).file) (sym e.same) part, kept))))))
+
+  module _ (words : List ℕ) (as_given : words ≡ addrs) (counts : Tally) (before middle : Sinks) (shown_all : IsShown show g followed run.steps v w counts before middle) where
+    abbrev ms : List Moment
+    ms = shown_all.0
+
+    e : HasEnd g run file list run.steps ms v w
+    e = ends run.steps ms shown_all.1
+
+    -- the machine at the end can be asked for the words
+    pub readable_then : AllReadable (setting_of w) words
+    readable_then = still_readable g run file list v addrs choices followed begun same words as_given ms w e
+
+    abbrev pre : Texts
+    pre = shown_before show g.sets e.end.setting.count ms
+
+    taken : TakeAll before middle pre
+    taken = subst (λ (s : Setting). TakeAll before middle (shown_before show g.sets s.count ms)) (sym e.same) shown_all.3
+
+    abbrev report : List ℕ
+    report = report_of e.end words
+
+    abbrev whole : Texts
+    whole = shown_texts show g.sets e.end.setting.count ms report
+
+    texts : (status : ℕ) → IsStatusOf e.end status → AreTextsOf g run show file list whole status
+    texts status of = (ms, e.end, e.comes, (report, its_report g run file list v addrs choices followed begun same words as_given ms w e status of, refl))
+
+    -- a put of the report failed
+    pub half_reported : (output : SinkState) (fault : Fault) → IsHalfConcluded g w words middle.output output fault
+        → IsNotGiven g run show file list before (record { output = output; file = middle.file }) fault
+    half_reported output fault (unwritten, of) =
+        let half = of e.end e.belongs in
+        let behind = behind_report show e.end.setting.count ms in
+        let part = took-then-part before.output middle.output output pre.output (report ++ behind) taken.output (took-part-longer middle.output output report behind half.2) in
+        inr (inr (inr (inr (unwritten, (whole, half.0, texts half.0 half.1, part, taken.file)))))
+
+    module _ (reported : SinkState) (status : ℕ) (concluded : IsConcluded g w words middle.output reported status) (harts : ℕ) (count : harts ≡ (setting_of w).count) where
+      abbrev of_end : IsStatusOf e.end status × TookAll middle.output reported report
+      of_end = concluded.1 e.end e.belongs
+
+      behind_as : counts_part show counts harts ≡ behind_report show e.end.setting.count ms
+      behind_as = put_as show ms counts harts e.end.setting.count shown_all.2 (count ∙ ap (λ (s : Setting). s.count) (sym (same_setting g e.end w e.belongs)))
+
+      -- all was put
+      pub given : (output : SinkState) → Puts reported output (counts_part show counts harts) (Ok tt)
+          → IsGiven g run show file list before (record { output = output; file = middle.file }) status
+      given output puts =
+          let behind = behind_report show e.end.setting.count ms in
+          let last : TookAll reported output behind = subst (λ (text : List ℕ). TookAll reported output text) behind_as (record { whole = puts.whole; clean = puts.clean }) in
+          let all = took-both before.output middle.output output pre.output (report ++ behind) taken.output (took-both middle.output reported output report behind of_end.1 last) in
+          (concluded.0, (whole, texts status of_end.0, record { output = all; file = taken.file }))
+
+      -- a put of the counts failed
+      pub half_counted : (output : SinkState) (e' : SinkFault) → Puts reported output (counts_part show counts harts) (Err e')
+          → IsNotGiven g run show file list before (record { output = output; file = middle.file }) Unwritten
+      half_counted output e' puts =
+          let behind = behind_report show e.end.setting.count ms in
+          let last : TookPart reported output behind = subst (λ (text : List ℕ). TookPart reported output text) behind_as (record { part = puts.part; fault = puts.fault }) in
+          let part = took-then-part before.output middle.output output pre.output (report ++ behind) taken.output (took-then-part middle.output reported output report behind of_end.1 last) in
+          inr (inr (inr (inr (refl, (whole, status, texts status of_end.0, part, taken.file)))))

@@ -1,0 +1,23 @@
+-- What is made of a file alone: a listing, or the program of a source.
+use Rattle.std.specs.Prelude.{ℕ, ◌≡◌, ◌⊎◌, List}
+use Rattle.words.specs.Sinks.{IsUntouched, SinkState, TookAll, TookPart}
+use Rattle.loader.specs.Elf.{IsElfOf}
+use Rattle.loader.specs.Programs.{Program}
+use Rattle.loader.specs.Writing.{elf_of}
+use Rattle.disassembler.specs.Listing.{listing_of}
+use Rattle.simulate.specs.Sources.{IsElfFault, IsSourceOf}
+use Rattle.simulate.specs.declared.fault.Fault.{Fault}
+use Rattle.simulate.specs.declared.fault.Fault.TheVariants.{Unwritten}
+
+-- the listing of the program that the file with these bytes is was taken
+abbrev pub IsListed : List ℕ → SinkState → SinkState → ℕ → Type 0
+IsListed file before after status = (status ≡ 0) × ((p : Program) × IsElfOf file p × TookAll before after (listing_of p))
+
+-- or a beginning of it; or the file is no program, and nothing was taken
+abbrev pub IsUnlisted : List ℕ → SinkState → SinkState → Fault → Type 0
+IsUnlisted file before after fault = ((fault ≡ Unwritten) × ((p : Program) × IsElfOf file p × TookPart before after (listing_of p)))
+    ⊎ (IsElfFault file fault × IsUntouched before after)
+
+-- the bytes are those of an ELF file of the program that a source makes
+abbrev pub IsImageOf : List ℕ → List ℕ → Type 0
+IsImageOf source image = (p : Program) × IsSourceOf source p × (image ≡ elf_of p)

@@ -1,0 +1,256 @@
+//! A request, carried out: all but reading and writing files.
+ghost use Rattle.std.specs.Prelude.{◌≡◌, ◌<◌, ◌*◌, ◌^◌, None, IsSome, MatchResult, option_map};
+ghost use Rattle.words.specs.Sinks.{IsUntouched};
+ghost use Rattle.machine.specs.States.{geometry};
+ghost use Rattle.simulate.specs.Carried.{IsCarriedOut, IsDoneOn, IsNotDoneOn, IsMade, IsUnmade, RunGives, RunFails, asked_for, cache_of};
+ghost use Rattle.simulate.specs.Files.{IsListed, IsUnlisted, IsImageOf};
+ghost use Rattle.simulate.specs.Sources.{IsSourceFault};
+
+use crate::debugging::play_by_hand;
+use crate::fault::Fault;
+use crate::page::Page;
+use crate::source::program_of_source;
+use crate::threads::run_in_threads;
+use crate::turns::run_by_turns;
+use command_line::{Cache, Request, Run, Way};
+use debugger::LineInput;
+use disassembler::listing;
+use loader::{read_elf, write_elf};
+use machine::Progress;
+use std::alloc::Global;
+use std::sync::Wait;
+use std::thread::Threads;
+use timeline::Chart;
+use words::Sink;
+
+/// What came of a request.
+#[derive(Debug, Drop)]
+pub struct Outcome {
+    /// The status that the program ends with.
+    pub status: u8,
+    /// The bytes of the file that is to be written, where the request asks for one.
+    pub image: Option<Vec<u8>>,
+}
+
+/// Carries out a request, given the bytes of its file and those of its schedule, none where it has none. What it asks for goes into `out`, and into
+/// `chart`, whose sink stands for the file of a view or of a history; what the user is told goes into `error`. A program that is played by hand reads
+/// `input`, and asks for each line by a prompt. The progress of a run by turns is told while it goes on, unless its trace goes into `out`.
+///
+/// Memory may run out at any time, which gives 6: no clause says when.
+pub fn carry_out<R: Threads + Wait + Sync, I: LineInput, P: Progress, T: Page, O: Sink, E: Sink>(
+    rt: &R,
+    alloc: Global,
+    request: &Request<'_>,
+    file: &[u8],
+    schedule: &[u8],
+    input: &mut I,
+    prompt: &str,
+    progress: &mut P,
+    chart: &mut Chart<T>,
+    out: &mut O,
+    error: &mut E,
+) -> Outcome
+    ensures { IsCarriedOut I.gives file.now schedule.now prompt.now input.old input.new
+        (record { output = O.state out.old; file = T.state chart.old.sink }) (record { output = O.state out.new; file = T.state chart.new.sink })
+        (E.state error.old) (E.state error.new) request.now result.status (option_map (λ image. image.items) result.image) }
+{
+    let carried = try_carry_out(
+        rt, alloc, request, file, schedule, input, prompt, progress, chart, out, error,
+    );
+    match carried {
+        Ok(outcome) => outcome,
+        Err(fault) => Outcome {
+            status: fault.tell(error),
+            image: None,
+        },
+    }
+}
+
+/// Carries out a request, without telling of a fault.
+fn try_carry_out<
+    'a,
+    R: Threads + Wait + Sync,
+    I: LineInput,
+    P: Progress,
+    T: Page,
+    O: Sink,
+    E: Sink,
+>(
+    rt: &R,
+    alloc: Global,
+    request: &Request<'a>,
+    file: &'a [u8],
+    schedule: &[u8],
+    input: &mut I,
+    prompt: &str,
+    progress: &mut P,
+    chart: &mut Chart<T>,
+    out: &mut O,
+    error: &mut E,
+) -> Result<Outcome, Fault<'a>>
+    ensures { MatchResult result
+        (λ o. IsDoneOn (asked_for request.now) I.gives file.now schedule.now prompt.now input.old input.new
+        (record { output = O.state out.old; file = T.state chart.old.sink }) (record { output = O.state out.new; file = T.state chart.new.sink })
+        (E.state error.old) (E.state error.new) request.now o.status (option_map (λ image. image.items) o.image))
+        (λ fault. IsNotDoneOn (asked_for request.now) file.now schedule.now input.old input.new
+        (record { output = O.state out.old; file = T.state chart.old.sink }) (record { output = O.state out.new; file = T.state chart.new.sink })
+        request.now fault × IsUntouched (E.state error.old) (E.state error.new)) }
+{
+    match cache_of(request) {
+        Some(Cache::Small) => on_machine::<2, 1, R, I, P, T, O, E>(
+            rt, alloc, request, file, schedule, input, prompt, progress, chart, out, error,
+        ),
+        Some(Cache::Normal) => on_machine::<16, 4, R, I, P, T, O, E>(
+            rt, alloc, request, file, schedule, input, prompt, progress, chart, out, error,
+        ),
+        None => on_file(alloc, request, file, out),
+    }
+}
+
+/// The cache that a request asks for, where it is carried out on a machine.
+fn cache_of(request: &Request<'_>) -> Option<Cache>
+    ensures { result ≡ cache_of request.now }
+{
+    match request {
+        Request::Run(run) => Some(run.setup.cache),
+        Request::Debug(setup) => Some(setup.cache),
+        Request::Dis { .. } | Request::Asm { .. } => None,
+    }
+}
+
+/// Carries out a request on a machine with caches of SETS sets of WAYS ways.
+fn on_machine<
+    'a,
+    const SETS: usize,
+    const WAYS: usize,
+    R: Threads + Wait + Sync,
+    I: LineInput,
+    P: Progress,
+    T: Page,
+    O: Sink,
+    E: Sink,
+>(
+    rt: &R,
+    alloc: Global,
+    request: &Request<'a>,
+    file: &'a [u8],
+    schedule: &[u8],
+    input: &mut I,
+    prompt: &str,
+    progress: &mut P,
+    chart: &mut Chart<T>,
+    out: &mut O,
+    error: &mut E,
+) -> Result<Outcome, Fault<'a>>
+    requires sets { 0 < SETS }
+    requires ways { 0 < WAYS }
+    requires lines { SETS * WAYS < 2 ^ 32 }
+    requires machine { IsSome (cache_of request.now) }
+    ensures { MatchResult result
+        (λ o. IsDoneOn (geometry SETS WAYS) I.gives file.now schedule.now prompt.now input.old input.new
+        (record { output = O.state out.old; file = T.state chart.old.sink }) (record { output = O.state out.new; file = T.state chart.new.sink })
+        (E.state error.old) (E.state error.new) request.now o.status (option_map (λ image. image.items) o.image))
+        (λ fault. IsNotDoneOn (geometry SETS WAYS) file.now schedule.now input.old input.new
+        (record { output = O.state out.old; file = T.state chart.old.sink }) (record { output = O.state out.new; file = T.state chart.new.sink })
+        request.now fault × IsUntouched (E.state error.old) (E.state error.new)) }
+{
+    let status = match request {
+        Request::Run(run) => make_run::<SETS, WAYS, R, P, T, O>(
+            rt, alloc, run, file, schedule, progress, chart, out,
+        )?,
+        Request::Debug(setup) => play_by_hand::<SETS, WAYS, I, O, E>(
+            alloc, setup, file, input, prompt, out, error,
+        )?,
+        Request::Dis { .. } | Request::Asm { .. } => unreachable!(),
+    };
+    Ok(Outcome {
+        status,
+        image: None,
+    })
+}
+
+/// Makes a run in its way.
+fn make_run<
+    'a,
+    const SETS: usize,
+    const WAYS: usize,
+    R: Threads + Wait + Sync,
+    P: Progress,
+    T: Page,
+    O: Sink,
+>(
+    rt: &R,
+    alloc: Global,
+    run: &Run<'a>,
+    file: &'a [u8],
+    schedule: &[u8],
+    progress: &mut P,
+    chart: &mut Chart<T>,
+    out: &mut O,
+) -> Result<u8, Fault<'a>>
+    requires sets { 0 < SETS }
+    requires ways { 0 < WAYS }
+    requires lines { SETS * WAYS < 2 ^ 32 }
+    ensures { MatchResult result
+        (RunGives (geometry SETS WAYS) run.now file.now schedule.now
+        (record { output = O.state out.old; file = T.state chart.old.sink }) (record { output = O.state out.new; file = T.state chart.new.sink }) run.now.way)
+        (RunFails (geometry SETS WAYS) run.now file.now schedule.now
+        (record { output = O.state out.old; file = T.state chart.old.sink }) (record { output = O.state out.new; file = T.state chart.new.sink }) run.now.way) }
+{
+    match run.way {
+        Way::Turns { show, .. } => run_by_turns::<SETS, WAYS, P, T, O>(
+            alloc, run, show, file, schedule, progress, chart, out,
+        ),
+        Way::Threads { history } => run_in_threads::<SETS, WAYS, R, T, O>(
+            rt,
+            alloc,
+            run,
+            history,
+            file,
+            &mut chart.sink,
+            out,
+        ),
+    }
+}
+
+/// Carries out a request that needs no machine.
+fn on_file<'a, O: Sink>(
+    alloc: Global,
+    request: &Request<'_>,
+    file: &'a [u8],
+    out: &mut O,
+) -> Result<Outcome, Fault<'a>>
+    requires { cache_of request.now ≡ None }
+    ensures { MatchResult result
+        (λ o. IsMade file.now (O.state out.old) (O.state out.new) request.now o.status (option_map (λ image. image.items) o.image))
+        (IsUnmade file.now (O.state out.old) (O.state out.new) request.now) }
+{
+    match request {
+        Request::Dis { .. } => Ok(Outcome {
+            status: list(alloc, file, out)?,
+            image: None,
+        }),
+        Request::Asm { .. } => Ok(Outcome {
+            status: 0,
+            image: Some(image(alloc, file)?),
+        }),
+        Request::Run(_) | Request::Debug(_) => unreachable!(),
+    }
+}
+
+/// Puts the listing of the program in a file. It answers the status.
+fn list<'a, O: Sink>(alloc: Global, file: &[u8], out: &mut O) -> Result<u8, Fault<'a>>
+    ensures { MatchResult result (IsListed file.now (O.state out.old) (O.state out.new)) (IsUnlisted file.now (O.state out.old) (O.state out.new)) }
+{
+    let program = read_elf(alloc, file)?;
+    listing(&program, out)?;
+    Ok(0)
+}
+
+/// The bytes of the file of the program that a source makes.
+fn image(alloc: Global, source: &[u8]) -> Result<Vec<u8>, Fault<'_>>
+    ensures { MatchResult result (λ bytes. IsImageOf source.now bytes.items) (IsSourceFault source.now) }
+{
+    let program = program_of_source(alloc, source)?;
+    Ok(write_elf(alloc, &program)?)
+}
