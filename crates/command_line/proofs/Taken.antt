@@ -15,12 +15,13 @@ use Rattle.clap.specs.Faults.{entered_fault, is_simple_and_free, level_fault}
 use Rattle.clap.specs.Kinds.{Kinds}
 use Rattle.clap.specs.Simple.{argument_words, entered, label_of, names_of, rows_at}
 use Rattle.clap.specs.Walk.{answers_to, finished, nothing_held, rows_after, stop_after, walk}
-use Rattle.command_line.specs.Command.{asm, debug, dis, logtm, run}
+use Rattle.command_line.specs.Command.{asm, debug, dis, logtm, outcomes, run}
 use Rattle.command_line.specs.Reading.{AsksFor, IsComplete, IsFaultOf, IsReadingFault, IsReadingOf, IsRefusal, IsRequestOf}
 use Rattle.command_line.specs.declared.fault.OrderFault.{OrderFault}
 use Rattle.command_line.specs.declared.fault.OrderFault.TheVariants.{NoMemory, Refused, ThreadsAlone, TwoViews, LongPicture, Value}
 use Rattle.command_line.specs.declared.request.Request.{Request}
-use Rattle.command_line.proofs.Levels.{given_first, is_none, lacks_nothing, level_passes, subcommand_checked, value_there}
+use Rattle.command_line.proofs.Filled.{is_none}
+use Rattle.command_line.proofs.Levels.{both_there, given_first, lacks_nothing, level_passes, subcommand_checked, value_there}
 
 -- ---- the subcommands
 
@@ -35,32 +36,48 @@ built_run = slice_index_or (built logtm).subs 0 run
 abbrev built_debug : Shape
 built_debug = slice_index_or (built logtm).subs 1 debug
 
+abbrev built_outcomes : Shape
+built_outcomes = slice_index_or (built logtm).subs 2 outcomes
+
 abbrev built_dis : Shape
-built_dis = slice_index_or (built logtm).subs 2 dis
+built_dis = slice_index_or (built logtm).subs 3 dis
 
 abbrev built_asm : Shape
-built_asm = slice_index_or (built logtm).subs 3 asm
+built_asm = slice_index_or (built logtm).subs 4 asm
 
 run_completes : Completes built_run
 run_completes words none =
     let file = given_first _ _ (lacks_nothing built_run words refl none) in
-    inl (refl, value_there (codes "file") built_run words refl file.0)
+    inl (refl, value_there (codes "file") built_run words refl refl none file.0)
 
 debug_completes : Completes built_debug
 debug_completes words none =
     let file = given_first _ _ (lacks_nothing built_debug words refl none) in
-    inr (inl (refl, value_there (codes "file") built_debug words refl file.0))
+    inr (inl (refl, value_there (codes "file") built_debug words refl refl none file.0))
+
+outcomes_completes : Completes built_outcomes
+outcomes_completes words none =
+    let file = given_first _ _ (lacks_nothing built_outcomes words refl none) in
+    inr (inr (inl (
+      refl,
+      value_there (codes "file") built_outcomes words refl refl none file.0,
+      both_there (codes "witness") built_outcomes words refl refl none,
+    )))
 
 dis_completes : Completes built_dis
 dis_completes words none =
     let file = given_first _ _ (lacks_nothing built_dis words refl none) in
-    inr (inr (inl (refl, value_there (codes "file") built_dis words refl file.0)))
+    inr (inr (inr (inl (refl, value_there (codes "file") built_dis words refl refl none file.0))))
 
 asm_completes : Completes built_asm
 asm_completes words none =
     let source = given_first _ _ (lacks_nothing built_asm words refl none) in
     let target = given_first _ _ source.1 in
-    inr (inr (inr (refl, value_there (codes "source") built_asm words refl source.0, value_there (codes "target") built_asm words refl target.0)))
+    inr (inr (inr (inr (
+      refl,
+      value_there (codes "source") built_asm words refl refl none source.0,
+      value_there (codes "target") built_asm words refl refl none target.0,
+    ))))
 
 abbrev EachCompletes : List Shape → Type 0
 EachCompletes [] = Unit {0}
@@ -112,13 +129,13 @@ taken words none =
     let names = names_of (built logtm) in
     let stop = stop_after top.rules names after in
     let passes = level_passes top names after (is_some (entered (built logtm) stop)) (entered_fault (built logtm) stop) none in
-    let there = subcommand_is_there (is_some (entered (built logtm) stop)) (subcommand_checked top (finished top.rules (walk top.rules names nothing_held after).held) _ passes.1) in
-    let inner = entered_here top (built logtm).subs stop (run_completes, (debug_completes, (dis_completes, (asm_completes, tt)))) there in (
+    let there = subcommand_is_there (is_some (entered (built logtm) stop)) (subcommand_checked top (finished top.rules (walk top.rules names nothing_held after).held) _ passes.checks) in
+    let inner = entered_here top (built logtm).subs stop (run_completes, (debug_completes, (outcomes_completes, (dis_completes, (asm_completes, tt))))) there in (
       inner.shape.name,
       rows_after inner.shape.rules [] inner.words,
       record {
         asks = (none, inner.rows);
-        complete = inner.completes inner.words (sym inner.fault ∙ passes.0);
+        complete = inner.completes inner.words (sym inner.fault ∙ passes.inner);
       },
     )
 
@@ -191,7 +208,8 @@ pub read_words : (words : List Text) (name : Text) (rows : List Row) (r : Result
     → MatchResult r (IsReadingOf name rows) (IsReadingFault name rows) → MatchResult r (IsRequestOf words) (IsFaultOf words)
 read_words words name rows (Ok request) asks read = (name, rows, asks, read)
 read_words words name rows (Err (Refused text)) asks bad =
-    ⊎_elim (λ run. ⊎_elim (λ first. absurd first) (λ options. ⊎_elim (λ show. absurd show) (λ threads. absurd threads.2) options.2) run.1) (λ debug. absurd debug.1) bad
+    ⊎_elim (λ run. ⊎_elim (λ first. absurd first) (λ options. ⊎_elim (λ show. absurd show) (λ threads. absurd threads.2) options.2) run.1)
+    (⊎_elim (λ debug. absurd debug.1) (λ outcomes. absurd outcomes.1)) bad
 read_words words name rows (Err (Value value)) asks bad = (name, rows, asks, bad)
 read_words words name rows (Err TwoViews) asks bad = (name, rows, asks, bad)
 read_words words name rows (Err LongPicture) asks bad = (name, rows, asks, bad)

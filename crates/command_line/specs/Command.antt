@@ -23,6 +23,10 @@ flag_named name = record (new_rule name) { long = Some name; action = Some SetTr
 abbrev pub words : Rule
 words = record (new_rule (codes "words")) { action = Some Append; value_names = 1 }
 
+-- the option that has a run to an outcome written: with the outcome's number, and the path of a file
+abbrev pub witness : Rule
+witness = record (new_rule (codes "witness")) { long = Some (codes "witness"); value_names = 2 }
+
 -- the option that asks for the program's version
 abbrev pub version : Rule
 version = record (new_rule (codes "version")) { long = Some (codes "version"); action = Some Version }
@@ -41,7 +45,7 @@ unfoldable pub with_rules : List Rule → App → App
 with_rules [] app = app
 with_rules (rule ∷ rules) app = with_rules rules (with_rule app rule)
 
--- the program and the machine that runs it, for `run` and `debug`
+-- the program and the machine that runs it, for `run`, `debug` and `outcomes`
 abbrev pub machine : List Rule
 machine = required_named (codes "file") ∷ option_named (codes "harts") ∷ option_named (codes "memory") ∷ []
 
@@ -55,6 +59,10 @@ views = option_named (codes "trace") ∷ option_named (codes "timeline") ∷ opt
 abbrev pub threads_and_words : List Rule
 threads_and_words = flag_named (codes "threads") ∷ option_named (codes "history") ∷ words ∷ []
 
+-- of `outcomes`: how far it goes, and the rest
+abbrev pub search_and_words : List Rule
+search_and_words = option_named (codes "states") ∷ witness ∷ words ∷ []
+
 -- the subcommand `run`
 abbrev pub run : Shape
 run = record (new_shape (codes "run")) {
@@ -67,6 +75,13 @@ run = record (new_shape (codes "run")) {
 abbrev pub debug : Shape
 debug = record (new_shape (codes "debug")) {
   rules = required_named (codes "file") ∷ option_named (codes "harts") ∷ option_named (codes "memory") ∷ option_named (codes "cache") ∷ [];
+}
+
+-- the subcommand `outcomes`
+abbrev pub outcomes : Shape
+outcomes = record (new_shape (codes "outcomes")) {
+  rules = required_named (codes "file") ∷ option_named (codes "harts") ∷ option_named (codes "memory")
+      ∷ option_named (codes "states") ∷ witness ∷ words ∷ [];
 }
 
 -- the subcommand `dis`
@@ -90,5 +105,5 @@ logtm = record {
     disable_help_subcommand = true;
     subcommand_required = true;
   };
-  subs = run ∷ debug ∷ dis ∷ asm ∷ [];
+  subs = run ∷ debug ∷ outcomes ∷ dis ∷ asm ∷ [];
 }

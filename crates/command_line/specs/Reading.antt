@@ -1,5 +1,5 @@
 -- What the values that clap found stand for.
-use Rattle.std.specs.Prelude.{◌≡◌, ◌≢◌, ◌⊎◌, Bool, false, IsSome, ⊤, List, [], ◌++◌, Option, Some, None, codes, filter, if◌then◌else◌, is_some, map, not, slice_get, unwrap_or}
+use Rattle.std.specs.Prelude.{◌≡◌, ◌≢◌, ◌⊎◌, ◌||◌, Bool, true, false, IfSome, IsSome, ⊤, List, [], ◌∷◌, ◌++◌, Option, Some, None, codes, drop, filter, if◌then◌else◌, is_some, length, map, not, slice_get, unwrap_or}
 use Rattle.std.specs.Borrow.{Bor}
 use Rattle.std.specs.Option.{option_map, option_map_or, option_to_list}
 use Rattle.std.specs.Str.{bytes_eq}
@@ -12,10 +12,12 @@ use Rattle.command_line.specs.declared.options.Options.{Options}
 use Rattle.command_line.specs.declared.request.Cache.{Cache}
 use Rattle.command_line.specs.declared.request.Cache.TheVariants.{Small, Normal}
 use Rattle.command_line.specs.declared.request.Request.{Request}
-use Rattle.command_line.specs.declared.request.Request.TheVariants.{Run, Debug, Dis, Asm}
+use Rattle.command_line.specs.declared.request.Request.TheVariants.{Run, Debug, Outcomes, Dis, Asm}
+use Rattle.command_line.specs.declared.request.Search.{Search}
 use Rattle.command_line.specs.declared.request.Setup.{Setup}
 use Rattle.command_line.specs.declared.request.Stats.{Stats}
 use Rattle.command_line.specs.declared.request.Stats.TheVariants.{Table, Csv}
+use Rattle.command_line.specs.declared.request.Witness.{Witness}
 use Rattle.command_line.specs.declared.request.Word.{Word}
 use Rattle.command_line.specs.Runs.{IsRunFault, IsRunOf}
 
@@ -66,6 +68,23 @@ malformed_of_setup rows = malformed number_of (given (codes "harts") rows)
     ++ (malformed number_of (given (codes "memory") rows)
     ++ malformed cache_of (given (codes "cache") rows))
 
+-- what --witness is given behind the outcome's number: the path
+abbrev pub witness_paths : List Row → List Text
+witness_paths rows = drop 1 (unwrap_or (all_of (codes "witness") rows) [])
+
+-- whether a run to an outcome can be written to this path, which is neither a dash nor the program's
+abbrev pub can_write : List Row → Text → Bool
+can_write rows path = not (bytes_eq path (codes "-") || option_map_or (λ file. bytes_eq path file) (first_of (codes "file") rows) false)
+
+-- the malformed values of a search, in the order in which its values are read: last a path that can't be written to
+abbrev pub malformed_of_search : List Row → List Text
+malformed_of_search rows = malformed number_of (given (codes "harts") rows)
+    ++ (malformed number_of (given (codes "memory") rows)
+    ++ (malformed number_of (given (codes "states") rows)
+    ++ (malformed number_of (given (codes "witness") rows)
+    ++ (malformed number_of (words_of rows)
+    ++ filter (λ path. not (can_write rows path)) (witness_paths rows)))))
+
 -- the words are these texts with their numbers
 abbrev pub AreWordsOf : List Text → List Word → Type 0
 AreWordsOf texts words = (map (λ w. w.text.now) words ≡ texts)
@@ -96,10 +115,28 @@ AreOptionsOf rows options =
     × IsPathOf (codes "history") rows options.history
     × AreWordsOf (words_of rows) options.words.items
 
+-- the run that is to be written is the one that --witness asks for: to the outcome of its first value, at the path of its second
+abbrev pub IsWitnessOf : List Row → Option Witness → Type 0
+IsWitnessOf rows None = all_of (codes "witness") rows ≡ None
+IsWitnessOf rows (Some witness) = (number : Text) × (all_of (codes "witness") rows ≡ Some (number ∷ witness.path.now ∷ []))
+    × (number_of number ≡ Some witness.outcome)
+
+-- the search is what the values stand for
+abbrev pub IsSearchOf : List Row → Search → Type 0
+IsSearchOf rows search =
+    (first_of (codes "file") rows ≡ Some search.file.now)
+    × (read_or number_of 1 (codes "harts") rows ≡ Some search.harts)
+    × (read_or number_of 1048576 (codes "memory") rows ≡ Some search.memory)
+    × (read_or number_of 1000000 (codes "states") rows ≡ Some search.states)
+    × IsWitnessOf rows search.witness
+    × IfSome search.witness (λ witness. can_write rows witness.path.now ≡ true)
+    × AreWordsOf (words_of rows) search.words.items
+
 -- the request is what the values of the subcommand of this name stand for
 abbrev pub IsReadingOf : Text → List Row → Request → Type 0
 IsReadingOf name rows (Run run) = (name ≡ codes "run") × ((options : Options) × AreOptionsOf rows options × IsRunOf options run)
 IsReadingOf name rows (Debug setup) = (name ≡ codes "debug") × IsSetupOf rows setup
+IsReadingOf name rows (Outcomes search) = (name ≡ codes "outcomes") × IsSearchOf rows search
 IsReadingOf name rows (Dis file) = (name ≡ codes "dis") × (first_of (codes "file") rows ≡ Some file.now)
 IsReadingOf name rows (Asm source target) = (name ≡ codes "asm")
     × (first_of (codes "source") rows ≡ Some source.now)
@@ -119,18 +156,24 @@ IsOptionsFault rows fault = NamesFirstOf (malformed_of_run rows) fault
 -- why the values of the subcommand of this name do
 abbrev pub IsReadingFault : Text → List Row → OrderFault → Type 0
 IsReadingFault name rows fault = ((name ≡ codes "run") × IsOptionsFault rows fault)
-    ⊎ ((name ≡ codes "debug") × NamesFirstOf (malformed_of_setup rows) fault)
+    ⊎ (((name ≡ codes "debug") × NamesFirstOf (malformed_of_setup rows) fault)
+    ⊎ ((name ≡ codes "outcomes") × NamesFirstOf (malformed_of_search rows) fault))
 
 -- a value was given for the argument
 abbrev pub HasValue : Text → List Row → Type 0
 HasValue id rows = IsSome (first_of id rows)
 
--- this is the name of a subcommand, and each argument that it has to have was given a value
+-- the option was not given, or two values were
+abbrev pub HasBoth : Text → List Row → Type 0
+HasBoth id rows = IfSome (all_of id rows) (λ values. length values ≡ 2)
+
+-- this is the name of a subcommand, each argument that it has to have was given a value, and an option with two was given both
 abbrev pub IsComplete : Text → List Row → Type 0
 IsComplete name rows = ((name ≡ codes "run") × HasValue (codes "file") rows)
     ⊎ (((name ≡ codes "debug") × HasValue (codes "file") rows)
+    ⊎ (((name ≡ codes "outcomes") × HasValue (codes "file") rows × HasBoth (codes "witness") rows)
     ⊎ (((name ≡ codes "dis") × HasValue (codes "file") rows)
-    ⊎ ((name ≡ codes "asm") × HasValue (codes "source") rows × HasValue (codes "target") rows)))
+    ⊎ ((name ≡ codes "asm") × HasValue (codes "source") rows × HasValue (codes "target") rows))))
 
 -- clap takes the words, and finds this subcommand with these values
 abbrev pub AsksFor : Text → List Text → List Row → Type 0

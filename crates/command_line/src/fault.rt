@@ -10,8 +10,8 @@ pub enum OrderFault<'a> {
     /// texts, so none says which text this is.
     Refused(String),
     /// The first malformed value, as the user wrote it: no number below 2^32, for `--cache` and `--stats` the
-    /// name of no cache and no form, or for `--trace`, `--timeline` and `--history` a path where nothing can be
-    /// written, and for `--timeline` too one that ends neither in `.json` nor in `.svg`.
+    /// name of no cache and no form, or for `--trace`, `--timeline`, `--history` and `--witness` a path where nothing
+    /// can be written, and for `--timeline` too one that ends neither in `.json` nor in `.svg`.
     Value(&'a str),
     /// More than one is asked for of a trace, a timeline and counts.
     TwoViews,

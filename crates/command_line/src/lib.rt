@@ -5,6 +5,7 @@
 //! - `logtm run FILE [--harts N] [--memory S] [--steps N] [--cache small|normal] [--schedule LIST] [--trace FILE | --timeline FILE | --stats table|csv] [WORD..]`
 //! - `logtm run FILE [--harts N] [--memory S] [--steps N] [--cache small|normal] --threads [--history FILE] [WORD..]`
 //! - `logtm debug FILE [--harts N] [--memory S] [--cache small|normal]`
+//! - `logtm outcomes FILE [--harts N] [--memory S] [--states N] [--witness K LIST] [WORD..]`
 //! - `logtm dis FILE`
 //! - `logtm asm IN OUT`
 //!
@@ -21,4 +22,6 @@ mod request;
 
 pub use fault::OrderFault;
 pub use parser::parse;
-pub use request::{Cache, MOST_DRAWN, Request, Run, Setup, Show, Stats, View, Way, Word};
+pub use request::{
+    Cache, MOST_DRAWN, Request, Run, Search, Setup, Show, Stats, View, Way, Witness, Word,
+};

@@ -22,6 +22,9 @@ const MEMORY_HELP: &str = "How many bytes of memory there are, 1048576 if not gi
 
 const CACHE_HELP: &str = "The cache of each hart, small or normal, normal if not given";
 
+// What help calls the values of `--witness`.
+const WITNESS_VALUES: &[&str] = &["K", "LIST"];
+
 // What stands behind the program's name for `--version`.
 const VERSION: &str = "1.0.0\nProved in the logic dac8208d650f15bf";
 
@@ -34,7 +37,11 @@ const VERSION: &str = "1.0.0\nProved in the logic dac8208d650f15bf";
 /// is refused; then the value of `--trace` or `--timeline` is malformed where it is the path of a file that the run reads, and that of
 /// `--timeline` where it ends neither in `.json` nor in `.svg`; and a picture is refused where `--steps` is above what it shows. Then
 /// `--threads` is refused beside `--schedule`, `--trace`, `--timeline` and `--stats`, and `--history` without it; and last the value of
-/// `--history` is malformed where it is a dash or the path of a file that the run reads. Memory may run out at any time: no clause says when.
+/// `--history` is malformed where it is a dash or the path of a file that the run reads.
+///
+/// Of `outcomes` the values of `--harts`, `--memory` and `--states`, the number of `--witness` and then the WORDs are read, in this order,
+/// up to the first malformed one; and last the path of `--witness` is malformed where it is a dash or the path of the program's file.
+/// Memory may run out at any time: no clause says when.
 pub fn parse<'a>(alloc: Global, words: &'a [&'a str]) -> Result<Request<'a>, OrderFault<'a>>
     ensures { MatchResult result (IsRequestOf (map (λ w. w.now) words.entry.now))
         (IsFaultOf (map (λ w. w.now) words.entry.now)) }
@@ -60,6 +67,7 @@ fn command<'a>(alloc: Global) -> Result<Command<'a>, AllocError>
     let command = with_argument(Ok(command), version_flag(alloc));
     let command = with_subcommand(command, run_command(alloc));
     let command = with_subcommand(command, debug_command(alloc));
+    let command = with_subcommand(command, outcomes_command(alloc));
     let command = with_subcommand(command, dis_command(alloc));
     with_subcommand(command, asm_command(alloc))
 }
@@ -198,6 +206,27 @@ fn with_threads<'a>(
     with_argument(command, words(alloc))
 }
 
+fn outcomes_command<'a>(alloc: Global) -> Result<Command<'a>, AllocError>
+    ensures { Makes result (record { top = spec.outcomes; subs = [] }) }
+{
+    let about = "Searches all ends of a program";
+    let command = with_machine(alloc, Ok(bare(alloc, "outcomes", about)));
+    with_search(alloc, command)
+}
+
+/// The command with how far a search goes, with the run that it writes, and with the words of memory that it shows of each end.
+fn with_search<'a>(
+    alloc: Global,
+    command: Result<Command<'a>, AllocError>,
+) -> Result<Command<'a>, AllocError>
+    ensures { (app : App) → Makes command.entry app → Makes result (with_rules spec.search_and_words app) }
+{
+    let states = "How many states are met at most, 1000000 if not given";
+    let command = with_option(alloc, command, "states", "N", states);
+    let command = with_argument(command, witness(alloc));
+    with_argument(command, words(alloc))
+}
+
 fn dis_command<'a>(alloc: Global) -> Result<Command<'a>, AllocError>
     ensures { Makes result (record { top = spec.dis; subs = [] }) }
 {
@@ -260,6 +289,16 @@ fn version_flag<'a>(alloc: Global) -> Arg<'a>
         .long("version")
         .action(ArgAction::Version)
         .hide(true)
+}
+
+fn witness<'a>(alloc: Global) -> Arg<'a>
+    ensures rule { rule_of result ≡ spec.witness }
+    ensures local { result.global ≡ false }
+{
+    Arg::new(alloc, "witness")
+        .long("witness")
+        .value_names(WITNESS_VALUES)
+        .help("An outcome, and a file for a run to it")
 }
 
 fn words<'a>(alloc: Global) -> Arg<'a>

@@ -1,23 +1,26 @@
 ghost use Rattle.std.specs.Prelude.{◌≡◌, MatchResult, None, Some, codes, map, option_map};
 ghost use Rattle.clap.specs.Words.{first_of, found_of, rows_of};
 ghost use Rattle.texts.specs.Numbers.{number_of};
-ghost use Rattle.command_line.specs.Reading.{AreOptionsOf, AreWordsOf, HasValue, IsComplete, IsReadingFault, IsReadingOf, IsSetupOf, NamesFirstOf};
-ghost use Rattle.command_line.specs.Reading.{cache_of, given, is_given, malformed, malformed_of_run, malformed_of_setup, read_or, stats_of, words_of};
+ghost use Rattle.command_line.specs.Reading.{AreOptionsOf, AreWordsOf, HasBoth, HasValue, IsComplete, IsReadingFault, IsReadingOf, IsSearchOf, IsSetupOf};
+ghost use Rattle.command_line.specs.Reading.{IsWitnessOf, NamesFirstOf, cache_of, can_write, given, is_given, malformed, malformed_of_run, malformed_of_search};
+ghost use Rattle.command_line.specs.Reading.{malformed_of_setup, read_or, stats_of, words_of};
 
 use crate::fault::OrderFault;
 use crate::options::Options;
-use crate::request::{Cache, Request, Setup, Stats, Word};
+use crate::request::{Cache, Request, Search, Setup, Stats, Witness, Word};
 use clap::ArgMatches;
 use std::alloc::Global;
 use texts::number;
 
 // What is meant where an option is not given: how many harts, how many bytes of memory, how many
-// steps at most, and which cache.
+// steps or states at most, and which cache.
 const DEFAULT_HARTS: u32 = 1;
 
 const DEFAULT_MEMORY: u32 = 1_048_576;
 
 const DEFAULT_STEPS: u32 = 10_000_000;
+
+const DEFAULT_STATES: u32 = 1_000_000;
 
 const DEFAULT_CACHE: Cache = Cache::Normal;
 
@@ -34,6 +37,7 @@ pub(crate) fn read<'a>(
     match name {
         "run" => Ok(Request::Run(read_options(alloc, matches)?.run()?)),
         "debug" => read_setup(matches).map(Request::Debug),
+        "outcomes" => read_search(alloc, matches).map(Request::Outcomes),
         "dis" => Ok(Request::Dis {
             file: argument(matches, "file"),
         }),
@@ -92,6 +96,32 @@ fn read_setup<'a>(matches: &ArgMatches<'a>) -> Result<Setup<'a>, OrderFault<'a>>
         memory,
         cache,
     })
+}
+
+/// The search of all ends that is to be made.
+fn read_search<'a>(alloc: Global, matches: &ArgMatches<'a>) -> Result<Search<'a>, OrderFault<'a>>
+    requires file { HasValue (codes "file") (rows_of (found_of matches.now)) }
+    requires both { HasBoth (codes "witness") (rows_of (found_of matches.now)) }
+    ensures { MatchResult result (IsSearchOf (rows_of (found_of matches.now)))
+        (NamesFirstOf (malformed_of_search (rows_of (found_of matches.now)))) }
+{
+    let file = argument(matches, "file");
+    let harts = number_given(matches, "harts", DEFAULT_HARTS)?;
+    let memory = number_given(matches, "memory", DEFAULT_MEMORY)?;
+    let states = number_given(matches, "states", DEFAULT_STATES)?;
+    let witness = witness_given(matches)?;
+    let words = words_given(alloc, matches)?;
+    match witness {
+        Some(Witness { path, .. }) if !can_write(matches, path) => Err(OrderFault::Value(path)),
+        witness => Ok(Search {
+            file,
+            harts,
+            memory,
+            states,
+            witness,
+            words,
+        }),
+    }
 }
 
 // The value of an argument that has one.
@@ -154,6 +184,32 @@ fn flag_given(matches: &ArgMatches<'_>, id: &str) -> bool
         Some(text) => text == "true",
         None => false,
     }
+}
+
+/// The run that is to be written, if one is. Whether it can be written to its path is not read.
+fn witness_given<'a>(matches: &ArgMatches<'a>) -> Result<Option<Witness<'a>>, OrderFault<'a>>
+    requires { HasBoth (codes "witness") (rows_of (found_of matches.now)) }
+    ensures { MatchResult result (IsWitnessOf (rows_of (found_of matches.now)))
+        (NamesFirstOf (malformed number_of (given (codes "witness") (rows_of (found_of matches.now))))) }
+{
+    match matches.get_strs("witness") {
+        Some(values) => {
+            let (text, path) = (values[0], values[1]);
+            match number(text) {
+                Some(outcome) => Ok(Some(Witness { outcome, path })),
+                None => Err(OrderFault::Value(text)),
+            }
+        }
+        None => Ok(None),
+    }
+}
+
+/// Whether a run to an outcome can be written to a path: no dash, and not the program's.
+fn can_write(matches: &ArgMatches<'_>, path: &str) -> bool
+    requires { HasValue (codes "file") (rows_of (found_of matches.now)) }
+    ensures { result ≡ can_write (rows_of (found_of matches.now)) path.now }
+{
+    !(path == "-" || path == argument(matches, "file"))
 }
 
 fn cache_named(name: &str) -> Option<Cache>

@@ -5,6 +5,8 @@ pub enum Request<'a> {
     Run(Run<'a>),
     /// To play a program by hand on a machine.
     Debug(Setup<'a>),
+    /// To search all ends of a program.
+    Outcomes(Search<'a>),
     /// To list a program.
     Dis {
         /// The path of the program's ELF file.
@@ -57,6 +59,32 @@ pub enum Way<'a> {
         /// The path of the file for the run's history, if it is to be written: neither a dash nor the program's.
         history: Option<&'a str>,
     },
+}
+
+/// A search of all ends of a program.
+#[derive(Debug, Drop)]
+pub struct Search<'a> {
+    /// The path of the program's file.
+    pub file: &'a str,
+    /// How many harts run it. No count is refused here.
+    pub harts: u32,
+    /// How many bytes of memory they share. No size is refused here.
+    pub memory: u32,
+    /// How many states are met at most. No count is refused here.
+    pub states: u32,
+    /// The run that is to be written, if one is.
+    pub witness: Option<Witness<'a>>,
+    /// The words of memory to show of each end.
+    pub words: Vec<Word<'a>>,
+}
+
+/// A run to one of the outcomes, for a file.
+#[derive(Clone, Copy, Debug)]
+pub struct Witness<'a> {
+    /// The number of the outcome, from 1. No number is refused here.
+    pub outcome: u32,
+    /// The path of the file for the run: neither a dash nor the program's.
+    pub path: &'a str,
 }
 
 /// What is shown of a run.

@@ -2,8 +2,7 @@
 #![tactic(auto)]
 
 use debugger::{LineInput, Typed};
-use machine::Progress;
-use simulate::{Fault, Meter, answer};
+use simulate::{Fault, Live, Meter, answer};
 use std::env;
 use std::io::{ErrorKind, IsTerminal, Lock, Read, Write};
 use std::process::ExitCode;
@@ -47,7 +46,7 @@ fn main(rt: HostRuntime) -> ExitCode {
 fn answer_all<
     R: Env + Files + Threads + Wait + Sync + AllocGlobal,
     I: LineInput,
-    P: Progress,
+    P: Live,
     W: Write + Drop,
     E: Sink,
 >(rt: &R, input: &mut I, prompt: &str, progress: &mut P, out: W, error: &mut E) -> u8 {

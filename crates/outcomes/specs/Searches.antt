@@ -78,6 +78,13 @@ pub record IsBeyond (o : Outcomes) (limit : ℕ) : Type 0 where
   pub moves : MovesInOrder (flat_at o before) entries (flat_at o state)
   pub new : (k : ℕ) → Stands o k state → ⊥
 
+-- a search that has met its first state alone
+pub record IsBegun (first : Flat) (o : Outcomes) : Type 0 where
+  pub search : IsSearch o
+  pub state : State
+  pub only : o.states.keys ≡ state ∷ []
+  pub is : flat_at o state ≡ first
+
 -- a search from a flat state: all that it met is reached by walks; where it says so, all that is reached was met; else there is one state
 -- more than the limit
 pub record Finds (first : Flat) (limit : ℕ) (o : Outcomes) : Type 0 where

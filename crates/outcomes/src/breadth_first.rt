@@ -11,9 +11,10 @@ ghost use Rattle.outcomes.specs.Turns.{after, entries_of as entries_of_turn, IsM
 ghost use Rattle.std.specs.List.{Contains};
 ghost use Rattle.outcomes.specs.Standings.{setting_of, flat_of};
 ghost use Rattle.outcomes.specs.Pools.{flat_in, IsWithin};
-ghost use Rattle.outcomes.specs.Searches.{setting_at, flat_at, shown_by, Stands, IsMet, IsExpanded, IsSearch, Extends, IsBeyond, IsEnd};
+ghost use Rattle.outcomes.specs.Searches.{setting_at, flat_at, shown_by, Stands, IsMet, IsExpanded, IsSearch, Extends, IsBeyond, IsEnd, IsBegun, Finds};
 
 use crate::change::Turn;
+use crate::gauge::{Gauge, tell_if_due};
 use crate::list::{push, push_if};
 use crate::pool::{Pool, State};
 use crate::scene::Scene;
@@ -144,7 +145,12 @@ impl Outcomes {
     }
 
     /// Notes states until all are expanded, or one more than the limit was met.
-    pub(crate) fn explore(&mut self, alloc: Global, limit: usize) -> Result<bool, AllocError>
+    fn explore<G: Gauge>(
+        &mut self,
+        alloc: Global,
+        limit: usize,
+        gauge: &mut G,
+    ) -> Result<bool, AllocError>
         requires search { IsSearch self.old }
         ensures search { OnOk result (IsSearch self.new) }
         ensures extends { OnOk result (Extends self.old self.new) }
@@ -159,8 +165,27 @@ impl Outcomes {
             if !self.expand(alloc, place, limit)? {
                 return Ok(false);
             }
+            tell_if_due(gauge, place, self.states.len());
         }
         Ok(self.states.len() <= limit)
+    }
+}
+
+// All that is to be found.
+impl Outcomes {
+    /// Meets all states, breadth first, and tells a gauge on the way. Where more than the limit are met, the search ends, and it says that they are
+    /// not all. It fails only if memory runs out.
+    pub fn find_all<G: Gauge>(
+        &mut self,
+        alloc: Global,
+        limit: usize,
+        gauge: &mut G,
+    ) -> Result<(), AllocError>
+        requires { IsSearch self.old }
+        ensures { (first : Flat) → IsBegun first self.old → OnOk result (Finds first limit self.new) }
+    {
+        self.is_all = self.explore(alloc, limit, gauge)?;
+        Ok(())
     }
 }
 
@@ -184,6 +209,14 @@ impl Outcomes {
         } else {
             None
         }
+    }
+
+    /// The first state.
+    pub fn first(&self) -> Standing<'_>
+        requires { IsSearch self.now }
+        ensures { (x : State) → Stands self.now 0 x → flat_of result ≡ flat_at self.now x }
+    {
+        self.standing(0)
     }
 
     /// The state at a place.

@@ -3,11 +3,11 @@ ghost use Rattle.flat.specs.State.{Setting};
 ghost use Rattle.flat.specs.Start.{first_hart, first_state};
 ghost use Rattle.flat.specs.Boots.{boot_fault, booted, fits_below};
 ghost use Rattle.flat.specs.declared.boot_fault.BootFault.{BootFault};
-ghost use Rattle.table.specs.Program.{image_at};
+ghost use Rattle.table.specs.Program.{image_at, AreBytes};
 ghost use Rattle.boot.specs.Memory.{mem_of};
 ghost use Rattle.outcomes.specs.Harts.{hart_of};
 ghost use Rattle.outcomes.specs.Pools.{flat_in, IsWithin};
-ghost use Rattle.outcomes.specs.Searches.{Finds};
+ghost use Rattle.outcomes.specs.Searches.{IsBegun};
 
 use crate::breadth_first::Outcomes;
 use crate::hart::Hart;
@@ -61,26 +61,26 @@ fn first_state(
     Ok(state)
 }
 
-/// Searches all states of a program that can be booted. It fails only if memory runs out.
-fn search_booted(
+/// The search of a program that can be booted. It fails only if memory runs out.
+fn begin_booted(
     alloc: Global,
     program: Program,
     count: usize,
     size: usize,
-    limit: usize,
 ) -> Result<Outcomes, AllocError>
     requires size { size < 2 ^ 32 }
     requires count { count ≤ 8 }
     requires room { 8192 * count ≤ size }
     requires fits { fits_below size count program.segments ≡ true }
-    ensures { IfOk result (Finds (booted program.segments program.entry count size) limit) }
+    ensures bytes { IfOk result (λ _. AreBytes program.segments) }
+    ensures begun { IfOk result (IsBegun (booted program.segments program.entry count size)) }
 {
     let image = image(alloc, &program, size)?;
     let mut pool = Pool::new(alloc);
     let first = first_state(alloc, count, size, program.entry(), &mut pool)?;
     let mut states = IndexSet::new(alloc);
     states.insert(first)?;
-    let mut outcomes = Outcomes {
+    Ok(Outcomes {
         program,
         image,
         count,
@@ -88,29 +88,21 @@ fn search_booted(
         states,
         origins: Vec::new(alloc),
         is_all: false,
-    };
-    outcomes.is_all = outcomes.explore(alloc, limit)?;
-    Ok(outcomes)
+    })
 }
 
-/// Searches all states of a program, breadth first, with a number of harts and of bytes of memory. Where more states than the limit are met,
-/// the search ends, and the outcomes say that they are not all.
-pub fn search(
-    alloc: Global,
-    program: Program,
-    harts: u32,
-    size: u32,
-    limit: usize,
-) -> Result<Outcomes, BootFault>
+/// The search of a program with a number of harts and of bytes of memory. It has met the state that the program begins in, and no other.
+pub fn begin(alloc: Global, program: Program, harts: u32, size: u32) -> Result<Outcomes, BootFault>
     // The tests come in their order, before memory is asked for.
     ensures refused { (e : BootFault) → boot_fault program.segments harts size ≡ Some e → result ≡ Err e }
     ensures memory { boot_fault program.segments harts size ≡ None → IfErr result (λ e. e ≡ BootFault.NoMemory) }
-    ensures found { IfOk result (Finds (booted program.segments program.entry harts size) limit) }
+    ensures bytes { IfOk result (λ _. AreBytes program.segments) }
+    ensures begun { IfOk result (IsBegun (booted program.segments program.entry harts size)) }
 {
     if let Some(fault) = boot_fault(&program, harts, size) {
         return Err(fault);
     }
-    match search_booted(alloc, program, harts as usize, size as usize, limit) {
+    match begin_booted(alloc, program, harts as usize, size as usize) {
         Ok(outcomes) => Ok(outcomes),
         Err(_) => Err(BootFault::NoMemory),
     }

@@ -1,9 +1,13 @@
 pub mod Reading
-pub mod Reported
 pub mod Starting
+pub mod Searching
+mod Witnessing
+mod Finding
+mod Carrying
 pub mod Refusing
 pub mod Performing
 mod TurnRuns
 pub mod Quoting
 mod ShownRuns
 mod ThreadedRuns
+mod Telling

@@ -1,23 +1,12 @@
--- What a machine's reads answer where they answer.
-use Rattle.std.proofs.Common.{◌≡◌, ℕ, ◌+◌, ◌<◌, ◌++◌, true, cond, Some, None, List, [], ◌∷◌, take, length, get_or, ap, sym, ◌∙◌, subst}
+-- The words that a run shows, and that they can be read.
+use Rattle.std.proofs.Common.{◌≡◌, ℕ, ◌+◌, ◌<◌, ◌++◌, true, List, [], ◌∷◌, take, length, get_or, ap, sym, ◌∙◌, subst}
 use Rattle.std.proofs.lemmas.List.{take_more, get_or-map, length-map}
 use Rattle.std.proofs.lemmas.List.Elements.{All-more}
-use Rattle.std.proofs.lemmas.Bool.{lt-ltb}
-use Rattle.words.specs.declared.entry.Width.TheVariants.{Word}
-use Rattle.words.specs.Bytes.{number_at}
-use Rattle.flat.specs.State.{Flat, Setting}
-use Rattle.flat.specs.Reads.{is_readable, word_if, shown, shown_if}
+use Rattle.flat.specs.State.{Setting}
+use Rattle.flat.specs.Reads.{is_readable}
 use Rattle.command_line.specs.declared.request.Word.{Word as Asked}
-use Rattle.simulate.specs.Reports.{AllReadable}
+use Rattle.reports.specs.Reports.{AllReadable}
 use Rattle.simulate.specs.Runs.{addresses}
-
--- the word at an address that can be read
-pub word_if-readable : (s : Setting) (mem : ℕ → ℕ) (a : ℕ) → is_readable s a ≡ true → word_if s mem a ≡ Some (number_at mem a Word)
-word_if-readable s mem a h = ap (λ b. cond b (Some (number_at mem a Word)) None) h
-
--- what is shown of a hart
-pub shown_if-hart : (f : Flat) (i : ℕ) → i < f.setting.count → shown_if f i ≡ Some (shown (f.hart i))
-shown_if-hart f i h = ap (λ b. cond b (Some (shown (f.hart i))) None) (lt-ltb i f.setting.count h)
 
 -- the addresses of one word more
 pub addresses-more : (words : List Asked) (i : ℕ) (d : Asked) (xs : List ℕ) → i < length words → xs ≡ take i (addresses words) → xs ++ (get_or words i d).addr ∷ [] ≡ take (i + 1) (addresses words)

@@ -5,19 +5,18 @@ use Rattle.loader.specs.Programs.{Program}
 use Rattle.flat.specs.Boots.{boot_fault}
 use Rattle.flat.specs.declared.boot_fault.BootFault.{BootFault}
 use Rattle.flat.specs.declared.boot_fault.BootFault.TheVariants as boot
-use Rattle.machine.specs.States.{State}
 use Rattle.command_line.specs.declared.request.Setup.{Setup}
 use Rattle.simulate.specs.Faults.{of_boot}
 use Rattle.simulate.specs.Sources.{IsProgramIn}
 use Rattle.simulate.specs.Starts.{IsStartFault}
 
--- a machine that was booted had no fault
-pub booted-no_fault : (o : Option BootFault) (r : Result State BootFault) (m : State) → r ≡ Ok m → ((e : BootFault) → o ≡ Some e → r ≡ Err e) → o ≡ None
+-- what was booted had no fault
+pub booted-no_fault : {S : Type 0} (o : Option BootFault) (r : Result S BootFault) (m : S) → r ≡ Ok m → ((e : BootFault) → o ≡ Some e → r ≡ Err e) → o ≡ None
 booted-no_fault None r m ok refused = refl
 booted-no_fault (Some e) r m ok refused = let err = refused e refl in absurd (cc)
 
 -- a boot that failed wanted memory, or had this fault
-pub refused-fault : (o : Option BootFault) (r : Result State BootFault) (b : BootFault) (P : State → Type 0) → r ≡ Err b → ((e : BootFault) → o ≡ Some e → r ≡ Err e) → (o ≡ None → MatchResult r P (λ e. e ≡ boot.NoMemory)) → (b ≡ boot.NoMemory) ⊎ (o ≡ Some b)
+pub refused-fault : {S : Type 0} (o : Option BootFault) (r : Result S BootFault) (b : BootFault) (P : S → Type 0) → r ≡ Err b → ((e : BootFault) → o ≡ Some e → r ≡ Err e) → (o ≡ None → MatchResult r P (λ e. e ≡ boot.NoMemory)) → (b ≡ boot.NoMemory) ⊎ (o ≡ Some b)
 refused-fault None r b P err refused accepted = inl (MatchResult-at_err P (λ e. e ≡ boot.NoMemory) b err (accepted refl))
 refused-fault (Some e) r b P err refused accepted = let same = refused e refl in inr (cc)
 

@@ -24,9 +24,9 @@ use Rattle.simulate.specs.Begins.{IsBegunBy, IsUnbegun}
 use Rattle.simulate.specs.Conclusions.{IsConcluded, IsHalfConcluded}
 use Rattle.simulate.specs.Counted.{AreCounts, behind_report, counts_part, counts_text}
 use Rattle.simulate.specs.Given.{AreTextsOf, IsGiven, IsNotGiven}
-use Rattle.simulate.specs.Reports.{AllReadable, report_of}
+use Rattle.reports.specs.Reports.{AllReadable, report_of}
 use Rattle.simulate.specs.Shown.{Texts, Sinks, TakeAll, IsShown, IsCutShort, shown_before, shown_so_far, shown_texts}
-use Rattle.simulate.specs.Statuses.{IsStatusOf}
+use Rattle.reports.specs.Statuses.{IsStatusOf}
 use Rattle.simulate.specs.declared.fault.Fault.{Fault}
 use Rattle.simulate.specs.declared.fault.Fault.TheVariants.{Unwritten}
 use Rattle.simulate.proofs.Performing.{HasEnd, end_of, its_report, same_setting, still_readable}

@@ -7,7 +7,7 @@ use Rattle.machine.specs.States.{State, setting_of}
 use Rattle.command_line.specs.declared.request.Run.{Run}
 use Rattle.command_line.specs.declared.request.Word.{Word}
 use Rattle.schedule.specs.declared.choices.Choice.{Choice}
-use Rattle.simulate.specs.Reports.{AllReadable}
+use Rattle.reports.specs.Reports.{AllReadable}
 use Rattle.simulate.specs.Runs.{addresses}
 use Rattle.simulate.specs.Schedules.{AreChosenBy, IsScheduleFault}
 use Rattle.simulate.specs.Sources.{IsProgramIn}

@@ -12,6 +12,7 @@ use Rattle.command_line.specs.declared.request.Way.TheVariants.{Turns, Threads}
 use Rattle.debugger.specs.Plays.{Giving}
 use Rattle.protocol.specs.Caches.{Geometry}
 use Rattle.simulate.specs.Debugging.{IsPlayedByHand}
+use Rattle.simulate.specs.Ends.{AreEndsGiven, AreEndsNotGiven}
 use Rattle.simulate.specs.Faults.{fault_status, fault_text}
 use Rattle.simulate.specs.Files.{IsListed, IsUnlisted, IsImageOf}
 use Rattle.simulate.specs.Given.{IsGiven, IsNotGiven}
@@ -40,19 +41,22 @@ module _ (g : Geometry) (run : Run) (file list : List ℕ) (before after : Sinks
 abbrev pub cache_of : Request → Option Cache
 cache_of (request.Run run) = Some run.setup.cache
 cache_of (request.Debug setup) = Some setup.cache
+cache_of (request.Outcomes asked) = None
 cache_of (request.Dis path) = None
 cache_of (request.Asm source target) = None
 
 -- a request that needs no machine: what it asks for was made, with this status, and these bytes for the file that it asks for; or it was not, for a fault
-module _ (file : List ℕ) (before after : SinkState) where
+module _ (file : List ℕ) (before after : Sinks) where
   abbrev pub IsMade : Request → ℕ → Option (List ℕ) → Type 0
-  IsMade (request.Dis path) status image = IsListed file before after status × (image ≡ None)
-  IsMade (request.Asm source target) status image = (status ≡ 0) × ((bytes : List ℕ) × IsImageOf file bytes × (image ≡ Some bytes)) × IsUntouched before after
+  IsMade (request.Outcomes asked) status image = AreEndsGiven asked file before after status × (image ≡ None)
+  IsMade (request.Dis path) status image = IsListed file before.output after.output status × (image ≡ None) × IsUntouched before.file after.file
+  IsMade (request.Asm source target) status image = (status ≡ 0) × ((bytes : List ℕ) × IsImageOf file bytes × (image ≡ Some bytes)) × AreUntouched before after
   IsMade other status image = ⊥
 
   abbrev pub IsUnmade : Request → Fault → Type 0
-  IsUnmade (request.Dis path) fault = IsUnlisted file before after fault
-  IsUnmade (request.Asm source target) fault = IsSourceFault file fault × IsUntouched before after
+  IsUnmade (request.Outcomes asked) fault = AreEndsNotGiven asked file before after fault
+  IsUnmade (request.Dis path) fault = IsUnlisted file before.output after.output fault × IsUntouched before.file after.file
+  IsUnmade (request.Asm source target) fault = IsSourceFault file fault × AreUntouched before after
   IsUnmade other fault = ⊥
 
 -- the request was carried out, where the caches are as large as this, with this status, and these bytes for the file that it asks for
@@ -61,14 +65,14 @@ module _ {I : Type 0} (g : Geometry) (gives : Giving I) (file list prompt : List
   IsDoneOn (request.Run run) status image = RunGives g run file list before after run.way status × (image ≡ None) × (j ≡ i) × IsUntouched told_before told_after
   IsDoneOn (request.Debug setup) status image =
       IsPlayedByHand g gives setup file prompt i j before.output after.output told_before told_after status × (image ≡ None) × IsUntouched before.file after.file
-  IsDoneOn made status image = IsMade file before.output after.output made status image × (j ≡ i) × IsUntouched before.file after.file × IsUntouched told_before told_after
+  IsDoneOn made status image = IsMade file before after made status image × (j ≡ i) × IsUntouched told_before told_after
 
 -- it was not, for this fault
 module _ {I : Type 0} (g : Geometry) (file list : List ℕ) (i j : I) (before after : Sinks) where
   abbrev pub IsNotDoneOn : Request → Fault → Type 0
   IsNotDoneOn (request.Run run) fault = RunFails g run file list before after run.way fault × (j ≡ i)
   IsNotDoneOn (request.Debug setup) fault = IsStartFault setup file fault × (j ≡ i) × AreUntouched before after
-  IsNotDoneOn made fault = IsUnmade file before.output after.output made fault × (j ≡ i) × IsUntouched before.file after.file
+  IsNotDoneOn made fault = IsUnmade file before after made fault × (j ≡ i)
 
 -- the caches that a request asks for. One that needs no machine has any
 abbrev pub asked_for : Request → Geometry

@@ -16,12 +16,12 @@ use Rattle.schedule.specs.declared.lines.ScheduleFault.TheVariants as schedule
 use Rattle.schedule.specs.declared.halt.Halt.{Halt}
 use Rattle.schedule.specs.declared.halt.Halt.TheVariants as halt
 use Rattle.simulate.specs.Quotes.{quotation}
-use Rattle.simulate.specs.Reports.{line_end}
+use Rattle.reports.specs.Reports.{line_end}
 use Rattle.simulate.specs.declared.fault.Fault.{Fault}
 use Rattle.simulate.specs.declared.fault.RefusedLine.{RefusedLine}
-use Rattle.simulate.specs.declared.fault.Fault.TheVariants.{NotText, Refused, Value, TwoViews, LongPicture, ThreadsAlone, Unread, NotSource, Source, Load, Boot, Word, NotSchedule, Schedule, Exchanged, Unwritten, Unmade, NoMemory}
+use Rattle.simulate.specs.declared.fault.Fault.TheVariants.{NotText, Refused, Value, TwoViews, LongPicture, ThreadsAlone, Unread, TooLong, NotSource, Source, Load, Boot, Word, NotSchedule, Schedule, NoOutcome, Exchanged, Unwritten, Unmade, NoMemory}
 
--- 2 for the command line and a schedule, 3 for a file, 4 for what is in the file and for the machine that is asked for, 6 if memory ran out, 7 where the lock gave back
+-- 2 for the command line, a schedule and an outcome that there isn't, 3 for a file, 4 for what is in the file and for the machine that is asked for, 6 if memory ran out, 7 where the lock gave back
 -- another board
 abbrev pub fault_status : Fault → ℕ
 fault_status NotText = 2
@@ -31,6 +31,7 @@ fault_status TwoViews = 2
 fault_status LongPicture = 2
 fault_status ThreadsAlone = 2
 fault_status (Unread file) = 3
+fault_status (TooLong file) = 3
 fault_status NotSource = 4
 fault_status (Source refused) = 4
 fault_status (Load fault) = 4
@@ -38,6 +39,7 @@ fault_status (Boot fault) = 4
 fault_status (Word text) = 2
 fault_status NotSchedule = 2
 fault_status (Schedule number) = 2
+fault_status (NoOutcome number) = 2
 fault_status Exchanged = 7
 fault_status Unwritten = 3
 fault_status (Unmade file) = 3
@@ -63,6 +65,10 @@ refused_line refused = refused_text refused.why.line (asm_number refused.why.fau
 abbrev pub unspelled_text : ℕ → List ℕ
 unspelled_text at = concat (codes "logtm: schedule line " ∷ decimal at ∷ codes ": no step" ∷ line_end ∷ [])
 
+-- the line on an outcome that there isn't
+abbrev pub no_outcome_text : ℕ → List ℕ
+no_outcome_text number = concat (codes "logtm: no outcome " ∷ decimal number ∷ line_end ∷ [])
+
 -- what the user is told of a fault
 abbrev pub fault_text : Fault → List ℕ
 fault_text NotText = line (codes "an argument is not text") []
@@ -72,6 +78,7 @@ fault_text TwoViews = line (codes "--trace, --timeline and --stats exclude each 
 fault_text LongPicture = line (codes "a picture takes --steps of at most 2000") []
 fault_text ThreadsAlone = line (codes "--threads excludes --schedule, --trace, --timeline and --stats, and --history needs --threads") []
 fault_text (Unread file) = line (codes "cannot read ") file.now
+fault_text (TooLong file) = line (codes "longer than 33554432 bytes: ") file.now
 fault_text NotSource = line (codes "source is not text") []
 fault_text (Source refused) = refused_line refused
 fault_text (Load fault) = refusal_line (codes "load ") (fault_number fault) (fault_name fault)
@@ -79,6 +86,7 @@ fault_text (Boot fault) = refusal_line (codes "boot ") (boot_fault_number fault)
 fault_text (Word text) = line (codes "word ") text.now
 fault_text NotSchedule = line (codes "schedule is not text") []
 fault_text (Schedule number) = unspelled_text number
+fault_text (NoOutcome number) = no_outcome_text number
 fault_text Exchanged = line (codes "the threads gave back another machine") []
 fault_text Unwritten = line (codes "cannot write standard output") []
 fault_text (Unmade file) = line (codes "cannot write ") file.now
@@ -91,6 +99,7 @@ IsPlain (Source refused) = ⊥
 IsPlain (Load fault) = ⊥
 IsPlain (Boot fault) = ⊥
 IsPlain (Schedule number) = ⊥
+IsPlain (NoOutcome number) = ⊥
 IsPlain other = Unit {0}
 
 -- the fault of a command line

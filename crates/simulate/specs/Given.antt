@@ -12,7 +12,7 @@ use Rattle.schedule.specs.Moments.{Moment}
 use Rattle.simulate.specs.Begins.{IsUnbegun}
 use Rattle.simulate.specs.Runs.{ComesBy, IsReport}
 use Rattle.simulate.specs.Shown.{Texts, Sinks, TakeAll, shown_before, shown_so_far, shown_texts}
-use Rattle.simulate.specs.Statuses.{IsReported}
+use Rattle.reports.specs.Statuses.{IsReported}
 use Rattle.simulate.specs.declared.fault.Fault.{Fault}
 use Rattle.simulate.specs.declared.fault.Fault.TheVariants.{Unmade, Unwritten, NoMemory}
 

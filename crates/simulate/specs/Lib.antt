@@ -1,10 +1,8 @@
-pub mod Reports
 pub mod Quotes
 pub mod Faults
 pub mod Sources
 pub mod Debugging
 pub mod Schedules
-pub mod Statuses
 pub mod Counted
 pub mod Runs
 pub mod Unreadable
@@ -16,5 +14,6 @@ pub mod Orders
 pub mod Given
 pub mod Threaded
 pub mod Files
+pub mod Ends
 pub mod Carried
 pub mod ProgressLines

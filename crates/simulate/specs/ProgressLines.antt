@@ -10,6 +10,10 @@ clear = 13 ∷ codes "\u{1b}[K"
 abbrev pub a_second : ℕ → ℕ → ℕ
 a_second steps nanos = min (steps * 1000 / max (nanos / 1000000) 1) 18446744073709551615
 
+-- the states met, and the states a second, both in thousands
+abbrev pub states_line : ℕ → ℕ → List ℕ
+states_line states pace = concat (clear ∷ decimal (states / 1000) ∷ codes " thousand states, " ∷ decimal (pace / 1000) ∷ codes " thousand a second" ∷ [])
+
 -- the steps made, the steps a second, both in millions to the tenth below, and how many harts run
 abbrev pub progress_line : ℕ → ℕ → ℕ → List ℕ
 progress_line steps pace running = concat (

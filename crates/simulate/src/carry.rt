@@ -8,7 +8,9 @@ ghost use Rattle.simulate.specs.Sources.{IsSourceFault};
 
 use crate::debugging::play_by_hand;
 use crate::fault::Fault;
+use crate::live::Live;
 use crate::page::Page;
+use crate::search::find_ends;
 use crate::source::program_of_source;
 use crate::threads::run_in_threads;
 use crate::turns::run_by_turns;
@@ -16,7 +18,6 @@ use command_line::{Cache, Request, Run, Way};
 use debugger::LineInput;
 use disassembler::listing;
 use loader::{read_elf, write_elf};
-use machine::Progress;
 use std::alloc::Global;
 use std::sync::Wait;
 use std::thread::Threads;
@@ -33,11 +34,11 @@ pub struct Outcome {
 }
 
 /// Carries out a request, given the bytes of its file and those of its schedule, none where it has none. What it asks for goes into `out`, and into
-/// `chart`, whose sink stands for the file of a view or of a history; what the user is told goes into `error`. A program that is played by hand reads
+/// `chart`, whose sink stands for the file of a view, of a history or of a run to an outcome; what the user is told goes into `error`. A program that is played by hand reads
 /// `input`, and asks for each line by a prompt. The progress of a run by turns is told while it goes on, unless its trace goes into `out`.
 ///
 /// Memory may run out at any time, which gives 6: no clause says when.
-pub fn carry_out<R: Threads + Wait + Sync, I: LineInput, P: Progress, T: Page, O: Sink, E: Sink>(
+pub fn carry_out<R: Threads + Wait + Sync, I: LineInput, P: Live, T: Page, O: Sink, E: Sink>(
     rt: &R,
     alloc: Global,
     request: &Request<'_>,
@@ -67,15 +68,7 @@ pub fn carry_out<R: Threads + Wait + Sync, I: LineInput, P: Progress, T: Page, O
 }
 
 /// Carries out a request, without telling of a fault.
-fn try_carry_out<
-    'a,
-    R: Threads + Wait + Sync,
-    I: LineInput,
-    P: Progress,
-    T: Page,
-    O: Sink,
-    E: Sink,
->(
+fn try_carry_out<'a, R: Threads + Wait + Sync, I: LineInput, P: Live, T: Page, O: Sink, E: Sink>(
     rt: &R,
     alloc: Global,
     request: &Request<'a>,
@@ -103,7 +96,7 @@ fn try_carry_out<
         Some(Cache::Normal) => on_machine::<16, 4, R, I, P, T, O, E>(
             rt, alloc, request, file, schedule, input, prompt, progress, chart, out, error,
         ),
-        None => on_file(alloc, request, file, out),
+        None => on_file(alloc, request, file, progress, &mut chart.sink, out),
     }
 }
 
@@ -114,7 +107,7 @@ fn cache_of(request: &Request<'_>) -> Option<Cache>
     match request {
         Request::Run(run) => Some(run.setup.cache),
         Request::Debug(setup) => Some(setup.cache),
-        Request::Dis { .. } | Request::Asm { .. } => None,
+        Request::Outcomes(_) | Request::Dis { .. } | Request::Asm { .. } => None,
     }
 }
 
@@ -125,7 +118,7 @@ fn on_machine<
     const WAYS: usize,
     R: Threads + Wait + Sync,
     I: LineInput,
-    P: Progress,
+    P: Live,
     T: Page,
     O: Sink,
     E: Sink,
@@ -161,7 +154,7 @@ fn on_machine<
         Request::Debug(setup) => play_by_hand::<SETS, WAYS, I, O, E>(
             alloc, setup, file, input, prompt, out, error,
         )?,
-        Request::Dis { .. } | Request::Asm { .. } => unreachable!(),
+        Request::Outcomes(_) | Request::Dis { .. } | Request::Asm { .. } => unreachable!(),
     };
     Ok(Outcome {
         status,
@@ -175,7 +168,7 @@ fn make_run<
     const SETS: usize,
     const WAYS: usize,
     R: Threads + Wait + Sync,
-    P: Progress,
+    P: Live,
     T: Page,
     O: Sink,
 >(
@@ -214,18 +207,28 @@ fn make_run<
 }
 
 /// Carries out a request that needs no machine.
-fn on_file<'a, O: Sink>(
+fn on_file<'a, P: Live, T: Page, O: Sink>(
     alloc: Global,
-    request: &Request<'_>,
+    request: &Request<'a>,
     file: &'a [u8],
+    progress: &mut P,
+    page: &mut T,
     out: &mut O,
 ) -> Result<Outcome, Fault<'a>>
     requires { cache_of request.now ≡ None }
     ensures { MatchResult result
-        (λ o. IsMade file.now (O.state out.old) (O.state out.new) request.now o.status (option_map (λ image. image.items) o.image))
-        (IsUnmade file.now (O.state out.old) (O.state out.new) request.now) }
+        (λ o. IsMade file.now
+        (record { output = O.state out.old; file = T.state page.old }) (record { output = O.state out.new; file = T.state page.new })
+        request.now o.status (option_map (λ image. image.items) o.image))
+        (IsUnmade file.now
+        (record { output = O.state out.old; file = T.state page.old }) (record { output = O.state out.new; file = T.state page.new })
+        request.now) }
 {
     match request {
+        Request::Outcomes(asked) => Ok(Outcome {
+            status: find_ends(alloc, asked, file, progress, page, out)?,
+            image: None,
+        }),
         Request::Dis { .. } => Ok(Outcome {
             status: list(alloc, file, out)?,
             image: None,

@@ -1,6 +1,6 @@
 ghost use Rattle.std.specs.Prelude.{◌≡◌};
 ghost use Rattle.words.specs.Sinks.{IsPut};
-ghost use Rattle.simulate.specs.Faults.{fault_status, fault_text, IsPlain, line, refusal_line, refused_text, refused_line, unspelled_text, of_order, of_load, of_boot, of_schedule, of_halt};
+ghost use Rattle.simulate.specs.Faults.{fault_status, fault_text, IsPlain, line, refusal_line, refused_text, refused_line, unspelled_text, no_outcome_text, of_order, of_load, of_boot, of_schedule, of_halt};
 ghost use Rattle.texts.specs.Puts.{Puts};
 ghost use Rattle.simulate.specs.declared.fault.Fault.TheVariants.{NoMemory, Unwritten};
 
@@ -40,6 +40,8 @@ pub enum Fault<'a> {
     ThreadsAlone,
     /// The path of a file that can't be read.
     Unread(&'a str),
+    /// The path of a file that is longer than any that is taken.
+    TooLong(&'a str),
     /// The source is not text.
     NotSource,
     /// A line of the source is refused.
@@ -54,6 +56,8 @@ pub enum Fault<'a> {
     NotSchedule,
     /// The number of a line of the schedule that spells no step.
     Schedule(usize),
+    /// The number of an outcome, where there is no outcome of this number.
+    NoOutcome(u32),
     /// The lock that the threads share gave back a board of another program, number of harts or size. No worker puts one there, but a lock tells a
     /// proof nothing of what it holds.
     Exchanged,
@@ -65,7 +69,7 @@ pub enum Fault<'a> {
 }
 
 impl<'a> Fault<'a> {
-    /// The status that the program ends with: 2 for the command line and a schedule, 3 for a file, 4 for what is in the file and for
+    /// The status that the program ends with: 2 for the command line, a schedule and an outcome that there isn't, 3 for a file, 4 for what is in the file and for
     /// the machine that is asked for, 6 if memory ran out, 7 for what can't be.
     pub fn status(&self) -> u8
         ensures { result ≡ fault_status self.now }
@@ -73,8 +77,8 @@ impl<'a> Fault<'a> {
         match self {
             Fault::NotText | Fault::Refused(_) | Fault::Value(_) | Fault::Word(_) => 2,
             Fault::TwoViews | Fault::LongPicture | Fault::ThreadsAlone => 2,
-            Fault::NotSchedule | Fault::Schedule(_) => 2,
-            Fault::Unread(_) | Fault::Unwritten | Fault::Unmade(_) => 3,
+            Fault::NotSchedule | Fault::Schedule(_) | Fault::NoOutcome(_) => 2,
+            Fault::Unread(_) | Fault::TooLong(_) | Fault::Unwritten | Fault::Unmade(_) => 3,
             Fault::NotSource | Fault::Source(_) | Fault::Load(_) | Fault::Boot(_) => 4,
             Fault::NoMemory => 6,
             Fault::Exchanged => 7,
@@ -91,6 +95,7 @@ impl<'a> Fault<'a> {
             Fault::Load(fault) => put_refusal(sink, b"load ", fault.number(), fault.name()),
             Fault::Boot(fault) => put_refusal(sink, b"boot ", fault.number(), fault.name()),
             Fault::Schedule(line) => put_unspelled(sink, *line),
+            Fault::NoOutcome(number) => put_no_outcome(sink, *number),
             _ => {
                 let (what, name) = self.plain();
                 put_line(sink, what, name)
@@ -113,6 +118,7 @@ impl<'a> Fault<'a> {
                 "",
             ),
             Fault::Unread(file) => (b"cannot read ", *file),
+            Fault::TooLong(file) => (b"longer than 33554432 bytes: ", *file),
             Fault::NotSource => (b"source is not text", ""),
             Fault::Word(text) => (b"word ", *text),
             Fault::NotSchedule => (b"schedule is not text", ""),
@@ -200,6 +206,21 @@ fn put_unspelled<S: Sink>(sink: &mut S, line: usize) -> Result<(), SinkFault>
             b"logtm: schedule line ",
             place.format(line).as_bytes(),
             b": no step",
+            b"\n",
+        ],
+    )
+}
+
+/// Puts that there is no outcome of a number.
+fn put_no_outcome<S: Sink>(sink: &mut S, number: u32) -> Result<(), SinkFault>
+    ensures { Puts (S.state sink.old) (S.state sink.new) (no_outcome_text number) result }
+{
+    let mut digits = Buffer::new();
+    put_all(
+        sink,
+        &[
+            b"logtm: no outcome ",
+            digits.format(number).as_bytes(),
             b"\n",
         ],
     )

@@ -1,24 +1,28 @@
 use crate::carry::{Outcome, carry_out};
 use crate::fault::Fault;
+use crate::live::Live;
 use crate::page::{Outlet, Page, Stream};
-use crate::status::is_report;
 use command_line::{Request, Show, Way, parse};
 use debugger::LineInput;
-use machine::Progress;
-use std::fs;
-use std::io::{BufWriter, ErrorKind, Write};
+use reports::is_report;
+use std::fs::File;
+use std::io::{BufWriter, ErrorKind, Read, Write};
 use std::rt::Files;
 use std::sync::Wait;
 use std::thread::Threads;
+use std::{fs, io};
 use timeline::Chart;
 use words::Sink;
+
+/// How many bytes a program, a source or a schedule may have: 32 MiB.
+const MOST_BYTES: usize = 33_554_432;
 
 /// Answers the words of a command line, the program's name first: reads the files that they name, has the request carried out, and writes the
 /// file that it asks for. The lines of an input debug a program, each asked for by a prompt. It gives the status that the program ends with.
 pub fn answer<
     R: Files + Threads + Wait + Sync + AllocGlobal,
     I: LineInput,
-    P: Progress,
+    P: Live,
     W: Write + Drop,
     E: Sink,
 >(
@@ -41,7 +45,7 @@ fn try_answer<
     'a,
     R: Files + Threads + Wait + Sync + AllocGlobal,
     I: LineInput,
-    P: Progress,
+    P: Live,
     W: Write + Drop,
     E: Sink,
 >(
@@ -68,7 +72,7 @@ fn carry_out_into<
     'a,
     R: Files + Threads + Wait + Sync + AllocGlobal,
     I: LineInput,
-    P: Progress,
+    P: Live,
     W: Write + Drop,
     E: Sink,
 >(
@@ -110,6 +114,7 @@ fn file_of<'a>(request: &Request<'a>) -> &'a str {
     match request {
         Request::Run(run) => run.setup.file,
         Request::Debug(setup) => setup.file,
+        Request::Outcomes(asked) => asked.file,
         Request::Dis { file } => file,
         Request::Asm { source, .. } => source,
     }
@@ -126,7 +131,7 @@ fn schedule_of<'a>(request: &Request<'a>) -> Option<&'a str> {
     }
 }
 
-/// The path of the file for a view or a history, if a request asks for one.
+/// The path of the file for a view, a history or a run to an outcome, if a request asks for one.
 fn page_of<'a>(request: &Request<'a>) -> Option<&'a str> {
     match request {
         Request::Run(run) => match run.way {
@@ -137,6 +142,7 @@ fn page_of<'a>(request: &Request<'a>) -> Option<&'a str> {
             Way::Turns { .. } => None,
             Way::Threads { history } => history,
         },
+        Request::Outcomes(asked) => asked.witness.map(|witness| witness.path),
         _ => None,
     }
 }
@@ -204,12 +210,21 @@ fn read_if_any<'a, R: Files + AllocGlobal>(
     }
 }
 
+/// The bytes of a file, of which one more than are taken is read at most: a file may have no end.
 fn read<'a, R: Files + AllocGlobal>(rt: &R, file: &'a str) -> Result<Vec<u8>, Fault<'a>> {
-    match fs::read(rt, file) {
+    match read_beginning(rt, file) {
+        Ok(bytes) if bytes.len() > MOST_BYTES => Err(Fault::TooLong(file)),
         Ok(bytes) => Ok(bytes),
         Err(error) if error.kind() == ErrorKind::OutOfMemory => Err(Fault::NoMemory),
         Err(_) => Err(Fault::Unread(file)),
     }
+}
+
+fn read_beginning<R: Files + AllocGlobal>(rt: &R, file: &str) -> io::Result<Vec<u8>> {
+    let mut bytes = Vec::new(rt.alloc());
+    let opened = File::open(rt, file)?;
+    opened.take(MOST_BYTES as u64 + 1).read_to_end(&mut bytes)?;
+    Ok(bytes)
 }
 
 fn write<'a, R: Files + AllocGlobal>(rt: &R, file: &'a str, bytes: &[u8]) -> Result<(), Fault<'a>> {

@@ -2,8 +2,9 @@ ghost use Rattle.std.specs.Prelude.{◌≡◌, ◌+◌, ◌≤◌, ◌⊎◌, �
 ghost use Rattle.std.specs.Duration.{as_nanos, max_nanos};
 ghost use Rattle.texts.specs.Puts.{Puts};
 ghost use Rattle.words.specs.declared.sink.SinkFault.{SinkFault as Fault};
-ghost use Rattle.simulate.specs.ProgressLines.{clear, a_second, progress_line};
+ghost use Rattle.simulate.specs.ProgressLines.{clear, a_second, progress_line, states_line};
 
+use crate::live::Live;
 use itoa::Buffer;
 use machine::{PROGRESS_INTERVAL, Progress};
 use std::time::{Clock, Duration, Instant};
@@ -20,7 +21,7 @@ const STANDS: u64 = 200;
 const CLEAR: &[u8] = b"\r\x1b[K";
 
 /// Shows the progress of a run in one line of a terminal, written anew five times a second from the first second on: the steps made, the steps a
-/// second, and how many harts still run. The line is cleared at the end. What can't be shown stops no run.
+/// second, and how many harts still run; and of a search the states met, and the states a second. The line is cleared at the end. What can't be shown stops no run.
 #[derive(Drop)]
 pub struct Meter<'c, C, S> {
     clock: &'c C,
@@ -104,6 +105,25 @@ impl<'c, C: Clock, S: Sink> Progress for Meter<'c, C, S> {
     }
 }
 
+impl<'c, C: Clock, S: Sink> Live for Meter<'c, C, S> {
+    fn tell_states(&mut self, states: usize)
+        ensures quiet { self.old.begun ≡ None → self.new.sink ≡ self.old.sink }
+        // A line is put if one is due, and then the next is due a fifth of a second later.
+        ensures shown { (self.new.sink ≡ self.old.sink) ⊎ ((nanos : ℕ) × (as_nanos self.old.due ≤ nanos) × (as_nanos self.new.due ≡ min (nanos + 200000000) max_nanos) × (put : Result Unit Fault)
+            × Puts (S.state self.old.sink) (S.state self.new.sink)
+            (states_line states (a_second states nanos)) put) }
+    {
+        let Some(gone) = self.due_after() else {
+            return;
+        };
+        self.due = gone.saturating_add(Duration::from_millis(STANDS));
+        let met = states as u64;
+        let pace = a_second(met, gone);
+        let _ = put_states(&mut self.sink, met, pace);
+        self.stands = true;
+    }
+}
+
 /// How many of these are a second's, where they took so long.
 fn a_second(steps: u64, gone: Duration) -> u64
     ensures { result ≡ a_second steps (as_nanos gone) }
@@ -113,6 +133,23 @@ fn a_second(steps: u64, gone: Duration) -> u64
         Ok(pace) => pace,
         Err(_) => u64::MAX,
     }
+}
+
+/// Writes the line of a search anew.
+fn put_states<S: Sink>(sink: &mut S, states: u64, pace: u64) -> Result<(), SinkFault>
+    ensures { Puts (S.state sink.old) (S.state sink.new) (states_line states pace) result }
+{
+    let (mut met, mut fast) = (Buffer::new(), Buffer::new());
+    put_all(
+        sink,
+        &[
+            CLEAR,
+            met.format(states / 1000).as_bytes(),
+            b" thousand states, ",
+            fast.format(pace / 1000).as_bytes(),
+            b" thousand a second",
+        ],
+    )
 }
 
 /// Writes the line anew.

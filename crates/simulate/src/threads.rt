@@ -7,14 +7,14 @@ ghost use Rattle.board.specs.Histories.{no_step};
 ghost use Rattle.schedule.specs.Written.{text_of};
 ghost use Rattle.texts.specs.Puts.{Puts};
 ghost use Rattle.simulate.specs.Conclusions.{IsConcluded, IsHistoryUnput, IsHalfPut};
-ghost use Rattle.simulate.specs.Reports.{AllReadable};
+ghost use Rattle.reports.specs.Reports.{AllReadable};
 ghost use Rattle.simulate.specs.Sources.{IsProgramIn, IsProgramFault};
 ghost use Rattle.simulate.specs.Threaded.{IsReady, IsUnready, IsGivenInThreads, IsNotGivenInThreads};
 
+use crate::conclude::conclude;
 use crate::fault::Fault;
 use crate::page::Page;
 use crate::readable::readable;
-use crate::report::conclude;
 use crate::serving::run_board;
 use crate::source::program_in;
 use board::{Board, Code, Finished, Journal, Unkept};

@@ -7,10 +7,10 @@ ghost use Rattle.simulate.specs.Given.{IsGiven, IsNotGiven};
 ghost use Rattle.simulate.specs.Shown.{IsShown, IsCutShort, IsViewed, IsViewCut, IsViewFault};
 
 use crate::begin::{Begun, begin};
+use crate::conclude::conclude;
 use crate::counting::put_counts;
 use crate::fault::Fault;
 use crate::page::Page;
-use crate::report::conclude;
 use command_line::{Run, Show, View};
 use machine::{Machine, Progress, Silent};
 use schedule::{Choice, Halt};

@@ -8,5 +8,6 @@ mod meters;
 mod orders;
 mod paper;
 mod running;
+mod searching;
 mod threads;
 mod tracing;

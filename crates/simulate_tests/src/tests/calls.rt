@@ -3,8 +3,8 @@ use super::paper::Paper;
 use command_line::{Request, parse};
 use debugger::Typed;
 use elf_samples::elf_file;
-use machine::{Progress, Silent};
-use simulate::carry_out;
+use machine::Silent;
+use simulate::{Live, carry_out};
 use std::alloc::{AllocError, Global};
 use std::io;
 use std::io::{ErrorKind, Read};
@@ -100,7 +100,7 @@ pub(crate) fn run_told(
     rt: &(impl AllocGlobal + Threads + Wait + Sync),
     request: &Request<'_>,
     file: &[u8],
-    progress: &mut impl Progress,
+    progress: &mut impl Live,
     sheets: Sheets,
 ) -> Told {
     let mut input = input_of(&[], false);
@@ -115,7 +115,7 @@ fn carried_all(
     (file, schedule): (&[u8], &[u8]),
     input: &mut Typed<Keys<'_>>,
     prompt: &str,
-    progress: &mut impl Progress,
+    progress: &mut impl Live,
     sheets: Sheets,
 ) -> Told {
     let Sheets {

@@ -3,6 +3,7 @@ use super::calls::{Sheets, Told, carried, file_of, request_of};
 use super::checks::check_told;
 use super::paper::Paper;
 use super::running::{LISTING, PRINTS, REPORT};
+use super::searching::PRINTED;
 use super::threads::{COUNTED, COUNTER, TWO};
 use elf_samples::EXIT;
 use std::process::Abort;
@@ -49,6 +50,15 @@ fn runs_or_wants_memory(rt: HostRuntime) -> Result<(), Fail> {
     if let Ok(file) = file_of(rt.alloc(), &PRINTS) {
         let words = ["logtm", "run", "f", "--harts=2", "0x1000"];
         let _ = check(&rt, &words, &file, REPORT, None);
+    }
+    Ok(())
+}
+
+#[test]
+fn searches_or_wants_memory(rt: HostRuntime) -> Result<(), Fail> {
+    if let Ok(file) = file_of(rt.alloc(), &PRINTS) {
+        let words = ["logtm", "outcomes", "f", "--harts=2", "0x1000"];
+        let _ = check(&rt, &words, &file, PRINTED, None);
     }
     Ok(())
 }

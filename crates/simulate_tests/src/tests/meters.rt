@@ -3,8 +3,9 @@ ghost use Rattle.std.specs.Prelude.{⊤};
 
 use super::calls::{Sheets, request_of, run_told};
 use super::paper::Paper;
+use super::searching::BUFFERING;
 use machine::Progress;
-use simulate::Meter;
+use simulate::{Live, Meter};
 use std::io;
 use std::process::Abort;
 use std::sync::Wait;
@@ -73,11 +74,35 @@ fn nothing_is_shown_where_nobody_looks(rt: HostRuntime) -> Result<(), Fail> {
     Ok(())
 }
 
-/// How often it was told that a run goes on, and that it has ended.
+#[test]
+fn the_line_of_a_search(rt: HostRuntime) -> Result<(), Fail> {
+    let hand = Hand(AtomicU64::new(0));
+    let mut meter = Meter::new(&hand, Paper::endless(rt.alloc()), true);
+    // Of these times, in milliseconds, the second and the fourth are due.
+    for (time, states) in [(999, 1), (1000, 4096), (1199, 5000), (2000, 12_345_678)] {
+        hand.0.store(time, Ordering::Relaxed);
+        meter.tell_states(states);
+    }
+    meter.end();
+    let expected =
+        b"\r\x1b[K4 thousand states, 4 thousand a second\r\x1b[K12345 thousand states, 6172 thousand a second\r\x1b[K";
+    assert_eq!(rt; meter.into_sink().bytes.as_slice(), expected.as_slice());
+    Ok(())
+}
+
+/// How often it was told that a run or a search goes on, and that it has ended.
 #[derive(Clone, Copy, Debug, PartialEq, Eq)]
 struct Tellings {
     goes_on: u32,
     ended: u32,
+}
+
+impl Live for Tellings {
+    fn tell_states(&mut self, states: usize) {
+        if states > 0 {
+            self.goes_on = self.goes_on.saturating_add(1);
+        }
+    }
 }
 
 impl Progress for Tellings {
@@ -115,4 +140,19 @@ fn progress_is_told_unless_a_trace_is(rt: HostRuntime) {
         assert_eq!(rt; (goes_on, ended), (1, 1), "{option}");
     }
     assert_eq!(rt; told_of(&rt, "--trace=-").goes_on, 0);
+}
+
+// A search tells of itself at its first state, and this one has fewer states than it takes to tell again.
+#[test]
+fn progress_of_a_search_is_told(rt: HostRuntime) {
+    let words = ["logtm", "outcomes", "f.s", "--harts=2"];
+    let request = request_of(rt.alloc(), &words).expect(&rt, "a request");
+    let mut tellings = Tellings {
+        goes_on: 0,
+        ended: 0,
+    };
+    let sheets = Sheets::endless(rt.alloc());
+    let told = run_told(&rt, &request, BUFFERING.as_bytes(), &mut tellings, sheets);
+    assert_eq!(rt; told.status, 0);
+    assert_eq!(rt; (tellings.goes_on, tellings.ended), (1, 1));
 }

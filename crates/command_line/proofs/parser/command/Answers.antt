@@ -24,5 +24,6 @@ returns c =
     let version = IfOk-weaker c.with_argument-command.result _ _ (λ made is. is.shape) asked in
     let run = c.with_subcommand-command.ensures _ _ version c.run_command.ensures in
     let debug = c.with_subcommand-command-2.ensures _ _ run c.debug_command.ensures in
-    let dis = c.with_subcommand-command-3.ensures _ _ debug c.dis_command.ensures in
+    let outcomes = c.with_subcommand-command-3.ensures _ _ debug c.outcomes_command.ensures in
+    let dis = c.with_subcommand-command-4.ensures _ _ outcomes c.dis_command.ensures in
     c.with_subcommand.ensures _ _ dis c.asm_command.ensures

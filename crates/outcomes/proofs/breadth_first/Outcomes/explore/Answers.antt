@@ -5,7 +5,7 @@ use Rattle.outcomes.proofs.Together.{below_or_at}
 use Rattle.outcomes.proofs.breadth_first.Outcomes.explore.Goals as goal
 
 pub loop-place-preserved : goal.loop-place-preserved
-loop-place-preserved c =
+loop-place-preserved g c =
     let o = c.args.self.now in
     let n = c.loop-place.self in
     let m = c.expand.new.self in

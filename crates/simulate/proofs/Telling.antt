@@ -1,0 +1,75 @@
+-- What is told by a search that found all ends.
+use Rattle.std.proofs.Common.{◌≡◌, ◌≢◌, ◌<◌, ℕ, Bool, true, false, List, refl, sym, subst, arith}
+use Rattle.std.specs.List.{Contains}
+use Rattle.words.specs.Sinks.{TookAll}
+use Rattle.words.specs.declared.cause.Status.TheVariants.{Running}
+use Rattle.words.specs.declared.entry.Entry.{Entry}
+use Rattle.words.specs.declared.entry.Step.{Step}
+use Rattle.flat.specs.State.{Flat}
+use Rattle.flat.specs.Steps.{IsRun}
+use Rattle.protocol.specs.Caches.{Geometry}
+use Rattle.protocol.specs.Machine.{Machine, Runs}
+use Rattle.protocol.specs.Start.{start}
+use Rattle.isolation.specs.Belongs.{Belongs}
+use Rattle.loader.specs.Programs.{Program}
+use Rattle.reports.specs.Reports.{report_of}
+use Rattle.endings.specs.Walks.{IsEnded, entries_of}
+use Rattle.endings.proofs.Walked.{order_walks, walk_runs}
+use Rattle.ends.specs.declared.gathering.End.{End}
+use Rattle.ends.specs.Ends.{reports_of}
+use Rattle.ends.specs.EndTexts.{ends_text}
+use Rattle.ends.proofs.Told.{told, reached}
+use Rattle.command_line.specs.declared.request.Search.{Search}
+use Rattle.simulate.specs.Ends.{search_start, search_status, states_told, AreEndsGiven}
+use Rattle.simulate.specs.Runs.{addresses}
+use Rattle.simulate.specs.Shown.{Sinks}
+use Rattle.simulate.specs.Sources.{IsProgramIn}
+
+-- only a search that found all ends has the status 0
+all_of_zero : (all : Bool) → 0 ≡ search_status all → all ≡ true
+all_of_zero true e = refl
+all_of_zero false e = absurd (omega (arith, e))
+
+pub all_told : (asked : Search) (file : List ℕ) (before after : Sinks) → AreEndsGiven asked file before after 0
+    → (p : Program) × IsProgramIn asked.file.now file p × ((ends : List End) × (states : ℕ) × TookAll before.output after.output (ends_text ends states true)
+    × ((g : Geometry) (steps : List Step) (es : List Entry) (w : Machine) (f : Flat) →
+    Runs g (start (search_start asked p).setting p.entry) steps es w → ((i : ℕ) → i < asked.harts → (w.harts i).status ≢ Running) → Belongs g f w →
+    Contains (reports_of ends) (report_of f (addresses asked.words.items))))
+all_told asked file before after given =
+    let o = given.0 in
+    let ends = given.1 in
+    let searched = given.2.0 in
+    let p = searched.program in
+    let all : o.is_all ≡ true = all_of_zero o.is_all given.3 in (
+      p,
+      searched.can.holds,
+      (
+        ends,
+        states_told asked o,
+        subst (λ (b : Bool). TookAll before.output after.output (ends_text ends (states_told asked o) b)) all given.4,
+        λ g steps es w f runs stopped belongs.
+            told g (search_start asked p).setting p.entry steps es w searched.can.bytes runs stopped asked.states o (addresses asked.words.items) ends searched.found all given.2.1 f belongs,
+      ),
+    )
+
+pub told_reached : (asked : Search) (file : List ℕ) (before after : Sinks) (status : ℕ) → AreEndsGiven asked file before after status
+    → (p : Program) × IsProgramIn asked.file.now file p × ((ends : List End) × (states : ℕ) × (all : Bool) × TookAll before.output after.output (ends_text ends states all)
+    × ((report : List ℕ) → Contains (reports_of ends) report →
+    (f : Flat) × (es : List Entry) × IsRun (search_start asked p) es f × IsEnded f × (report ≡ report_of f (addresses asked.words.items))))
+told_reached asked file before after status given =
+    let o = given.0 in
+    let ends = given.1 in
+    let searched = given.2.0 in
+    let p = searched.program in (
+      p,
+      searched.can.holds,
+      (
+        ends,
+        states_told asked o,
+        o.is_all,
+        given.4,
+        λ report there.
+            let e = reached (search_start asked p) asked.states o (addresses asked.words.items) ends searched.found given.2.1 report there in
+            (e.1, entries_of e.0, walk_runs (search_start asked p) e.1 e.0 (order_walks (search_start asked p) e.1 e.0 e.2), e.3, sym e.4),
+      ),
+    )
