@@ -1,0 +1,13 @@
+mod agreement;
+mod draws;
+mod encode;
+mod ends;
+mod limits;
+mod litmus;
+mod memory;
+mod pictures;
+mod plain;
+mod programs;
+mod searches;
+mod sources;
+mod stopping;

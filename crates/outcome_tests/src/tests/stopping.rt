@@ -1,0 +1,7 @@
+//! Programs whose ends are known.
+
+mod calls;
+mod conflicts;
+mod logs;
+mod nested;
+mod stops;
