@@ -43,3 +43,12 @@ answered source (Err e) h p is =
       | inl memory ↦ inr memory
       | inr fatal ↦ absurd (clash _ e (assembled source) (assembled_back source is.labels is.layout is.laid_out) (h fatal))
     ]
+
+-- two programs that a source spells are one
+pub one_program : (source : List ℕ) (p q : Program) → IsSourceOf source p → IsSourceOf source q → q ≡ p
+one_program source p q is other =
+    let lines = assembled_back source is.labels is.layout is.laid_out in
+    let same = one_assembled (record { labels = other.labels; layout = other.layout }) (record { labels = is.labels; layout = is.layout }) (assembled source)
+    (assembled_back source other.labels other.layout other.laid_out) lines in
+    let P : Assembled → Type 0 = λ a. IsProgramOf a.labels a.layout q in
+    same_program is.labels is.layout q p (subst P same other.program) is.program

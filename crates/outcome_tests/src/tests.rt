@@ -6,7 +6,6 @@ mod limits;
 mod litmus;
 mod memory;
 mod pictures;
-mod plain;
 mod programs;
 mod searches;
 mod sources;

@@ -11,3 +11,4 @@ pub mod Quoting
 mod ShownRuns
 mod ThreadedRuns
 mod Telling
+mod Determined

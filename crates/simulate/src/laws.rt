@@ -1,6 +1,6 @@
 ghost use Rattle.std.specs.Prelude.{◌≡◌, ◌≢◌, ◌<◌, ℕ, List, Bool, true};
 ghost use Rattle.std.specs.List.{Contains};
-ghost use Rattle.words.specs.Sinks.{TookAll};
+ghost use Rattle.words.specs.Sinks.{SinkState, TookAll};
 ghost use Rattle.words.specs.declared.entry.Entry.{Entry};
 ghost use Rattle.words.specs.declared.entry.Step.{Step};
 ghost use Rattle.words.specs.declared.cause.Status.TheVariants.{Running};
@@ -18,6 +18,7 @@ ghost use Rattle.ends.specs.Ends.{reports_of};
 ghost use Rattle.ends.specs.EndTexts.{ends_text};
 ghost use Rattle.command_line.specs.declared.request.Search.{Search};
 ghost use Rattle.simulate.specs.Ends.{search_start, AreEndsGiven};
+ghost use Rattle.simulate.specs.Files.{IsListed, IsImageOf};
 ghost use Rattle.simulate.specs.Runs.{addresses};
 ghost use Rattle.simulate.specs.Shown.{Sinks};
 ghost use Rattle.simulate.specs.Sources.{IsProgramIn};
@@ -39,4 +40,29 @@ pub fn told_ends_are_reached()
         (p : Program) × IsProgramIn asked.file.now file p × ((ends : List End) × (states : ℕ) × (all : Bool) × TookAll before.output after.output (ends_text ends states all)
         × ((report : List ℕ) → Contains (reports_of ends) report →
         (f : Flat) × (es : List Entry) × IsRun (search_start asked p) es f × IsEnded f × (report ≡ report_of f (addresses asked.words.items)))) }
+{}
+
+/// Two searches of one program that both end with status 0 tell the same reports, whatever their limits are and whatever else they are asked for: with the
+/// same harts, memory and words.
+pub fn told_ends_are_one()
+    ensures { (asked again : Search) (file : List ℕ) (before after earlier later : Sinks) → AreEndsGiven asked file before after 0 → AreEndsGiven again file earlier later 0 →
+        again.file.now ≡ asked.file.now → again.harts ≡ asked.harts → again.memory ≡ asked.memory → addresses again.words.items ≡ addresses asked.words.items →
+        (ends others : List End) × (n m : ℕ) × TookAll before.output after.output (ends_text ends n true) × TookAll earlier.output later.output (ends_text others m true)
+        × (reports_of ends ≡ reports_of others) }
+{}
+
+/// The file with a name and some bytes holds at most one program.
+pub fn files_hold_one_program()
+    ensures { (path file : List ℕ) (p q : Program) → IsProgramIn path file p → IsProgramIn path file q → q ≡ p }
+{}
+
+/// Two listings of the same bytes are one text, with one status.
+pub fn listings_are_one()
+    ensures { (file : List ℕ) (before after earlier later : SinkState) (status other : ℕ) → IsListed file before after status → IsListed file earlier later other →
+        (other ≡ status) × ((text : List ℕ) × TookAll before after text × TookAll earlier later text) }
+{}
+
+/// Two files that a source is assembled to have the same bytes.
+pub fn assembled_files_are_one()
+    ensures { (source image other : List ℕ) → IsImageOf source image → IsImageOf source other → other ≡ image }
 {}

@@ -25,7 +25,10 @@ mod turns;
 pub use carry::{Outcome, carry_out};
 pub use fault::{Fault, RefusedLine};
 pub use files::answer;
-pub use laws::{all_ends_are_told, told_ends_are_reached};
+pub use laws::{
+    all_ends_are_told, assembled_files_are_one, files_hold_one_program, listings_are_one,
+    told_ends_are_one, told_ends_are_reached,
+};
 pub use live::Live;
 pub use meter::Meter;
 pub use page::Page;

@@ -1,11 +1,11 @@
 //! The search of all ends of a program.
-ghost use Rattle.std.specs.Prelude.{◌≡◌, ◌<◌, ℕ, List, IfOk, MatchResult, length};
+ghost use Rattle.std.specs.Prelude.{◌≡◌, ◌<◌, ℕ, List, MatchResult, length};
 ghost use Rattle.std.specs.Option.{option_map};
 ghost use Rattle.outcomes.specs.Searches.{setting_at, IsSearch};
 ghost use Rattle.reports.specs.Reports.{AllReadable};
 ghost use Rattle.texts.specs.Puts.{Puts};
 ghost use Rattle.ends.specs.Ends.{AreEndsOf};
-ghost use Rattle.simulate.specs.Ends.{search_status, states_told, end_numbered, lines_of, CanSearch, IsSearched, IsUnsearched, CanNotBoot, IsRunPut, IsRunUnput, IsWitnessed, IsUnwitnessed, AreEndsGiven, AreEndsNotGiven};
+ghost use Rattle.simulate.specs.Ends.{search_status, states_told, end_numbered, lines_of, IsSearched, IsUnsearched, IsRunPut, IsRunUnput, IsWitnessed, IsUnwitnessed, AreEndsGiven, AreEndsNotGiven};
 ghost use Rattle.simulate.specs.Runs.{addresses};
 
 use crate::fault::Fault;
@@ -16,7 +16,6 @@ use crate::source::program_in;
 use command_line::{Search, Witness};
 use ends::{End, ends_of, put_ends};
 use lines::put_entry;
-use loader::Program;
 use outcomes::{Outcomes, begin};
 use std::alloc::Global;
 use words::{Addr, Entry, Sink, SinkFault};

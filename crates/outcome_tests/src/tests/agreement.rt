@@ -3,10 +3,11 @@
 ghost use Rattle.outcomes.specs.Searches.{IsSearch};
 
 use super::draws::Draws;
-use super::plain::{Ends, Order, all_ends};
 use super::programs::{random_data, random_program};
-use super::searches::{count, picture_after, picture_at, pictures, searched_from, witness_of};
-use super::sources::Source;
+use super::searches::{
+    SIZE, count, picture_after, picture_at, pictures, searched_from, witness_of,
+};
+use interleavings::{Ends, Order, Source, all_ends};
 use outcomes::Outcomes;
 use std::process::Abort;
 use std::test::Fail;
@@ -114,11 +115,13 @@ fn check_program(
     harts: u32,
     tally: &mut Tally,
 ) -> Result<(), Fail> {
-    let Some(all) = all_ends(rt.alloc(), source, harts, Order::Any, MOST)? else {
+    let Some(all) = all_ends(rt.alloc(), source, harts, SIZE, Order::Any, MOST)? else {
         count_one(&mut tally.skipped);
         return Ok(());
     };
-    let reduced = all_ends(rt.alloc(), source, harts, Order::LocalFirst, MOST)?.ok_or("too many")?;
+    let reduced = all_ends(rt.alloc(), source, harts, SIZE, Order::LocalFirst, MOST)?.ok_or(
+        "too many",
+    )?;
     let outcomes = searched_from(rt.alloc(), source, harts, MOST)?;
     check_ends(rt, source, &outcomes, &all)?;
     assert_eq!(rt; outcomes.len(), reduced.states, "{source:?}");

@@ -5,9 +5,9 @@ use super::encode::{
     mul, sw, tbegin,
 };
 use super::ends::{ends_found, exits, set_of};
-use super::plain::{Order, all_ends};
-use super::searches::{pictures, searched};
+use super::searches::{SIZE, pictures, searched};
 use super::sources::text_alone;
+use interleavings::{Order, all_ends};
 use std::process::Abort;
 use std::test::Fail;
 
@@ -143,7 +143,9 @@ fn check(
     assert_eq!(rt; outcomes.len(), reduced);
     let ends = ends_found(rt.alloc(), &outcomes)?;
     assert!(rt; exits(rt.alloc(), &ends)? == set_of(rt.alloc(), exits_wanted)?);
-    let all = all_ends(rt.alloc(), &text_alone(text), 2, Order::Any, 1_000)?.ok_or("too many")?;
+    let all = all_ends(rt.alloc(), &text_alone(text), 2, SIZE, Order::Any, 1_000)?.ok_or(
+        "too many",
+    )?;
     assert_eq!(rt; all.states, states);
     assert!(rt; pictures(rt.alloc(), &outcomes)? == all.pictures);
     Ok(())

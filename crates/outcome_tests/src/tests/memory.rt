@@ -4,11 +4,11 @@ ghost use Rattle.std.specs.Prelude.{IfSome};
 ghost use Rattle.outcomes.specs.Searches.{IsSearch};
 
 use super::encode::{A0, A7, ECALL, T0, TCOMMIT, ZERO, addi, li, lw, sw, tbegin};
-use super::plain::{Order, all_ends};
 use super::searches::{SIZE, count, is_witnessed, searched};
 use super::sources::text_alone;
 use elf_samples::program;
 use flat::BootFault;
+use interleavings::{Order, all_ends};
 use outcomes::{Outcomes, Untold, begin};
 use std::process::Abort;
 use std::test::Fail;
@@ -44,6 +44,7 @@ fn all_is_found_where_there_is_memory(rt: HostRuntime) -> Result<(), Fail> {
         rt.alloc(),
         &text_alone(&adds_once()),
         2,
+        SIZE,
         Order::LocalFirst,
         1_000,
     )?

@@ -4,8 +4,9 @@ ghost use Rattle.std.specs.Prelude.{IfOk};
 ghost use Rattle.outcomes.specs.Searches.{IsSearch};
 
 use super::pictures::picture;
-use super::sources::{Source, program_of, text_alone};
+use super::sources::{program_of, text_alone};
 use flat::BootFault;
+use interleavings::Source;
 use outcomes::{Outcomes, Untold, begin};
 use reference::Machine;
 use std::alloc::{AllocError, Global};

@@ -4,15 +4,9 @@ ghost use Rattle.std.specs.Prelude.{◌≤◌};
 
 use elf_samples::program;
 use flat::BootFault;
+use interleavings::Source;
 use loader::{Program, read_elf};
 use std::alloc::{AllocError, Global};
-
-/// A program: its text, and the words with which memory begins at 0. It begins with zeros where there are none.
-#[derive(Clone, Copy, Debug)]
-pub(crate) struct Source<'t> {
-    pub(crate) text: &'t [u32],
-    pub(crate) data: &'t [u32],
-}
 
 /// A program without data.
 pub(crate) fn text_alone(text: &[u32]) -> Source<'_> {

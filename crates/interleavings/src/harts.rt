@@ -1,7 +1,7 @@
 //! What an instruction that is retired does to a hart and to memory.
 
-use crate::tests::plain::rules::{Rules, bytes_of};
-use crate::tests::plain::states::{Attempt, Core};
+use crate::rules::{Rules, bytes_of};
+use crate::states::{Attempt, Core};
 use std::alloc::{AllocError, Global};
 use std::collections::BTreeMap;
 use table::{Act, AmoOp, Effect, Load, MemoryAct, Store};

@@ -2,7 +2,7 @@
 
 ghost use Rattle.std.specs.Prelude.{◌<◌, ◌≤◌};
 
-use crate::tests::plain::states::{Core, Whole};
+use crate::states::{Core, Whole};
 use std::alloc::{AllocError, Global};
 use std::collections::BTreeMap;
 use table::{Act, Effect, MemoryAct, effect_at};
@@ -13,18 +13,24 @@ const TEXT: u32 = 0x1000;
 
 /// Which moves are made.
 #[derive(Clone, Copy, Debug, PartialEq, Eq)]
-pub(crate) enum Order {
+pub enum Order {
     /// All.
     Any,
     /// Where a hart is at a register operation, a jump or a branch, only that of the lowest such hart.
     LocalFirst,
 }
 
-/// A program's words of text and of data, the size of memory in bytes, the number of harts, and which moves are made.
+/// A program: its text, from 0x1000 on, and the words with which memory begins at 0. It begins with zeros where there are none.
+#[derive(Clone, Copy, Debug)]
+pub struct Source<'p> {
+    pub text: &'p [u32],
+    pub data: &'p [u32],
+}
+
+/// A program, the size of memory in bytes, the number of harts, and which moves are made.
 #[derive(Clone, Copy)]
 pub(crate) struct Rules<'p> {
-    pub(crate) text: &'p [u32],
-    pub(crate) data: &'p [u32],
+    pub(crate) source: Source<'p>,
     pub(crate) size: u32,
     pub(crate) harts: u32,
     pub(crate) order: Order,
@@ -73,13 +79,16 @@ impl Rules<'_> {
         if address < TEXT || address % 4 != 0 {
             return None;
         }
-        self.text.get(((address - TEXT) / 4) as usize).copied()
+        self.source
+            .text
+            .get(((address - TEXT) / 4) as usize)
+            .copied()
     }
 
     /// The byte that memory has at an address when the program begins.
     pub(crate) fn first_byte(&self, address: u32) -> u8 {
         let word = if address < TEXT {
-            self.data.get((address / 4) as usize).copied()
+            self.source.data.get((address / 4) as usize).copied()
         } else {
             self.word(address / 4 * 4)
         };
@@ -95,7 +104,7 @@ impl Rules<'_> {
         let to = from + u64::from(bytes_of(m.width));
         let size = u64::from(self.size);
         let logs = 4096 * u64::from(self.harts);
-        let text = u64::from(TEXT) + 4 * self.text.len().min(1_000_000) as u64;
+        let text = u64::from(TEXT) + 4 * self.source.text.len().min(1_000_000) as u64;
         let stores = m.store.is_some();
         if from % u64::from(bytes_of(m.width)) != 0 {
             Some(if stores {

@@ -1,19 +1,17 @@
 //! All states of a program.
 
-use crate::tests::pictures::{push_hart, push_number};
-use crate::tests::plain::rules::{Order, Rules};
-use crate::tests::plain::states::Whole;
-use crate::tests::searches::SIZE;
-use crate::tests::sources::Source;
+use crate::pictures::{push_hart, push_number};
+use crate::rules::{Order, Rules, Source};
+use crate::states::Whole;
 use std::alloc::{AllocError, Global};
 use std::collections::{BTreeSet, HashSet};
 
 /// What was found: how many states there are, how many of them are ends, and the pictures of these.
 #[derive(Debug, Drop)]
-pub(crate) struct Ends {
-    pub(crate) states: usize,
-    pub(crate) count: usize,
-    pub(crate) pictures: BTreeSet<Vec<u32>>,
+pub struct Ends {
+    pub states: usize,
+    pub count: usize,
+    pub pictures: BTreeSet<Vec<u32>>,
 }
 
 /// The states that were met, and those of them whose moves are still to be made.
@@ -78,18 +76,18 @@ impl Search<'_> {
     }
 }
 
-/// All ends of a program, with as much memory as the searches have. `None` where it has more states than the limit.
-pub(crate) fn all_ends(
+/// All ends of a program on a machine of so many harts and bytes of memory. `None` where it has more states than the limit.
+pub fn all_ends(
     alloc: Global,
     source: &Source<'_>,
     harts: u32,
+    size: u32,
     order: Order,
     limit: usize,
 ) -> Result<Option<Ends>, AllocError> {
     let rules = Rules {
-        text: source.text,
-        data: source.data,
-        size: SIZE,
+        source: *source,
+        size,
         harts,
         order,
     };

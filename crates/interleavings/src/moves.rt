@@ -1,8 +1,8 @@
 //! The states that the moves of a state lead to.
 
-use crate::tests::plain::harts::FULL;
-use crate::tests::plain::rules::{Next, Order, Rules};
-use crate::tests::plain::states::Whole;
+use crate::harts::FULL;
+use crate::rules::{Next, Order, Rules};
+use crate::states::Whole;
 use std::alloc::{AllocError, Global};
 use table::{Act, Effect};
 use words::{Addr, Cause, Status};
