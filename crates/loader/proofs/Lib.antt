@@ -1,7 +1,7 @@
 pub mod Alone
 pub mod Apart
+pub mod Clean
 pub mod Found
-pub mod Laws
 pub mod Loaded
 pub mod Loading
 pub mod Passed

@@ -9,7 +9,7 @@ use Rattle.loader.specs.Programs.{Program}
 use Rattle.loader.specs.Elf.{IsElfOf, program_of}
 use Rattle.std.proofs.lemmas.Result.{IfErr-weaker}
 use Rattle.loader.proofs.Found.{IsFault-found}
-use Rattle.loader.proofs.Laws.{IsElfOf-clean, IsElfOf-one, IsElfOf-passes}
+use Rattle.loader.proofs.Clean.{IsElfOf-clean, IsElfOf-one, IsElfOf-passes}
 
 pub is_elf : (bytes : List ℕ) (r : Result Program LoadFault) → IfOk r (λ p. (fault_of bytes ≡ None) × (p ≡ program_of bytes)) → IfOk r (λ p. IsElfOf bytes p)
 is_elf bytes (Ok p) h = subst (IsElfOf bytes) (sym h.1) (IsElfOf-clean bytes h.0)

@@ -4,7 +4,7 @@ use Rattle.words.specs.Sinks.{SinkState, TookAll}
 use Rattle.loader.specs.Programs.{Program}
 use Rattle.loader.specs.Elf.{IsElfOf}
 use Rattle.loader.specs.Writing.{elf_of}
-use Rattle.loader.proofs.Laws.{IsElfOf-one}
+use Rattle.loader.proofs.Clean.{IsElfOf-one}
 use Rattle.assembler.proofs.Answering.{one_program}
 use Rattle.disassembler.specs.Listing.{listing_of}
 use Rattle.simulate.specs.Files.{IsListed, IsImageOf}

@@ -5,7 +5,7 @@ use Rattle.loader.specs.declared.headers.SegmentHeader.{SegmentHeader}
 use Rattle.loader.specs.Headers.{loaded_headers}
 use Rattle.loader.specs.Checks.{some_share}
 use Rattle.loader.proofs.Table.{found_in}
-use Rattle.loader.proofs.Laws.{table_passes}
+use Rattle.loader.proofs.Clean.{table_passes}
 use Rattle.loader.proofs.Loaded.{loaded_have_bytes}
 use Rattle.loader.proofs.Loading.{at_segment, at_overlap}
 use Rattle.loader.proofs.elf.checked_headers.Goals as goal

@@ -2,7 +2,7 @@ use Rattle.std.proofs.Common.{◌≡◌, map, sym, ap, ◌∙◌, arith}
 use Rattle.std.proofs.lemmas.Result.{err_from_is_err_and}
 use Rattle.loader.specs.Headers.{file_header, segment_of, segments_of}
 use Rattle.loader.specs.Elf.{program_of}
-use Rattle.loader.proofs.Laws.{IsClean-to, IsElfOf-clean, IsElfOf-IsProgram}
+use Rattle.loader.proofs.Clean.{IsClean-to, IsElfOf-clean, IsElfOf-IsProgram}
 use Rattle.loader.proofs.Loading.{at_header, at_table, at_entry, begins, made_program}
 use Rattle.loader.proofs.elf.load.Goals as goal
 

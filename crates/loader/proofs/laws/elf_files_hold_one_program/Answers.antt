@@ -1,5 +1,5 @@
 use Rattle.std.proofs.Common.{sym, ◌∙◌}
-use Rattle.loader.proofs.Laws.{IsElfOf-one}
+use Rattle.loader.proofs.Clean.{IsElfOf-one}
 use Rattle.loader.proofs.laws.elf_files_hold_one_program.Goals as goal
 
 pub returns : goal.returns
