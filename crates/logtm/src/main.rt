@@ -2,7 +2,7 @@
 #![tactic(auto)]
 
 use debugger::{LineInput, Typed};
-use simulate::{Fault, Live, Meter, answer};
+use simulate::{Fault, HostFiles, Live, Meter, Outlet, answer};
 use std::env;
 use std::io::{ErrorKind, IsTerminal, Lock, Read, Write};
 use std::process::ExitCode;
@@ -55,10 +55,24 @@ fn answer_all<
         Err(fault) => return fault.tell(error),
     };
     let words = arguments.iter().map(|argument| argument.as_str());
-    match words.collect::<Vec<&str>>(rt.alloc()) {
-        Ok(words) => answer(rt, &words, input, prompt, progress, out, error),
-        Err(_) => Fault::NoMemory.tell(error),
-    }
+    let (Ok(words), Ok(mut out)) = (
+        words.collect::<Vec<&str>>(rt.alloc()),
+        Outlet::new(rt.alloc(), out),
+    ) else {
+        return Fault::NoMemory.tell(error);
+    };
+    let mut store = HostFiles { host: rt };
+    answer(
+        rt,
+        rt.alloc(),
+        &words,
+        &mut store,
+        input,
+        prompt,
+        progress,
+        &mut out,
+        error,
+    )
 }
 
 /// The words of the command line, the program's name first.

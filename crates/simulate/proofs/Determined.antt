@@ -8,7 +8,14 @@ use Rattle.loader.proofs.Clean.{IsElfOf-one}
 use Rattle.assembler.proofs.Answering.{one_program}
 use Rattle.disassembler.specs.Listing.{listing_of}
 use Rattle.simulate.specs.Files.{IsListed, IsImageOf}
-use Rattle.simulate.specs.Sources.{IsProgramIn, is_source}
+use Rattle.flat.specs.State.{Flat}
+use Rattle.flat.specs.Steps.{IsRun}
+use Rattle.protocol.specs.Caches.{Geometry}
+use Rattle.command_line.specs.declared.request.Setup.{Setup}
+use Rattle.schedule.specs.Moments.{Moment, entries_of}
+use Rattle.simulate.specs.Runs.{ComesBy}
+use Rattle.simulate.specs.Starts.{flat_start}
+use Rattle.simulate.specs.Sources.{IsProgramIn, IsSourceOf, is_source}
 
 not_both : (b : Bool) → b ≡ true → b ≡ false → ⊥
 not_both b yes no = cc
@@ -31,3 +38,10 @@ one_listing file before after earlier later status other one two =
 
 pub one_image : (source image other : List ℕ) → IsImageOf source image → IsImageOf source other → other ≡ image
 one_image source image other one two = two.2 ∙ (ap elf_of (one_program source one.0 two.0 one.1.1 two.1.1) ∙ sym one.2)
+
+-- a run of an assembled file is one of the source's program
+pub one_run : (g : Geometry) (setup : Setup) (source image list : List ℕ) (steps : ℕ) (moments : List Moment) (f : Flat) → IsImageOf source image → is_source setup.file.now ≡ false
+    → ComesBy g setup image list steps moments f → (p : Program) × IsSourceOf source p × IsRun (flat_start p setup) (entries_of moments) f
+one_run g setup source image list steps moments f made elf comes =
+    let same = one_in_file setup.file.now image made.0 comes.program (inr (elf, made.3)) comes.holds in
+    (made.0, made.1, subst (λ (p : Program). IsRun (flat_start p setup) (entries_of moments) f) same comes.run)

@@ -18,6 +18,6 @@ abbrev pub IsUnlisted : List ℕ → SinkState → SinkState → Fault → Type 
 IsUnlisted file before after fault = ((fault ≡ Unwritten) × ((p : Program) × IsElfOf file p × TookPart before after (listing_of p)))
     ⊎ (IsElfFault file fault × IsUntouched before after)
 
--- the bytes are those of an ELF file of the program that a source makes
+-- the bytes are those of an ELF file of the program that a source makes, and are read as this very program
 abbrev pub IsImageOf : List ℕ → List ℕ → Type 0
-IsImageOf source image = (p : Program) × IsSourceOf source p × (image ≡ elf_of p)
+IsImageOf source image = (p : Program) × IsSourceOf source p × (image ≡ elf_of p) × IsElfOf image p

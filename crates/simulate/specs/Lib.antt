@@ -17,3 +17,6 @@ pub mod Files
 pub mod Ends
 pub mod Carried
 pub mod ProgressLines
+pub mod Stored
+pub mod Sheets
+pub mod Answered

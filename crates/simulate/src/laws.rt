@@ -1,4 +1,4 @@
-ghost use Rattle.std.specs.Prelude.{◌≡◌, ◌≢◌, ◌<◌, ℕ, List, Bool, true};
+ghost use Rattle.std.specs.Prelude.{◌≡◌, ◌≢◌, ◌<◌, ℕ, List, Bool, true, false};
 ghost use Rattle.std.specs.List.{Contains};
 ghost use Rattle.words.specs.Sinks.{SinkState, TookAll};
 ghost use Rattle.words.specs.declared.entry.Entry.{Entry};
@@ -17,11 +17,14 @@ ghost use Rattle.ends.specs.declared.gathering.End.{End};
 ghost use Rattle.ends.specs.Ends.{reports_of};
 ghost use Rattle.ends.specs.EndTexts.{ends_text};
 ghost use Rattle.command_line.specs.declared.request.Search.{Search};
+ghost use Rattle.command_line.specs.declared.request.Setup.{Setup};
+ghost use Rattle.schedule.specs.Moments.{Moment, entries_of};
 ghost use Rattle.simulate.specs.Ends.{search_start, AreEndsGiven};
 ghost use Rattle.simulate.specs.Files.{IsListed, IsImageOf};
-ghost use Rattle.simulate.specs.Runs.{addresses};
+ghost use Rattle.simulate.specs.Runs.{ComesBy, addresses};
 ghost use Rattle.simulate.specs.Shown.{Sinks};
-ghost use Rattle.simulate.specs.Sources.{IsProgramIn};
+ghost use Rattle.simulate.specs.Sources.{IsProgramIn, IsSourceOf, is_source};
+ghost use Rattle.simulate.specs.Starts.{flat_start};
 
 /// Where a search ends with status 0, all ends are told: for every cache, and for every list of core, eviction and delivery steps from where the file's
 /// program begins to a machine whose harts have all stopped, the report on that machine is among those that standard output took.
@@ -65,4 +68,11 @@ pub fn listings_are_one()
 /// Two files that a source is assembled to have the same bytes.
 pub fn assembled_files_are_one()
     ensures { (source image other : List ℕ) → IsImageOf source image → IsImageOf source other → other ≡ image }
+{}
+
+/// From a source to a run: what a run of the assembled file comes to, the flat machine comes to from where the source's program begins.
+pub fn assembled_files_run_as_spelled()
+    ensures { (g : Geometry) (setup : Setup) (source image list : List ℕ) (steps : ℕ) (moments : List Moment) (f : Flat) →
+        IsImageOf source image → is_source setup.file.now ≡ false → ComesBy g setup image list steps moments f →
+        (p : Program) × IsSourceOf source p × IsRun (flat_start p setup) (entries_of moments) f }
 {}

@@ -8,8 +8,8 @@ mod carry;
 mod conclude;
 mod counting;
 mod debugging;
+mod entry;
 mod fault;
-mod files;
 mod laws;
 mod live;
 mod meter;
@@ -19,16 +19,18 @@ pub mod readable;
 mod search;
 mod serving;
 pub mod source;
+mod store;
 mod threads;
 mod turns;
 
 pub use carry::{Outcome, carry_out};
+pub use entry::answer;
 pub use fault::{Fault, RefusedLine};
-pub use files::answer;
 pub use laws::{
-    all_ends_are_told, assembled_files_are_one, files_hold_one_program, listings_are_one,
+    all_ends_are_told, assembled_files_are_one, assembled_files_run_as_spelled, files_hold_one_program, listings_are_one,
     told_ends_are_one, told_ends_are_reached,
 };
 pub use live::Live;
 pub use meter::Meter;
-pub use page::Page;
+pub use page::{Outlet, Page};
+pub use store::{HostFiles, Store, StoreFault};

@@ -1,6 +1,8 @@
-ghost use Rattle.std.specs.Prelude.{None, []};
+ghost use Rattle.std.specs.Prelude.{◌≡◌, None, []};
 ghost use Rattle.texts.specs.Puts.{Puts};
 
+use std::alloc::Global;
+use std::io;
 use std::io::{BufWriter, Error, Write};
 use words::{Sink, SinkFault};
 
@@ -9,28 +11,39 @@ pub trait Page: Sink {
     /// Writes out what was kept back. It takes no more bytes, and fails as a put does.
     fn flush(&mut self) -> Result<(), SinkFault>
         ensures { Puts (Self.state self.old) (Self.state self.new) [] result };
+
+    /// From now on nothing is kept back.
+    fn write_at_once(&mut self)
+        ensures { Self.state self.new ≡ Self.state self.old };
 }
 
-/// Where what is put goes.
-#[derive(Drop)]
-pub enum Stream<W: Write + Drop> {
-    Buffered(BufWriter<W>),
-    Direct(W),
-    /// There is no writer. All that is put is taken.
-    Nowhere,
-}
-
-/// A sink over a stream. It tells only how many puts failed, since a write that fails says nothing of what was written before.
+/// A sink over a writer, with a buffer before it. It tells only how many puts failed, since a write that fails says nothing of what was written before.
 #[derive(Drop)]
 pub struct Outlet<W: Write + Drop> {
-    stream: Stream<W>,
+    writer: BufWriter<W>,
+    at_once: bool,
     failed: u64,
 }
 
 impl<W: Write + Drop> Outlet<W> {
-    /// One into which nothing was put yet.
-    pub fn new(stream: Stream<W>) -> Self {
-        Outlet { stream, failed: 0 }
+    /// One into which nothing was put yet. It fails only if memory runs out.
+    pub fn new(alloc: Global, writer: W) -> io::Result<Self> {
+        Ok(Outlet {
+            writer: BufWriter::new(alloc, writer)?,
+            at_once: false,
+            failed: 0,
+        })
+    }
+
+    /// Puts bytes into the buffer, and writes it out if nothing is to be kept back.
+    fn write(&mut self, bytes: &[u8]) -> io::Result<()>
+        ensures { self.new.failed ≡ self.old.failed }
+    {
+        self.writer.write_all(bytes)?;
+        if self.at_once {
+            self.writer.flush()?;
+        }
+        Ok(())
     }
 
     /// Counts a write that failed.
@@ -51,22 +64,53 @@ impl<W: Write + Drop> Sink for Outlet<W> {
     ghost state = { λ o. record { taken = None; failed = o.failed } };
 
     fn put(&mut self, bytes: &[u8]) -> Result<(), SinkFault> {
-        let written = match &mut self.stream {
-            Stream::Buffered(writer) => writer.write_all(bytes),
-            Stream::Direct(writer) => writer.write_all(bytes),
-            Stream::Nowhere => Ok(()),
-        };
+        let written = self.write(bytes);
         self.note(written)
     }
 }
 
 impl<W: Write + Drop> Page for Outlet<W> {
     fn flush(&mut self) -> Result<(), SinkFault> {
-        let written = match &mut self.stream {
-            Stream::Buffered(writer) => writer.flush(),
-            Stream::Direct(writer) => writer.flush(),
-            Stream::Nowhere => Ok(()),
-        };
+        let written = self.writer.flush();
         self.note(written)
+    }
+
+    fn write_at_once(&mut self) {
+        self.at_once = true;
+    }
+}
+
+/// A file that is being made, or none: then all that is put is taken, and is nowhere.
+#[derive(Drop)]
+pub enum Sheet<P: Drop> {
+    Nowhere,
+    Made(P),
+}
+
+impl<P: Page + Drop> Sink for Sheet<P> {
+    ghost use Rattle.simulate.specs.Sheets.{state_of};
+
+    ghost state = { state_of P.state };
+
+    fn put(&mut self, bytes: &[u8]) -> Result<(), SinkFault> {
+        match self {
+            Sheet::Made(page) => page.put(bytes),
+            Sheet::Nowhere => Ok(()),
+        }
+    }
+}
+
+impl<P: Page + Drop> Page for Sheet<P> {
+    fn flush(&mut self) -> Result<(), SinkFault> {
+        match self {
+            Sheet::Made(page) => page.flush(),
+            Sheet::Nowhere => Ok(()),
+        }
+    }
+
+    fn write_at_once(&mut self) {
+        if let Sheet::Made(page) = self {
+            page.write_at_once();
+        }
     }
 }

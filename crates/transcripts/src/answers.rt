@@ -1,7 +1,7 @@
 use crate::echo::Echoed;
 use debugger::{LineInput, Typed};
 use machine::Silent;
-use simulate::answer;
+use simulate::{HostFiles, Outlet, answer};
 use std::io::Read;
 use std::rt::Files;
 use std::sync::Wait;
@@ -126,5 +126,16 @@ fn status_of<R: Files + Threads + Wait + Sync + AllocGlobal + Print, I: LineInpu
     error: &mut E,
 ) -> io::Result<u8> {
     let words = command.split(' ').collect::<Vec<&str>>(rt.alloc())?;
-    Ok(answer(rt, &words, input, "", &mut Silent, io::writer(rt), error))
+    let mut out = Outlet::new(rt.alloc(), io::writer(rt))?;
+    Ok(answer(
+        rt,
+        rt.alloc(),
+        &words,
+        &mut HostFiles { host: rt },
+        input,
+        "",
+        &mut Silent,
+        &mut out,
+        error,
+    ))
 }

@@ -1,0 +1,203 @@
+-- What comes of the words of a command line: what is read and made of files, put into standard output and told, and the status.
+use Rattle.std.specs.Prelude.{ℕ, ◌≡◌, ◌<◌, ◌≤◌, ◌+◌, ◌⊎◌, Bool, true, false, List, [], length, Option, Some, None, Result, IsOk}
+use Rattle.std.specs.Borrow.{Bor}
+use Rattle.words.specs.Sinks.{IsPut, IsUntouched, SinkState, TookAll, TookPart}
+use Rattle.words.specs.declared.sink.SinkFault.{SinkFault}
+use Rattle.texts.specs.Puts.{Puts}
+use Rattle.command_line.specs.Reading.{IsRequestOf, IsFaultOf}
+use Rattle.command_line.specs.declared.fault.OrderFault.{OrderFault}
+use Rattle.command_line.specs.declared.request.Request.{Request}
+use Rattle.command_line.specs.declared.request.Request.TheVariants as request
+use Rattle.command_line.specs.declared.request.Show.TheVariants.{View}
+use Rattle.command_line.specs.declared.request.Way.{Way}
+use Rattle.command_line.specs.declared.request.Way.TheVariants.{Turns, Threads}
+use Rattle.command_line.specs.declared.request.Witness.{Witness}
+use Rattle.debugger.specs.Plays.{Giving}
+use Rattle.reports.specs.Statuses.{IsReported}
+use Rattle.simulate.specs.Carried.{IsCarriedOut}
+use Rattle.simulate.specs.Faults.{fault_status, fault_text, of_order}
+use Rattle.simulate.specs.Sheets.{state_of}
+use Rattle.simulate.specs.Shown.{Sinks}
+use Rattle.simulate.specs.declared.fault.Fault.{Fault}
+use Rattle.simulate.specs.declared.fault.Fault.TheVariants.{Unread, TooLong, Unmade, Unwritten, NoMemory}
+use Rattle.simulate.specs.declared.page.Sheet.{Sheet}
+use Rattle.simulate.specs.declared.page.Sheet.TheVariants.{Nowhere, Made}
+
+-- The files that a request names
+
+-- that which it reads: a program's, or a source's
+abbrev pub file_of : Request → Bor (List ℕ)
+file_of (request.Run run) = run.setup.file
+file_of (request.Debug setup) = setup.file
+file_of (request.Outcomes asked) = asked.file
+file_of (request.Dis path) = path
+file_of (request.Asm source target) = source
+
+abbrev pub schedule_in : Way → Option (Bor (List ℕ))
+schedule_in (Turns schedule show) = schedule
+schedule_in (Threads history) = None
+
+-- that of a schedule, if it names one
+abbrev pub schedule_of : Request → Option (Bor (List ℕ))
+schedule_of (request.Run run) = schedule_in run.way
+schedule_of other = None
+
+abbrev pub page_in : Way → Option (Bor (List ℕ))
+page_in (Turns schedule (View view path)) = Some path
+page_in (Turns schedule other) = None
+page_in (Threads history) = history
+
+abbrev pub witness_in : Option Witness → Option (Bor (List ℕ))
+witness_in None = None
+witness_in (Some w) = Some w.path
+
+-- that of a view, a history or a run to an outcome, if one is to be made
+abbrev pub page_of : Request → Option (Bor (List ℕ))
+page_of (request.Run run) = page_in run.way
+page_of (request.Outcomes asked) = witness_in asked.witness
+page_of other = None
+
+-- a file has at most so many bytes: 32 MiB
+abbrev pub most_bytes : ℕ
+most_bytes = 33554432
+
+-- what there is around the program: the files, the input, standard output, and where the user is told of faults
+pub record World (S I : Type 0) : Type 0 where
+  pub store : S
+  pub input : I
+  pub output : SinkState
+  pub error : SinkState
+
+-- The files
+
+module _ {S : Type 0} (reads : S → List ℕ → ℕ → List ℕ → Type 0) (refuses : S → List ℕ → Type 0) (s : S) where
+  -- the file with this path has these bytes
+  abbrev pub IsReadAt : List ℕ → List ℕ → Type 0
+  IsReadAt path bytes = reads s path (most_bytes + 1) bytes × (length bytes ≤ most_bytes)
+
+  -- why it isn't read: it can't be, or it is too long. Nothing is said of when memory runs out
+  abbrev pub IsUnreadAt : Bor (List ℕ) → Fault → Type 0
+  IsUnreadAt path (Unread at) = (at ≡ path) × refuses s path.now
+  IsUnreadAt path (TooLong at) = (at ≡ path) × ((bytes : List ℕ) × reads s path.now (most_bytes + 1) bytes × (most_bytes < length bytes))
+  IsUnreadAt path NoMemory = Unit {0}
+  IsUnreadAt path other = ⊥
+
+  -- the same of a file that may not be asked for: then there are no bytes
+  abbrev pub IsReadIf : Option (Bor (List ℕ)) → List ℕ → Type 0
+  IsReadIf None bytes = bytes ≡ []
+  IsReadIf (Some path) bytes = IsReadAt path.now bytes
+
+  abbrev pub IsUnreadIf : Option (Bor (List ℕ)) → Fault → Type 0
+  IsUnreadIf None fault = ⊥
+  IsUnreadIf (Some path) fault = IsUnreadAt path fault
+
+-- why a file isn't begun: it can't be made. Nothing is said of when memory runs out
+abbrev pub IsUnbegunAt : {S : Type 0} → (S → List ℕ → Type 0) → S → Bor (List ℕ) → Fault → Type 0
+IsUnbegunAt refuses s path (Unmade at) = (at ≡ path) × refuses s path.now
+IsUnbegunAt refuses s path NoMemory = Unit {0}
+IsUnbegunAt refuses s path other = ⊥
+
+-- the same of a file that may not be asked for
+abbrev pub IsUnbegunIf : {S : Type 0} → (S → List ℕ → Type 0) → S → Option (Bor (List ℕ)) → Fault → Type 0
+IsUnbegunIf refuses s None fault = ⊥
+IsUnbegunIf refuses s (Some path) fault = IsUnbegunAt refuses s path fault
+
+module _ {S P : Type 0} (begins : S → List ℕ → S → P → Type 0) (ends : S → P → S → Type 0) (state : P → SinkState) where
+  -- a file was begun, where one is asked for
+  abbrev pub IsSheetFor : Option (Bor (List ℕ)) → S → S → Sheet P → Type 0
+  IsSheetFor None s t sheet = (t ≡ s) × (sheet ≡ Nowhere)
+  IsSheetFor (Some path) s t sheet = (page : P) × begins s path.now t page × (sheet ≡ Made page)
+
+  -- what a file kept back was written out, if it could be, and it is done
+  abbrev pub IsClosed : S → Sheet P → S → Type 0
+  IsClosed s Nowhere t = t ≡ s
+  IsClosed s (Made page) t = (closed : P) × (r : Result Unit SinkFault) × Puts (state page) (state closed) [] r × ends s closed t
+
+  -- a file with this path was made of these bytes
+  pub record IsFileMade (path bytes : List ℕ) (s t : S) : Type 0 where
+    pub open : S
+    pub page : P
+    pub begun : begins s path open page
+    pub closed : P
+    pub took : TookAll (state page) (state closed) bytes
+    pub done : ends open closed t
+
+  -- or of a beginning of them
+  pub record IsFileCut (path bytes : List ℕ) (s t : S) : Type 0 where
+    pub open : S
+    pub page : P
+    pub begun : begins s path open page
+    pub closed : P
+    pub took : TookPart (state page) (state closed) bytes
+    pub done : ends open closed t
+
+module _ {S P : Type 0} (refuses : S → List ℕ → Type 0) (begins : S → List ℕ → S → P → Type 0) (ends : S → P → S → Type 0) (state : P → SinkState) where
+  -- why a file of these bytes wasn't made: it couldn't be begun, or not all of them were written
+  abbrev pub IsFileUnmade : Bor (List ℕ) → List ℕ → S → Fault → S → Type 0
+  IsFileUnmade path bytes s fault t = (IsUnbegunAt refuses s path fault × (t ≡ s)) ⊎ ((fault ≡ Unmade path) × IsFileCut begins ends state path.now bytes s t)
+
+  -- the file that a request asks for was made, if it asks for one
+  abbrev pub IsImageMade : Request → Option (List ℕ) → S → S → Type 0
+  IsImageMade (request.Asm source target) (Some bytes) s t = IsFileMade begins ends state target.now bytes s t
+  IsImageMade other image s t = t ≡ s
+
+  -- or it was not
+  abbrev pub IsImageUnmade : Request → Option (List ℕ) → S → Fault → S → Type 0
+  IsImageUnmade (request.Asm source target) (Some bytes) s fault t = IsFileUnmade target bytes s fault t
+  IsImageUnmade other image s fault t = ⊥
+
+-- The request
+
+-- what standard output kept back was written out; or a put failed, behind a status that is no report's
+pub record IsWritten (status : ℕ) (before after : SinkState) : Type 0 where
+  pub written : Result Unit SinkFault
+  pub puts : Puts before after [] written
+  pub clean : IsReported status → IsOk written
+
+abbrev pub IsWrittenOut : {S I : Type 0} → World S I → ℕ → World S I → Type 0
+IsWrittenOut v status w = IsWritten status v.output w.output × (w ≡ record v { output = w.output })
+
+module _ {S I P : Type 0} (reads : S → List ℕ → ℕ → List ℕ → Type 0) (refuses : S → List ℕ → Type 0) (begins : S → List ℕ → S → P → Type 0) (ends : S → P → S → Type 0)
+    (state : P → SinkState) (gives : Giving I) (prompt : List ℕ) where
+  module _ (request : Request) (file list : List ℕ) where
+    -- it was carried out, with the file of a view, a history or a run begun before and done behind it
+    abbrev pub IsCarried : World S I → ℕ → Option (List ℕ) → World S I → Type 0
+    IsCarried v status image w = (open : S) × (sheet left : Sheet P) × IsSheetFor begins ends state (page_of request) v.store open sheet
+        × IsCarriedOut gives file list prompt v.input w.input (record { output = v.output; file = state_of state sheet }) (record { output = w.output; file = state_of state left })
+        v.error w.error request status image
+        × IsClosed begins ends state open left w.store
+
+    -- all was made, with this status
+    abbrev pub IsMadeOf : World S I → ℕ → World S I → Type 0
+    IsMadeOf v status w = (image : Option (List ℕ)) × (u x : World S I) × IsCarried v status image u × IsWrittenOut u status x
+        × IsImageMade refuses begins ends state request image x.store w.store × (w ≡ record x { store = w.store })
+
+    -- or not: a file couldn't be begun, and nothing was made; or standard output could not be written behind a report; or the file that is asked for could not be made
+    abbrev pub IsUnmadeOf : World S I → Fault → World S I → Type 0
+    IsUnmadeOf v fault w = (IsUnbegunIf refuses v.store (page_of request) fault × (w ≡ v))
+        ⊎ ((status : ℕ) × (image : Option (List ℕ)) × (u : World S I) × IsCarried v status image u
+        × (((fault ≡ Unwritten) × IsReported status × TookPart u.output w.output [] × (w ≡ record u { output = w.output }))
+        ⊎ ((x : World S I) × IsWrittenOut u status x × IsImageUnmade refuses begins ends state request image x.store fault w.store × (w ≡ record x { store = w.store }))))
+
+  -- the files that it names were read, and then it was made; or why not
+  abbrev pub IsServed : Request → World S I → ℕ → World S I → Type 0
+  IsServed request v status w = (file list : List ℕ) × IsReadAt reads refuses v.store (file_of request).now file × IsReadIf reads refuses v.store (schedule_of request) list
+      × IsMadeOf request file list v status w
+
+  abbrev pub IsUnserved : Request → World S I → Fault → World S I → Type 0
+  IsUnserved request v fault w = ((IsUnreadAt reads refuses v.store (file_of request) fault ⊎ IsUnreadIf reads refuses v.store (schedule_of request) fault) × (w ≡ v))
+      ⊎ ((file list : List ℕ) × IsReadAt reads refuses v.store (file_of request).now file × IsReadIf reads refuses v.store (schedule_of request) list
+      × IsUnmadeOf request file list v fault w)
+
+  -- the words say a request, which was served; or why nothing was
+  abbrev pub IsObeyed : List (List ℕ) → World S I → ℕ → World S I → Type 0
+  IsObeyed words v status w = (request : Request) × IsRequestOf words request × IsServed request v status w
+
+  abbrev pub IsDisobeyed : List (List ℕ) → World S I → Fault → World S I → Type 0
+  IsDisobeyed words v fault w = ((order : OrderFault) × IsFaultOf words order × (fault ≡ of_order order) × (w ≡ v))
+      ⊎ ((request : Request) × IsRequestOf words request × IsUnserved request v fault w)
+
+  -- The words were answered: what they ask for was done, with this status; or the user was told of the fault for which it was not, and the status is the fault's.
+  abbrev pub IsAnswered : List (List ℕ) → World S I → ℕ → World S I → Type 0
+  IsAnswered words v status w = IsObeyed words v status w
+      ⊎ ((fault : Fault) × (u : World S I) × IsDisobeyed words v fault u × (status ≡ fault_status fault) × IsPut u.error w.error (fault_text fault) × (w ≡ record u { error = w.error }))
