@@ -1,5 +1,6 @@
 -- A file holds one program, and what is made of it is one text.
-use Rattle.std.proofs.Common.{◌≡◌, ⊥, ◌⊎◌, inl, inr, ℕ, Bool, true, false, List, refl, sym, ap, subst, ◌∙◌}
+use Rattle.std.proofs.Common.{◌≡◌, ◌⊎◌, inl, inr, ℕ, Bool, true, false, List, refl, sym, ap, subst, ◌∙◌}
+use Rattle.std.proofs.lemmas.Bool.{true≢false}
 use Rattle.words.specs.Sinks.{SinkState, TookAll}
 use Rattle.loader.specs.Programs.{Program}
 use Rattle.loader.specs.Elf.{IsElfOf}
@@ -18,7 +19,7 @@ use Rattle.simulate.specs.Starts.{flat_start}
 use Rattle.simulate.specs.Sources.{IsProgramIn, IsSourceOf, is_source}
 
 not_both : (b : Bool) → b ≡ true → b ≡ false → ⊥
-not_both b yes no = cc
+not_both b e f = true≢false (sym e ∙ f)
 
 -- two programs of an ELF file are one
 one_elf : (file : List ℕ) (p q : Program) → IsElfOf file p → IsElfOf file q → q ≡ p
@@ -33,8 +34,8 @@ one_in_file path file p q (inr is) (inr other) = one_elf file p q is.1 other.1
 pub one_listing : (file : List ℕ) (before after earlier later : SinkState) (status other : ℕ) → IsListed file before after status → IsListed file earlier later other
     → (other ≡ status) × ((text : List ℕ) × TookAll before after text × TookAll earlier later text)
 one_listing file before after earlier later status other one two =
-    let same = one_elf file one.1 two.1 one.2 two.2 in
-    (two.0 ∙ sym one.0, listing_of one.1, one.3, subst (λ (p : Program). TookAll earlier later (listing_of p)) same two.3)
+    let same = one_elf file one.1.0 two.1.0 one.1.1 two.1.1 in
+    (two.0 ∙ sym one.0, (listing_of one.1.0, one.1.2, subst (λ (p : Program). TookAll earlier later (listing_of p)) same two.1.2))
 
 pub one_image : (source image other : List ℕ) → IsImageOf source image → IsImageOf source other → other ≡ image
 one_image source image other one two = two.2 ∙ (ap elf_of (one_program source one.0 two.0 one.1.1 two.1.1) ∙ sym one.2)

@@ -1,9 +1,7 @@
 -- What comes of the words of a command line: what is read and made of files, put into standard output and told, and the status.
-use Rattle.std.specs.Prelude.{ℕ, ◌≡◌, ◌<◌, ◌≤◌, ◌+◌, ◌⊎◌, Bool, true, false, List, [], length, Option, Some, None, Result, IsOk}
+use Rattle.std.specs.Prelude.{ℕ, ◌≡◌, ◌<◌, ◌≤◌, ◌+◌, ◌⊎◌, List, [], length, Option, Some, None}
 use Rattle.std.specs.Borrow.{Bor}
 use Rattle.words.specs.Sinks.{IsPut, IsUntouched, SinkState, TookAll, TookPart}
-use Rattle.words.specs.declared.sink.SinkFault.{SinkFault}
-use Rattle.texts.specs.Puts.{Puts}
 use Rattle.command_line.specs.Reading.{IsRequestOf, IsFaultOf}
 use Rattle.command_line.specs.declared.fault.OrderFault.{OrderFault}
 use Rattle.command_line.specs.declared.request.Request.{Request}
@@ -111,25 +109,25 @@ module _ {S P : Type 0} (begins : S → List ℕ → S → P → Type 0) (ends :
   -- what a file kept back was written out, if it could be, and it is done
   abbrev pub IsClosed : S → Sheet P → S → Type 0
   IsClosed s Nowhere t = t ≡ s
-  IsClosed s (Made page) t = (closed : P) × (r : Result Unit SinkFault) × Puts (state page) (state closed) [] r × ends s closed t
+  IsClosed s (Made page) t = (closed : P) × IsPut (state page) (state closed) [] × ends s closed t
 
   -- a file with this path was made of these bytes
   pub record IsFileMade (path bytes : List ℕ) (s t : S) : Type 0 where
-    pub open : S
+    pub opened : S
     pub page : P
-    pub begun : begins s path open page
+    pub begun : begins s path opened page
     pub closed : P
     pub took : TookAll (state page) (state closed) bytes
-    pub done : ends open closed t
+    pub done : ends opened closed t
 
   -- or of a beginning of them
   pub record IsFileCut (path bytes : List ℕ) (s t : S) : Type 0 where
-    pub open : S
+    pub opened : S
     pub page : P
-    pub begun : begins s path open page
+    pub begun : begins s path opened page
     pub closed : P
     pub took : TookPart (state page) (state closed) bytes
-    pub done : ends open closed t
+    pub done : ends opened closed t
 
 module _ {S P : Type 0} (refuses : S → List ℕ → Type 0) (begins : S → List ℕ → S → P → Type 0) (ends : S → P → S → Type 0) (state : P → SinkState) where
   -- why a file of these bytes wasn't made: it couldn't be begun, or not all of them were written
@@ -149,10 +147,8 @@ module _ {S P : Type 0} (refuses : S → List ℕ → Type 0) (begins : S → Li
 -- The request
 
 -- what standard output kept back was written out; or a put failed, behind a status that is no report's
-pub record IsWritten (status : ℕ) (before after : SinkState) : Type 0 where
-  pub written : Result Unit SinkFault
-  pub puts : Puts before after [] written
-  pub clean : IsReported status → IsOk written
+abbrev pub IsWritten : ℕ → SinkState → SinkState → Type 0
+IsWritten status before after = TookAll before after [] ⊎ (TookPart before after [] × (IsReported status → ⊥))
 
 abbrev pub IsWrittenOut : {S I : Type 0} → World S I → ℕ → World S I → Type 0
 IsWrittenOut v status w = IsWritten status v.output w.output × (w ≡ record v { output = w.output })
@@ -162,10 +158,10 @@ module _ {S I P : Type 0} (reads : S → List ℕ → ℕ → List ℕ → Type 
   module _ (request : Request) (file list : List ℕ) where
     -- it was carried out, with the file of a view, a history or a run begun before and done behind it
     abbrev pub IsCarried : World S I → ℕ → Option (List ℕ) → World S I → Type 0
-    IsCarried v status image w = (open : S) × (sheet left : Sheet P) × IsSheetFor begins ends state (page_of request) v.store open sheet
+    IsCarried v status image w = (opened : S) × (sheet left : Sheet P) × IsSheetFor begins ends state (page_of request) v.store opened sheet
         × IsCarriedOut gives file list prompt v.input w.input (record { output = v.output; file = state_of state sheet }) (record { output = w.output; file = state_of state left })
         v.error w.error request status image
-        × IsClosed begins ends state open left w.store
+        × IsClosed begins ends state opened left w.store
 
     -- all was made, with this status
     abbrev pub IsMadeOf : World S I → ℕ → World S I → Type 0

@@ -169,8 +169,9 @@ fn write_out<'a, O: Page>(status: u8, out: &mut O) -> Result<(), Fault<'a>>
         (λ fault. (fault ≡ Unwritten) × IsReported status × TookPart (O.state out.old) (O.state out.new) []) }
 {
     match out.flush() {
+        Ok(()) => Ok(()),
         Err(_) if is_report(status) => Err(Fault::Unwritten),
-        _ => Ok(()),
+        Err(_) => Ok(()),
     }
 }
 

@@ -9,5 +9,6 @@ mod orders;
 mod paper;
 mod running;
 mod searching;
+mod storing;
 mod threads;
 mod tracing;

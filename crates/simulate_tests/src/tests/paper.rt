@@ -79,4 +79,5 @@ impl Page for Paper {
         self.failed = self.failed.saturating_add(1);
         Err(SinkFault)
     }
+    fn write_at_once(&mut self) {}
 }
