@@ -31,11 +31,7 @@ SECTIONS
     __tdata_start = ADDR(.tdata);
     __tdata_end = ADDR(.tdata) + SIZEOF(.tdata);
     __tls_size = ALIGN(ADDR(.tbss) + SIZEOF(.tbss) - ADDR(.tdata), 64);
-    .data : ALIGN(32) {
-        *(.data .data.*)
-        __global_pointer$ = . + 0x400;
-        *(.sdata .sdata.*)
-    } :data
+    .data : ALIGN(32) { *(.data .data.* .sdata .sdata.*) } :data
     .bss : ALIGN(32) { *(.sbss .sbss.*) *(.bss .bss.*) *(COMMON) } :data
     PROVIDE(logtm_give_up = logtm_no_transaction);
     __heap_start = ALIGN(ADDR(.bss) + SIZEOF(.bss), 64);

@@ -3,10 +3,6 @@
         .text
         .globl  _start
 _start:
-        .option push
-        .option norelax
-        la      gp, __global_pointer$
-        .option pop
         slli    t0, a0, 12              # the stacks begin 4096 n bytes below the top of hart 0's
         add     t0, t0, sp
         slli    t1, a1, 12

@@ -1,0 +1,78 @@
+// malloc, calloc and free in blocks: a cancelled one gives back what it took, and keeps what it gave back. So the heap isn't used up in many rounds.
+#include "check.h"
+
+enum { ROUNDS = 60, SIZE = 3000 };
+
+struct piece {
+    struct piece *next;
+    unsigned value;
+};
+
+static struct piece *first __attribute__((aligned(32)));
+static unsigned taken __attribute__((aligned(32)));
+static struct barrier barrier;
+
+static void push(unsigned value)
+{
+    __transaction_atomic {
+        struct piece *piece = malloc(sizeof *piece);
+        piece->value = value;
+        piece->next = first;
+        first = piece;
+    }
+}
+
+static unsigned pop(void)
+{
+    unsigned value = 0;
+    __transaction_atomic {
+        struct piece *piece = first;
+        if (piece) {
+            first = piece->next;
+            value = piece->value;
+            free(piece);
+        }
+    }
+    return value;
+}
+
+static void cancelled(char *kept)
+{
+    __transaction_atomic {
+        char *large = malloc(SIZE);
+        unsigned *zeros = calloc(10, sizeof *zeros);
+        if (!large || !zeros || zeros[9] != 0)
+            kept[0] = 'n';
+        large[SIZE - 1] = 'x';
+        free(kept);
+        if (large[SIZE - 1] == 'x')
+            __transaction_cancel;
+    }
+}
+
+int main(void)
+{
+    char *kept = malloc(100);
+    for (unsigned i = 0; i < 100; i++)
+        kept[i] = i;
+    unsigned sum = 0;
+    for (unsigned round = 0; round < ROUNDS; round++) {
+        push(round + 1);
+        cancelled(kept);
+        sum += pop();
+    }
+    for (unsigned i = 0; i < 100; i++)
+        CHECK(kept[i] == (char)i);
+    __transaction_atomic {
+        taken += sum;
+    }
+    barrier_wait(&barrier);
+    CHECK(taken == hart_count() * ROUNDS * (ROUNDS + 1) / 2);
+    CHECK(!first);
+    volatile unsigned huge = 0x10001;
+    CHECK(!malloc(huge << 14) && !calloc(huge, huge));
+    kept = realloc(kept, 200);
+    CHECK(kept && kept[99] == 99);
+    free(kept);
+    return status();
+}
