@@ -87,6 +87,7 @@ void _ITM_changeTransactionMode(_ITM_transactionState state);
 // cancelled, the last one first. The first is run outside transactions.
 void _ITM_addUserCommitAction(_ITM_userCommitFunction function, _ITM_transactionId_t resumed, void *argument) _ITM_TRANSACTION_PURE;
 void _ITM_addUserUndoAction(_ITM_userUndoFunction function, void *argument) _ITM_TRANSACTION_PURE;
+void _ITM_dropReferences(void *start, size_t size) _ITM_TRANSACTION_PURE;
 
 void _ITM_registerTMCloneTable(void *table, size_t size);
 void _ITM_deregisterTMCloneTable(void *table);

@@ -10,6 +10,7 @@ struct logtm_hart {
     unsigned id;               // the hart's number: what a0 is at the start
     unsigned count;            // how many harts there are: what a1 is at the start
     char *heap_end;            // where the heap ends and the stacks begin; the same for all harts
+    char *stack;               // the lowest address of the hart's stack
     unsigned is_retried;       // whether a hardware transaction of libitm runs, so that an abort of it is tried again
 };
 

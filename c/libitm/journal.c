@@ -2,8 +2,6 @@
 // transaction, so if the hardware aborts that, the journal is as it was before, too.
 #include "transaction.h"
 
-enum { STACK = 4096 };
-
 struct bytes {
     struct record record;
     char *start;
@@ -101,10 +99,7 @@ static void put_back(const struct bytes *bytes)
 // Whether what is at an address was part of a call that is over once the scope is rolled back.
 static bool is_dead(const struct scope *scope, const char *at)
 {
-    uintptr_t end;
-    __asm__("mv %0, tp" : "=r"(end));
-    uintptr_t bottom = end & -(uintptr_t)STACK;
-    return (uintptr_t)at >= bottom && (uintptr_t)at < scope->begin.sp;
+    return at >= logtm_hart.stack && (uintptr_t)at < scope->begin.sp;
 }
 
 static void undo(struct record *record, const struct scope *scope)

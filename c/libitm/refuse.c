@@ -35,13 +35,18 @@ void _ITM_error(const _ITM_srcLocation *location, int code)
     logtm_refuse(location && location->psource ? location->psource : "_ITM_error");
 }
 
+void _ITM_dropReferences(void *start, size_t size)
+{
+    (void)start, (void)size;
+    logtm_refuse("_ITM_dropReferences");
+}
+
 #define ABSENT(NAME) \
     void NAME(void) \
     { \
         logtm_refuse(#NAME); \
     }
 
-ABSENT(_ITM_dropReferences)
 ABSENT(_ITM_userError)
 ABSENT(_ITM_commitTransactionEH)
 ABSENT(_ITM_registerThrownObject)

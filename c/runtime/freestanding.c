@@ -1,4 +1,4 @@
-// The functions that compilers call though no program names them, and the ends of a program, where there is no C library.
+// The functions that compilers call though no program names them, and the end of a program, where there is no C library.
 #include <logtm.h>
 #include <stdint.h>
 
@@ -46,9 +46,4 @@ int memcmp(const void *one, const void *other, size_t size)
 _Noreturn void exit(int status)
 {
     logtm_exit(status);
-}
-
-_Noreturn void abort(void)
-{
-    logtm_exit(134);
 }

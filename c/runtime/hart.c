@@ -13,7 +13,7 @@ void logtm_no_transaction(void)
 {
 }
 
-enum { PUT_BYTE = 1, EXIT = 93 };
+enum { PUT_BYTE = 1, EXIT = 93, ABORTED = 134 };
 
 // A call of the environment. It is a trap in a transaction, so one of libitm's is given up first, to be tried again until it runs alone.
 static int call(int number, int argument)
@@ -56,6 +56,11 @@ _Noreturn void logtm_exit(int status)
 _Noreturn void _exit(int status)
 {
     logtm_exit(status);
+}
+
+_Noreturn void abort(void)
+{
+    logtm_exit(ABORTED);
 }
 
 // Hart 0 calls the constructors, and the other harts wait for that.

@@ -33,6 +33,7 @@ SECTIONS
     __tls_size = ALIGN(ADDR(.tbss) + SIZEOF(.tbss) - ADDR(.tdata), 64);
     .data : ALIGN(32) { *(.data .data.* .sdata .sdata.*) } :data
     .bss : ALIGN(32) { *(.sbss .sbss.*) *(.bss .bss.*) *(COMMON) } :data
+    PROVIDE(__stack_power = 12);
     PROVIDE(logtm_give_up = logtm_no_transaction);
     __heap_start = ALIGN(ADDR(.bss) + SIZEOF(.bss), 64);
 

@@ -2,7 +2,7 @@
 #include "check.h"
 
 static struct log {
-    unsigned count, numbers[12];
+    unsigned count, numbers[12], blocks;
 } __attribute__((aligned(32))) logs[HARTS];
 static unsigned shared __attribute__((aligned(32)));
 static struct barrier barrier;
@@ -33,11 +33,14 @@ static void check_log(unsigned count, const unsigned *numbers)
     log->count = 0;
 }
 
+// Each block changes something, since GCC drops those that don't.
 static void committed(int is_cancelled)
 {
     __transaction_atomic {
+        logs[hart_id()].blocks++;
         _ITM_addUserCommitAction(note, _ITM_noTransactionId, (void *)1);
         __transaction_atomic {
+            logs[hart_id()].blocks++;
             _ITM_addUserCommitAction(note, _ITM_noTransactionId, (void *)2);
             _ITM_addUserUndoAction(note, (void *)3);
             if (is_cancelled)
@@ -51,13 +54,15 @@ static void committed(int is_cancelled)
 static void cancelled(void)
 {
     __transaction_atomic {
+        logs[hart_id()].blocks++;
         _ITM_addUserUndoAction(note, (void *)5);
         _ITM_addUserCommitAction(note, _ITM_noTransactionId, (void *)6);
         __transaction_atomic {
+            logs[hart_id()].blocks++;
             _ITM_addUserUndoAction(note, (void *)7);
         }
         _ITM_addUserUndoAction(note, (void *)8);
-        if (hart_count() > 0)
+        if (logs[hart_id()].blocks > 0)
             __transaction_cancel;
     }
 }
@@ -74,6 +79,7 @@ int main(void)
     CHECK(_ITM_versionCompatible(_ITM_VERSION_NO) && !_ITM_versionCompatible(1));
     CHECK(_ITM_getThreadnum() == (int)hart_id());
     barrier_wait(&barrier);
+    CHECK(logs[hart_id()].blocks == 3);
     CHECK(shared == 2 * hart_count());
     return status();
 }

@@ -94,7 +94,8 @@ static __attribute__((noinline, transaction_may_cancel_outer)) void give_up(int 
         if (depth == 0)
             __transaction_cancel [[outer]];
     }
-    give_up(it, depth - 1);
+    if (depth > 0)
+        give_up(it, depth - 1);
 }
 
 static void outer_from_within(void)
