@@ -86,6 +86,12 @@ static inline __attribute__((always_inline, noreturn)) void tx_abort(void)
     __builtin_unreachable();
 }
 
+#else
+
+// On a computer of one's own (c/host): a transaction waits until no other one runs, and is never aborted.
+int tx_begin(void);
+void tx_commit(void);
+
 #endif
 
 // Waits after the n-th abort in a row, outside transactions: twice as long after each, and each hart for a time of its own. Harts that try again

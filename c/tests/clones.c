@@ -9,7 +9,7 @@ static __attribute__((noinline, noipa)) unsigned without_clone(unsigned n) { ret
 static __attribute__((noinline, noipa, transaction_callable)) unsigned callable(unsigned n) { return n + 2; }
 
 static safe_function *const functions[] = {twice, square};
-static unsigned (*volatile any)(unsigned);
+
 static unsigned sums[HARTS];
 
 static unsigned sum_of(int is_cancelled)
@@ -53,7 +53,7 @@ int main(void)
     CHECK(sums[hart_id()] == 0);
     CHECK(sum_of(0) == 2 * (0 + 2 + 4 + 6 + 8) + 1 + 9 + 25 + 49 + 81);
     CHECK(sums[hart_id()] == 205);
-    any = without_clone;
+    unsigned (*volatile any)(unsigned) = without_clone;
     CHECK(by_any(any) == 6);
     any = callable;
     CHECK(by_any(any) == 7);

@@ -28,21 +28,19 @@ static int cancelled(int is_cancelled)
 
 int main(void)
 {
-    for (unsigned round = 0; round < 2; round++) {
-        __transaction_atomic {
-            for (unsigned i = 0; i < LINES; i++)
-                lines[i].value++;
-            irrevocable[hart_id()] += _ITM_inTransaction() == inIrrevocableTransaction;
-        }
-        CHECK(!cancelled(1));
-        CHECK(cancelled(0));
+    __transaction_atomic {
+        for (unsigned i = 0; i < LINES; i++)
+            lines[i].value++;
+        irrevocable[hart_id()] += _ITM_inTransaction() == inIrrevocableTransaction;
     }
-    CHECK(irrevocable[hart_id()] == 2);
-    CHECK(revocable[hart_id()] == 2);
+    CHECK(!cancelled(1));
+    CHECK(cancelled(0));
+    CHECK(irrevocable[hart_id()] == 1);
+    CHECK(revocable[hart_id()] == 1);
     barrier_wait(&barrier);
     if (hart_id() == 0) {
         for (unsigned i = 0; i < LINES; i++)
-            CHECK(lines[i].value == 2002 * hart_count());
+            CHECK(lines[i].value == 1001 * hart_count());
         volatile unsigned tries = 0;
         while (tries < 3) {
             if (tx_begin() == TX_STARTED) {
@@ -54,7 +52,7 @@ int main(void)
             tries++;
         }
         for (unsigned i = 0; i < LINES; i++)
-            CHECK(lines[i].value == 2002 * hart_count());
+            CHECK(lines[i].value == 1001 * hart_count());
     }
     return status();
 }

@@ -1,8 +1,16 @@
 // A bank of eight accounts with 100 in each. Each hart moves money from one account to another, as far as there is enough, and now and then adds up
 // all accounts. Whoever adds up, when it may be, finds 800.
 //
+//     scripts/logtm-cc bank.c -DLOCK -Os -o bank-lock.elf
+//     scripts/logtm-cc bank.c -DINTRINSICS -Os -o bank-intrinsics.elf
+//     scripts/logtm-cc bank.c -fgnu-tm -Os -o bank-atomic.elf
+//
 //     ./logtm run examples/c/bank-atomic.elf --harts 4
 #include "versions.h"
+
+#ifndef SEED
+#define SEED 1
+#endif
 
 enum { HARTS = 8, ACCOUNTS = 8, START = 100, ROUNDS = 12 };
 
@@ -43,7 +51,7 @@ static unsigned next(unsigned *seed)
 
 int main(void)
 {
-    unsigned seed = hart_id() + 1;
+    unsigned seed = SEED * HARTS + hart_id();
     for (unsigned i = hart_id(); i < ACCOUNTS; i += hart_count())
         accounts[i].money = START;
     barrier_wait(&barrier);

@@ -1,5 +1,9 @@
 // A sorted list. Each hart puts in 8 numbers of its own, and takes out every other one. The numbers that are left are in order, 4 of each hart.
 //
+//     scripts/logtm-cc list.c -DLOCK -Os -o list-lock.elf
+//     scripts/logtm-cc list.c -DINTRINSICS -Os -o list-intrinsics.elf
+//     scripts/logtm-cc list.c -fgnu-tm -Os -o list-atomic.elf
+//
 //     ./logtm run examples/c/list-atomic.elf --harts 4
 #include "versions.h"
 

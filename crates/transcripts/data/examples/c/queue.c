@@ -1,6 +1,10 @@
 // A queue with room for four items. Each hart puts an item and takes one, in turn; who finds the queue full or empty waits and looks again. All that is
 // put is taken once: with n harts that put 10 items each, 10 n items, whose sum is that of the numbers below 10 n.
 //
+//     scripts/logtm-cc queue.c -DLOCK -Os -o queue-lock.elf
+//     scripts/logtm-cc queue.c -DINTRINSICS -Os -o queue-intrinsics.elf
+//     scripts/logtm-cc queue.c -fgnu-tm -Os -o queue-atomic.elf
+//
 //     ./logtm run examples/c/queue-atomic.elf --harts 4
 #include "versions.h"
 

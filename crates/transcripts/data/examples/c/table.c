@@ -1,6 +1,10 @@
 // A hash table that counts words, which are numbers here. Each hart counts 16 words, some of which the other harts count too; a word that is new gets
 // an entry. All are counted: with n harts the counts have the sum 16 n.
 //
+//     scripts/logtm-cc table.c -DLOCK -Os -o table-lock.elf
+//     scripts/logtm-cc table.c -DINTRINSICS -Os -o table-intrinsics.elf
+//     scripts/logtm-cc table.c -fgnu-tm -Os -o table-atomic.elf
+//
 //     ./logtm run examples/c/table-atomic.elf --harts 4
 #include "versions.h"
 
