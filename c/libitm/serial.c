@@ -1,31 +1,18 @@
-// Serial mode: a transaction runs alone, without hardware. Every hardware transaction loads `held` at its begin, so it is in conflict with whoever
-// takes the lock: the hart that asks for it is refused until all of them have ended. Those that would begin wait as long as one is wanted, else the
-// lock might never be had.
+// Serial mode: a transaction runs alone, without hardware. Every hardware transaction loads the lock at its begin, so it is in conflict with whoever
+// takes it: the hart that asks for the lock is refused until all of them have ended. Those that would begin wait as long as the lock is wanted, else
+// it might never be had.
 #include "transaction.h"
 
-static struct {
-    unsigned count;
-} __attribute__((aligned(32))) wanted;
-static struct spin_lock serial;
-
-bool logtm_is_serial_wanted(void)
-{
-    return __atomic_load_n(&wanted.count, __ATOMIC_ACQUIRE) != 0;
-}
-
-bool logtm_is_serial_held(void)
-{
-    return __atomic_load_n(&serial.is_held, __ATOMIC_ACQUIRE) != 0;
-}
+struct serial logtm_serial;
 
 void logtm_enter_serial(void)
 {
-    __atomic_fetch_add(&wanted.count, 1, __ATOMIC_ACQ_REL);
-    spin_lock(&serial);
+    __atomic_fetch_add(&logtm_serial.wanted, 1, __ATOMIC_ACQ_REL);
+    spin_lock(&logtm_serial.lock);
 }
 
 void logtm_leave_serial(void)
 {
-    spin_unlock(&serial);
-    __atomic_fetch_sub(&wanted.count, 1, __ATOMIC_ACQ_REL);
+    spin_unlock(&logtm_serial.lock);
+    __atomic_fetch_sub(&logtm_serial.wanted, 1, __ATOMIC_ACQ_REL);
 }

@@ -11,24 +11,39 @@ static bool is_cancelled_here(uint32_t properties)
     return !(properties & pr_hasNoAbort);
 }
 
-// Begins a hardware transaction, or a serial one after too many aborts. A conflict's abort undoes all that was done since, in the library too.
-static void start(struct transaction *it)
+static bool is_serial_wanted(void)
+{
+    return __atomic_load_n(&logtm_serial.wanted, __ATOMIC_RELAXED) != 0;
+}
+
+// Begins a hardware transaction, unless a hart runs alone. Answers whether that runs now. An abort undoes all that was done since, in the library
+// too, and the answer is then false.
+static inline bool start_hardware(struct transaction *it)
+{
+    if (is_serial_wanted())
+        return false;
+    if (tx_begin() != TX_STARTED) {
+        it->aborts++;
+        return false;
+    }
+    if (!logtm_serial.lock.is_held)
+        return true;
+    tx_commit();
+    return false;
+}
+
+// Begins a transaction that couldn't be begun at once: after a wait, or alone after too many aborts. Answers whether it is in hardware.
+static __attribute__((noinline)) bool start_later(struct transaction *it)
 {
     while (it->aborts < MOST_ABORTS) {
-        while (logtm_is_serial_wanted())
+        tx_wait(it->aborts);
+        while (is_serial_wanted())
             ;
-        if (tx_begin() == TX_STARTED) {
-            if (!logtm_is_serial_held()) {
-                it->mode = HARDWARE;
-                logtm_hart.is_retried = true;
-                return;
-            }
-            tx_commit();
-        } else
-            tx_wait(++it->aborts);
+        if (start_hardware(it))
+            return true;
     }
     logtm_enter_serial();
-    it->mode = SERIAL;
+    return false;
 }
 
 // Keeps where a transaction has begun, so that it can be rolled back.
@@ -66,10 +81,12 @@ static uint32_t begin_outer(struct transaction *it, uint32_t properties, const s
 {
     if (properties & pr_doesGoIrrevocable && properties & pr_uninstrumentedCode)
         it->aborts = MOST_ABORTS;
-    start(it);
+    bool is_hardware = (it->aborts < MOST_ABORTS && start_hardware(it)) || start_later(it);
+    logtm_hart.is_retried = is_hardware;
+    it->mode = is_hardware ? HARDWARE : SERIAL;
     it->depth = 1;
     it->is_instrumented = false;
-    it->is_irrevocable = it->mode == SERIAL && !is_cancelled_here(properties);
+    it->is_irrevocable = !is_hardware && !is_cancelled_here(properties);
     it->id += hart_count();
     return choose_code(it, properties, begin);
 }

@@ -64,10 +64,13 @@ void logtm_roll_back(struct scope *scope);
 void logtm_finish(struct record *newest, struct chunk *last, bool has_put_off);
 
 // serial.c
+struct serial {
+    unsigned wanted __attribute__((aligned(32))); // how many harts have the lock or want it
+    struct spin_lock lock;
+};
+extern struct serial logtm_serial;
 void logtm_enter_serial(void);
 void logtm_leave_serial(void);
-bool logtm_is_serial_wanted(void);
-bool logtm_is_serial_held(void);
 
 // refuse.c
 _Noreturn void logtm_refuse(const char *what);

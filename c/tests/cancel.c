@@ -40,7 +40,7 @@ static void inner_alone(void)
     CHECK(*third == 11);
 }
 
-static void committed_inner(void)
+static __attribute__((noipa)) void committed_inner(int is_inner_cancelled, int is_outer_cancelled)
 {
     int *first = &each[hart_id()].first, *second = &each[hart_id()].second;
     *first = *second = 4;
@@ -50,14 +50,34 @@ static void committed_inner(void)
         }
         __transaction_atomic {
             *second = 6;
-            if (*second != 6)
+            if (is_inner_cancelled)
                 __transaction_cancel;
         }
-        if (*first == 5 && *second == 6)
+        if (is_outer_cancelled && (is_inner_cancelled || *second == 6))
             __transaction_cancel;
     }
-    CHECK(*first == 4);
-    CHECK(*second == 4);
+    CHECK(*first == (is_outer_cancelled ? 4 : 5));
+    CHECK(*second == (is_inner_cancelled || is_outer_cancelled ? 4 : 6));
+}
+
+static void inner_and_outer(void)
+{
+    int *first = &each[hart_id()].first, *second = &each[hart_id()].second, *third = &each[hart_id()].third, reached = 0;
+    *first = *second = *third = 0;
+    __transaction_atomic {
+        *first = 1;
+        __transaction_atomic {
+            *second = 1;
+            if (*first == 1)
+                __transaction_cancel;
+        }
+        *third = 1;
+        if (*second == 0 && *third == 1)
+            __transaction_cancel;
+        reached = 1;
+    }
+    CHECK(!reached);
+    CHECK(*first == 0 && *second == 0 && *third == 0);
 }
 
 // Its block can't be cancelled, so what calls it may run plain code; this runs instrumented code within.
@@ -170,7 +190,11 @@ int main(void)
 {
     outermost();
     inner_alone();
-    committed_inner();
+    committed_inner(0, 0);
+    committed_inner(0, 1);
+    committed_inner(1, 0);
+    committed_inner(1, 1);
+    inner_and_outer();
     within_plain_code();
     outer_from_within();
     deep();

@@ -1,7 +1,7 @@
 // malloc, calloc and free in blocks: a cancelled one gives back what it took, and keeps what it gave back. So the heap isn't used up in many rounds.
 #include "check.h"
 
-enum { ROUNDS = 60, SIZE = 3000 };
+enum { ROUNDS = 60, SIZE = 16000 };
 
 struct piece {
     struct piece *next;
@@ -36,18 +36,23 @@ static unsigned pop(void)
     return value;
 }
 
-static void cancelled(char *kept)
+// Whether there was no memory.
+static __attribute__((noipa)) int cancelled(char *kept, int is_cancelled)
 {
+    int has_none = 0;
     __transaction_atomic {
         char *large = malloc(SIZE);
         unsigned *zeros = calloc(10, sizeof *zeros);
-        if (!large || !zeros || zeros[9] != 0)
-            kept[0] = 'n';
-        large[SIZE - 1] = 'x';
         free(kept);
-        if (large[SIZE - 1] == 'x')
-            __transaction_cancel;
+        if (!large || !zeros || zeros[9] != 0)
+            has_none = 1;
+        else {
+            large[SIZE - 1] = 'x';
+            if (is_cancelled)
+                __transaction_cancel;
+        }
     }
+    return has_none;
 }
 
 int main(void)
@@ -58,7 +63,7 @@ int main(void)
     unsigned sum = 0;
     for (unsigned round = 0; round < ROUNDS; round++) {
         push(round + 1);
-        cancelled(kept);
+        CHECK(!cancelled(kept, 1));
         sum += pop();
     }
     for (unsigned i = 0; i < 100; i++)
