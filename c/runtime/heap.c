@@ -6,10 +6,10 @@
 
 enum { HARTS = 8, SMALLEST = 5, LARGEST = 22, CHUNK = 2048 };
 
-// What stands before what a program gets: the power of the piece's size. The program's part is a multiple of 8.
+// What stands before what a program gets: the power of the piece's size. The program's part is aligned for any type.
 union header {
     unsigned power;
-    uint64_t alignment;
+    long double alignment;
 };
 
 struct piece {
