@@ -76,9 +76,20 @@ static void construct(void)
             ;
 }
 
+// Whether the program's data and the harts' stacks lie apart.
+static int has_room(void)
+{
+    extern char __heap_start[];
+    return __heap_start <= logtm_hart.heap_end && logtm_hart.heap_end <= (char *)&logtm_hart;
+}
+
 _Noreturn void logtm_start(void)
 {
     static char *words[] = {0};
+    if (!has_room()) {
+        put_text("no room for the stacks\n");
+        abort();
+    }
     construct();
     exit(main(0, words));
 }

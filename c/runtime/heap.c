@@ -40,7 +40,7 @@ static void begin(void)
 static char *extend(size_t size)
 {
     char *start = heap.end ? heap.end : __heap_start;
-    if (size > (size_t)(logtm_hart.heap_end - start))
+    if (start > logtm_hart.heap_end || size > (size_t)(logtm_hart.heap_end - start))
         return NULL;
     heap.end = start + size;
     return start;
