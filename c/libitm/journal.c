@@ -9,17 +9,6 @@ struct bytes {
     uint32_t old[];
 };
 
-struct piece {
-    struct record record;
-    void *start;
-};
-
-struct action {
-    struct record record;
-    void (*function)(void *);
-    void *argument;
-};
-
 // The first chunk of each hart. Others come from the heap.
 static struct first_chunk {
     struct chunk chunk;
@@ -56,7 +45,7 @@ static void free_chunks(struct chunk *last, const struct chunk *kept)
 }
 
 // A new record, at the end of the journal.
-void *logtm_add_record(int kind, unsigned size)
+void *logtm_add_record(enum kind kind, unsigned size)
 {
     struct transaction *it = &logtm_transaction;
     size = (size + 3) & ~3u;
@@ -105,13 +94,10 @@ static bool is_dead(const struct scope *scope, const char *at)
 static void undo(struct record *record, const struct scope *scope)
 {
     const struct bytes *bytes = (struct bytes *)record;
-    const struct action *action = (struct action *)record;
-    if (record->kind == BYTES && !is_dead(scope, bytes->start))
+    if (record->kind != BYTES)
+        logtm_undo_put_off(record);
+    else if (!is_dead(scope, bytes->start))
         put_back(bytes);
-    else if (record->kind == ALLOCATED)
-        free(((struct piece *)record)->start);
-    else if (record->kind == UNDO_ACTION)
-        action->function(action->argument);
 }
 
 // Undoes all that is newer than the begin of a scope, the newest first, and closes it.
@@ -119,12 +105,13 @@ void logtm_roll_back(struct scope *scope)
 {
     struct transaction *it = &logtm_transaction;
     struct record *end = scope->record.before;
-    struct chunk *chunk = scope->chunk, *last = it->chunk;
+    struct chunk *chunk = scope->chunk;
     unsigned used = scope->used;
     for (struct record *record = it->newest; record != end; record = record->before)
         undo(record, scope);
     it->newest = end;
     it->scope = scope->outer;
+    struct chunk *last = it->chunk;
     it->chunk = chunk;
     if (chunk)
         chunk->used = used;
@@ -147,67 +134,7 @@ static struct record *reversed(struct record *newest)
 void logtm_finish(struct record *newest, struct chunk *last, bool has_put_off)
 {
     struct record *record = has_put_off ? reversed(newest) : NULL;
-    for (; record; record = record->before) {
-        const struct action *action = (struct action *)record;
-        if (record->kind == FREED)
-            free(((struct piece *)record)->start);
-        else if (record->kind == COMMIT_ACTION)
-            action->function(action->argument);
-    }
+    for (; record; record = record->before)
+        logtm_finish_put_off(record);
     free_chunks(last, NULL);
-}
-
-static void add_action(int kind, void (*function)(void *), void *argument)
-{
-    struct action *action = logtm_add_record(kind, sizeof *action);
-    action->function = function;
-    action->argument = argument;
-}
-
-void _ITM_addUserCommitAction(_ITM_userCommitFunction function, _ITM_transactionId_t resumed, void *argument)
-{
-    if (resumed != _ITM_noTransactionId)
-        logtm_refuse("_ITM_addUserCommitAction for an inner transaction");
-    if (logtm_transaction.depth == 0)
-        function(argument);
-    else
-        add_action(COMMIT_ACTION, function, argument);
-    logtm_transaction.has_put_off = true;
-}
-
-void _ITM_addUserUndoAction(_ITM_userUndoFunction function, void *argument)
-{
-    if (logtm_transaction.depth > 0)
-        add_action(UNDO_ACTION, function, argument);
-}
-
-static void add_piece(int kind, void *start)
-{
-    struct piece *piece = logtm_add_record(kind, sizeof *piece);
-    piece->start = start;
-}
-
-void *_ITM_malloc(size_t size)
-{
-    void *start = malloc(size);
-    if (start && logtm_transaction.scope)
-        add_piece(ALLOCATED, start);
-    return start;
-}
-
-void *_ITM_calloc(size_t count, size_t size)
-{
-    void *start = calloc(count, size);
-    if (start && logtm_transaction.scope)
-        add_piece(ALLOCATED, start);
-    return start;
-}
-
-void _ITM_free(void *start)
-{
-    if (start && logtm_transaction.scope)
-        add_piece(FREED, start);
-    else
-        free(start);
-    logtm_transaction.has_put_off = true;
 }

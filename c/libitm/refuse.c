@@ -32,6 +32,7 @@ int _ITM_versionCompatible(int version)
 
 void _ITM_error(const _ITM_srcLocation *location, int code)
 {
+    (void)code;
     logtm_refuse(location && location->psource ? location->psource : "_ITM_error");
 }
 

@@ -13,10 +13,11 @@ struct checkpoint {
     uintptr_t saved[12], ra, sp;
 };
 
-// A record of a journal, the newest first.
+// A record of a journal, the newest first. Where a scope is rolled back each of its records is undone; those that are left when the outermost
+// transaction is committed are finished, the oldest first.
 struct record {
     struct record *before;
-    enum { SCOPE, BYTES, ALLOCATED, FREED, COMMIT_ACTION, UNDO_ACTION } kind;
+    enum kind { SCOPE, BYTES, ALLOCATED, FREED, COMMIT_ACTION, UNDO_ACTION } kind;
 };
 
 // A journal lies in chunks. A place in it is a chunk, and how many bytes of that are used.
@@ -58,10 +59,14 @@ extern __thread struct transaction logtm_transaction;
 _Noreturn void logtm_resume(const struct checkpoint *begin, uint32_t actions);
 
 // journal.c
-void *logtm_add_record(int kind, unsigned size);
+void *logtm_add_record(enum kind kind, unsigned size);
 void logtm_save(const void *start, size_t size);
 void logtm_roll_back(struct scope *scope);
 void logtm_finish(struct record *newest, struct chunk *last, bool has_put_off);
+
+// put_off.c
+void logtm_undo_put_off(struct record *record);
+void logtm_finish_put_off(struct record *record);
 
 // serial.c
 struct serial {
