@@ -168,7 +168,6 @@ static _Noreturn void restart(bool is_alone)
     else
         tx_wait(++it->aborts);
     uint32_t actions = begin_outer(it, properties, &begin);
-    it->is_irrevocable = is_alone;
     logtm_resume(&begin, actions | a_restoreLiveVariables);
 }
 

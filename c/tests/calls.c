@@ -36,7 +36,7 @@ static char from[HARTS][40], to[HARTS][40];
 static unsigned counts[HARTS], sums[HARTS], shared __attribute__((aligned(32)));
 static struct barrier barrier;
 
-// Each store is seen by each load, and taken back.
+// Each store is seen by each load, and taken back; that of an inner transaction by itself, though the outer one has written there before.
 #define CHECK_TYPE(NAME, TYPE) \
     static void check_##NAME(void) \
     { \
@@ -50,6 +50,12 @@ static struct barrier barrier;
         CHECK(_ITM_R##NAME(it) == 1); \
         _ITM_W##NAME(it, 2); \
         CHECK(_ITM_RaW##NAME(it) == 2); \
+        if (_ITM_beginTransaction(CANCELLED) & a_abortTransaction) \
+            CHECK(*it == 2); \
+        else { \
+            _ITM_WaW##NAME(it, 6); \
+            _ITM_abortTransaction(userAbort); \
+        } \
         _ITM_WaR##NAME(it, 3); \
         CHECK(_ITM_RfW##NAME(it) == 3); \
         _ITM_WaW##NAME(it, 4); \
@@ -136,6 +142,12 @@ static __attribute__((noinline)) void check_change(void)
     _ITM_commitTransaction();
     CHECK(_ITM_inTransaction() == outsideTransaction);
     CHECK(*sum == 3);
+    _ITM_beginTransaction(CANCELLED);
+    _ITM_WU4(sum, 4);
+    _ITM_changeTransactionMode(modeSerialIrrevocable);
+    CHECK(_ITM_inTransaction() == inIrrevocableTransaction);
+    _ITM_commitTransaction();
+    CHECK(*sum == 4);
 }
 
 // Which code a transaction is to run: after one that was cancelled or committed it is what the outer one runs again.

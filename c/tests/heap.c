@@ -55,8 +55,22 @@ static __attribute__((noipa)) int cancelled(char *kept, int is_cancelled)
     return has_none;
 }
 
+// Gives memory back for other, in a block that could be cancelled.
+static __attribute__((noipa)) char *replaced(char *old, int is_cancelled)
+{
+    char *other = old;
+    __transaction_atomic {
+        other = malloc(SIZE);
+        free(old);
+        if (is_cancelled)
+            __transaction_cancel;
+    }
+    return other;
+}
+
 int main(void)
 {
+    char *large = NULL;
     char *kept = malloc(100);
     for (unsigned i = 0; i < 100; i++)
         kept[i] = i;
@@ -65,7 +79,10 @@ int main(void)
         push(round + 1);
         CHECK(!cancelled(kept, 1));
         sum += pop();
+        large = replaced(large, 0);
+        CHECK(large != NULL);
     }
+    free(large);
     for (unsigned i = 0; i < 100; i++)
         CHECK(kept[i] == (char)i);
     __transaction_atomic {
