@@ -13,7 +13,7 @@ struct bytes {
 static struct first_chunk {
     struct chunk chunk;
     bool is_used;
-} __attribute__((aligned(32))) first_chunks[8];
+} __attribute__((aligned(32))) first_chunks[HARTS];
 
 static void add_chunk(struct transaction *it, unsigned size)
 {

@@ -11,22 +11,15 @@ static bool is_cancelled_here(uint32_t properties)
     return !(properties & pr_hasNoAbort);
 }
 
-static bool is_serial_wanted(void)
-{
-    return __atomic_load_n(&logtm_serial.wanted, __ATOMIC_RELAXED) != 0;
-}
-
-// Begins a hardware transaction, unless a hart runs alone. Answers whether that runs now. An abort undoes all that was done since, in the library
-// too, and the answer is then false.
+// Begins a hardware transaction, unless the hart's door is closed. Answers whether that runs now. An abort undoes all that was done since, in the
+// library too, and the answer is then false.
 static inline bool start_hardware(struct transaction *it)
 {
-    if (is_serial_wanted())
-        return false;
     if (tx_begin() != TX_STARTED) {
         it->aborts++;
         return false;
     }
-    if (!logtm_serial.lock.is_held)
+    if (!logtm_doors[hart_id()].is_closed)
         return true;
     tx_commit();
     return false;
@@ -37,7 +30,7 @@ static __attribute__((noinline)) bool start_later(struct transaction *it)
 {
     while (it->aborts < MOST_ABORTS) {
         tx_wait(it->aborts);
-        while (is_serial_wanted())
+        while (__atomic_load_n(&logtm_doors[hart_id()].is_closed, __ATOMIC_ACQUIRE))
             ;
         if (start_hardware(it))
             return true;

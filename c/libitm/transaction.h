@@ -69,11 +69,10 @@ void logtm_undo_put_off(struct record *record);
 void logtm_finish_put_off(struct record *record);
 
 // serial.c
-struct serial {
-    unsigned wanted __attribute__((aligned(32))); // how many harts have the lock or want it
-    struct spin_lock lock;
-};
-extern struct serial logtm_serial;
+enum { HARTS = 8 };
+extern struct door {
+    unsigned is_closed;
+} __attribute__((aligned(32))) logtm_doors[HARTS];
 void logtm_enter_serial(void);
 void logtm_leave_serial(void);
 

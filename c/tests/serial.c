@@ -19,6 +19,7 @@ static void run_alone(void)
         put_text("");
         CHECK(_ITM_inTransaction() == inIrrevocableTransaction);
         alone++;
+        is_done = 1;
     }
 }
 
@@ -34,7 +35,6 @@ int main(void)
     if (hart_id() == 0) {
         wait_for_the_others();
         run_alone();
-        __atomic_store_n(&is_done, 1, __ATOMIC_RELEASE);
     }
     while (!__atomic_load_n(&is_done, __ATOMIC_ACQUIRE))
         __transaction_atomic {
