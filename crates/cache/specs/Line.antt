@@ -35,10 +35,6 @@ with_marks marks l = record l { marks = marks }
 abbrev pub put_into : ℕ → ℕ → Marks → Line → Line
 put_into word value marks l = record l { content = slice_set l.content word value; state = Modified; marks = marks }
 
--- modified, with another word in its place
-abbrev pub with_word : ℕ → ℕ → Line → Line
-with_word word value l = record l { content = slice_set l.content word value; state = Modified }
-
 abbrev pub in_state : LineState → Line → Line
 in_state state l = record l { state = state }
 

@@ -5,7 +5,7 @@ ghost use Rattle.words.specs.declared.message.LineState.TheVariants.{Shared, Mod
 ghost use Rattle.words.specs.Bytes.{bytes_in};
 ghost use Rattle.cache.specs.Bytes.{word_at};
 ghost use Rattle.words.specs.Limits.{block_words};
-ghost use Rattle.cache.specs.Line.{filled, marked_read, marked_written, in_state, stored, without_marks, with_marks, with_word, put_into};
+ghost use Rattle.cache.specs.Line.{filled, marked_read, marked_written, in_state, stored, without_marks, with_marks, put_into};
 ghost use Rattle.cache.specs.Ways.{holds, is_free};
 ghost use Rattle.cache.specs.Sets.{line_at, way_at, HasRoom, GoesFor, victim_at, SetsLine, FillsLine, ChangesLine, RemovesLine, StoresBytes, IsSound};
 
@@ -13,7 +13,7 @@ use crate::bytes::with_bytes;
 use crate::line::Line;
 use crate::occupied::Occupied;
 use crate::sets::{assign_sets, clear_sets, same_sets};
-use crate::ways::{Victim, free_way, has_line, line_of, mark, put, put_word, victim_of, way_of};
+use crate::ways::{Victim, free_way, has_line, line_of, mark, put_word, victim_of, way_of};
 use std::array;
 use std::marker::Model;
 use words::{Addr, BLOCK_WORDS, Block, BlockNo, LineState, Marks, Width};
@@ -110,26 +110,24 @@ impl<const SETS: usize, const WAYS: usize> Cache<SETS, WAYS> {
         requires owned { IsSomeAnd (line_at SETS self.old block) (λ line. IsTrue marks.written → line.state ≡ Modified) }
         ensures line { ChangesLine SETS self.old self.new block (with_marks marks) }
         ensures rooms { (b : ℕ) → HasRoom SETS self.old b → HasRoom SETS self.new b }
-        ensures way { way_at SETS self.new block ≡ Some way }
     {
         let sets = &mut self.sets[..];
         let ways = &mut sets[block.index() % SETS];
         mark(ways, way, marks);
     }
 
-    /// Puts a word into a block's line, in the way in which it stands, and makes it modified.
+    /// Puts a word into a block's line, in the way in which it stands, and makes it modified, with these marks.
     #[inline(always)]
     #[tactic(auto, unfolding(crate::specs::Sets::line_at, crate::specs::Sets::way_at))]
-    pub fn put_in(&mut self, block: BlockNo, way: usize, word: usize, value: u32)
+    pub fn put_word_in(&mut self, block: BlockNo, way: usize, word: usize, value: u32, marks: Marks)
         requires way { way_at SETS self.old block ≡ Some way }
         requires word { word < block_words }
-        ensures line { ChangesLine SETS self.old self.new block (with_word word value) }
+        ensures line { ChangesLine SETS self.old self.new block (put_into word value marks) }
         ensures rooms { (b : ℕ) → HasRoom SETS self.old b → HasRoom SETS self.new b }
-        ensures way { way_at SETS self.new block ≡ Some way }
     {
         let sets = &mut self.sets[..];
         let ways = &mut sets[block.index() % SETS];
-        put(ways, way, word, value);
+        put_word(ways, way, word, value, marks);
     }
 
     /// The word at an address, which is rounded down to a multiple of 4, if its block has a line.

@@ -1,7 +1,7 @@
 ghost use Rattle.std.specs.Prelude.{◌≡◌, ◌<◌, position, length, is_some, map, replicate, None, get_or, slice_set};
 ghost use Rattle.std.specs.Option.{option_map};
 ghost use Rattle.words.specs.Limits.{block_words};
-ghost use Rattle.cache.specs.Line.{without_marks, with_marks, with_word, put_into, put_out_by};
+ghost use Rattle.cache.specs.Line.{without_marks, with_marks, put_into, put_out_by};
 ghost use Rattle.cache.specs.Ways.{holds, is_free, is_unmarked, has_line, line_in, victim_in};
 
 use crate::line::Line;
@@ -131,19 +131,6 @@ pub fn put_word(ways: &mut [Option<Line>], way: usize, word: usize, value: u32, 
         line.content[word] = value;
         line.state = LineState::Modified;
         line.marks = marks;
-    }
-}
-
-/// Puts a word into a way's line, and makes it modified.
-#[inline(always)]
-pub fn put(ways: &mut [Option<Line>], way: usize, word: usize, value: u32)
-    requires way { way < length ways.old }
-    requires word { word < block_words }
-    ensures { ways.new ≡ slice_set ways.old way (option_map (with_word word value) (get_or ways.old way None)) }
-{
-    if let Some(line) = &mut ways[way] {
-        line.content[word] = value;
-        line.state = LineState::Modified;
     }
 }
 
