@@ -102,7 +102,7 @@ impl<const SETS: usize, const WAYS: usize> Hart<SETS, WAYS> {
 
     /// Retires an access, to a block that has these words.
     #[inline(always)]
-    fn retire_access(
+    pub(crate) fn retire_access(
         &mut self,
         word: u32,
         effect: &Effect,
