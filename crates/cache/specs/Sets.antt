@@ -26,6 +26,10 @@ at sets s w = get_or (ways_at sets s) w None
 unfoldable pub line_at : ℕ → Sets → ℕ → Option Line
 line_at count sets b = line_in b (ways_at sets (b % count))
 
+-- the way of its set in which the block's line stands
+unfoldable pub way_at : ℕ → Sets → ℕ → Option ℕ
+way_at count sets b = position (holds b) (ways_at sets (b % count))
+
 -- the set of the block has a free way
 unfoldable pub HasRoom : ℕ → Sets → ℕ → Type 0
 HasRoom count sets b = IsSome (position is_free (ways_at sets (b % count)))

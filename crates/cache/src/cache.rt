@@ -7,7 +7,7 @@ ghost use Rattle.cache.specs.Bytes.{word_at};
 ghost use Rattle.words.specs.Limits.{block_words};
 ghost use Rattle.cache.specs.Line.{filled, marked_read, marked_written, in_state, stored, without_marks, with_marks, put_into};
 ghost use Rattle.cache.specs.Ways.{holds, is_free};
-ghost use Rattle.cache.specs.Sets.{line_at, HasRoom, GoesFor, victim_at, SetsLine, FillsLine, ChangesLine, RemovesLine, StoresBytes, IsSound};
+ghost use Rattle.cache.specs.Sets.{line_at, way_at, HasRoom, GoesFor, victim_at, SetsLine, FillsLine, ChangesLine, RemovesLine, StoresBytes, IsSound};
 
 use crate::bytes::with_bytes;
 use crate::line::Line;
@@ -76,6 +76,58 @@ impl<const SETS: usize, const WAYS: usize> Cache<SETS, WAYS> {
     {
         let sets = &self.sets[..];
         line_of(&sets[block.index() % SETS], block)
+    }
+
+    /// The way of its set in which a block's line stands, if there is one.
+    #[tactic(auto, unfolding(crate::specs::Sets::way_at))]
+    #[inline(always)]
+    pub fn way(&self, block: BlockNo) -> Option<usize>
+        ensures { result ≡ way_at SETS self.now block }
+    {
+        let sets = &self.sets[..];
+        way_of(&sets[block.index() % SETS], block)
+    }
+
+    /// A block's line, in the way in which it stands.
+    #[tactic(auto, unfolding(crate::specs::Sets::line_at, crate::specs::Sets::way_at))]
+    #[inline(always)]
+    pub fn line_in(&self, block: BlockNo, way: usize) -> Option<&Line>
+        requires { way_at SETS self.now block ≡ Some way }
+        ensures value { option_map (λ line. line.now) result ≡ line_at SETS self.now block }
+        ensures block { IfSome result (λ line. line.now.block ≡ block) }
+        ensures owned { IfSome result (λ line. IsTrue line.now.marks.written → line.now.state ≡ Modified) }
+    {
+        let sets = &self.sets[..];
+        let ways = &sets[block.index() % SETS];
+        ways[way].as_ref()
+    }
+
+    /// Gives a block's line other marks, in the way in which it stands.
+    #[inline(always)]
+    #[tactic(auto, unfolding(crate::specs::Sets::line_at, crate::specs::Sets::way_at))]
+    pub fn mark_in(&mut self, block: BlockNo, way: usize, marks: Marks)
+        requires way { way_at SETS self.old block ≡ Some way }
+        requires owned { IsSomeAnd (line_at SETS self.old block) (λ line. IsTrue marks.written → line.state ≡ Modified) }
+        ensures line { ChangesLine SETS self.old self.new block (with_marks marks) }
+        ensures rooms { (b : ℕ) → HasRoom SETS self.old b → HasRoom SETS self.new b }
+    {
+        let sets = &mut self.sets[..];
+        let ways = &mut sets[block.index() % SETS];
+        mark(ways, way, marks);
+    }
+
+    /// Puts a word into a block's line, in the way in which it stands, and makes it modified, with these marks.
+    #[inline(always)]
+    #[tactic(auto, unfolding(crate::specs::Sets::line_at, crate::specs::Sets::way_at))]
+    pub fn put_word_in(&mut self, block: BlockNo, way: usize, word: usize, value: u32, marks: Marks)
+        requires way { way_at SETS self.old block ≡ Some way }
+        requires word { word < block_words }
+        ensures line { ChangesLine SETS self.old self.new block (put_into word value marks) }
+        ensures rooms { (b : ℕ) → HasRoom SETS self.old b → HasRoom SETS self.new b }
+    {
+        let sets = &mut self.sets[..];
+        let ways = &mut sets[block.index() % SETS];
+        put_word(ways, way, word, value, marks);
     }
 
     /// The word at an address, which is rounded down to a multiple of 4, if its block has a line.

@@ -128,9 +128,10 @@ pub fn put_word(ways: &mut [Option<Line>], way: usize, word: usize, value: u32, 
     ensures { ways.new ≡ slice_set ways.old way (option_map (put_into word value marks) (get_or ways.old way None)) }
 {
     if let Some(line) = &mut ways[way] {
-        line.content[word] = value;
-        line.state = LineState::Modified;
+        // Marks first: where they are the line's own, that is seen to be no store at all.
         line.marks = marks;
+        line.state = LineState::Modified;
+        line.content[word] = value;
     }
 }
 

@@ -8,5 +8,6 @@ pub mod Victims
 pub mod Alone
 pub mod Stores
 pub mod Plain
+pub mod Quick
 pub mod Answering
 pub mod Keeping

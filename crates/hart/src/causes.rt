@@ -37,12 +37,12 @@ impl<const SETS: usize, const WAYS: usize> Hart<SETS, WAYS> {
         let address = addr.index();
         if address % count != 0 {
             Some(Cause::LoadMisaligned)
+        } else if address + count <= self.logs_from() {
+            None
         } else if address + count > self.size {
             Some(Cause::LoadOutside)
-        } else if address + count > self.logs_from() {
-            Some(Cause::LogRegion)
         } else {
-            None
+            Some(Cause::LogRegion)
         }
     }
 
@@ -55,10 +55,12 @@ impl<const SETS: usize, const WAYS: usize> Hart<SETS, WAYS> {
         let count = byte_count(m.width) as usize;
         if address % count != 0 {
             Some(Cause::StoreMisaligned)
-        } else if address + count > self.size {
-            Some(Cause::StoreOutside)
         } else if address + count > self.logs_from() {
-            Some(Cause::LogRegion)
+            if address + count > self.size {
+                Some(Cause::StoreOutside)
+            } else {
+                Some(Cause::LogRegion)
+            }
         } else if text.touches(m.addr, m.width) {
             Some(Cause::StoreText)
         } else {
@@ -67,7 +69,7 @@ impl<const SETS: usize, const WAYS: usize> Hart<SETS, WAYS> {
     }
 
     #[inline(always)]
-    fn memory_cause(&self, text: &Text, m: &MemoryAct) -> Option<Cause>
+    pub(crate) fn memory_cause(&self, text: &Text, m: &MemoryAct) -> Option<Cause>
         ensures value { result ≡ memory_cause (setting_of text.now.segments.now self.now) m.now }
         ensures aligned { result ≡ None → m.now.addr % bytes_in m.now.width ≡ 0 }
     {

@@ -14,6 +14,7 @@ ghost use Rattle.protocol.specs.Core.{retire_row, no_memory, begin_row, commit_r
 use crate::access::{is_log_due, load_by, loaded_by, marks_after, put_by, store_by, word_put};
 use crate::hart::Hart;
 use crate::reply::CoreStep;
+use crate::step::is_running;
 use crate::transactions::{append_record, begin, commit};
 use cache::Line;
 use table::{Act, Effect, MemoryAct, register, write_register};
@@ -70,7 +71,8 @@ impl<const SETS: usize, const WAYS: usize> Hart<SETS, WAYS> {
             store: None,
         };
         let output = output_by(&self.regs, &effect.act);
-        self.status = status_by(&self.regs, &effect.act);
+        let status = status_by(&self.regs, &effect.act);
+        self.put_status(status);
         self.pc = effect.next;
         write_register(&mut self.regs, effect.write);
         self.fresh = false;
@@ -79,6 +81,17 @@ impl<const SETS: usize, const WAYS: usize> Hart<SETS, WAYS> {
             entry: Some(entry),
             stamped: false,
             output,
+        }
+    }
+
+    /// The status from now on. One that runs and goes on running isn't written.
+    #[inline(always)]
+    fn put_status(&mut self, status: Status)
+        ensures status { self.new ≡ record self.old { status = status } }
+        ensures stays { StaysPut self.old self.new }
+    {
+        if !(is_running(status) && is_running(self.status)) {
+            self.status = status;
         }
     }
 
@@ -102,7 +115,7 @@ impl<const SETS: usize, const WAYS: usize> Hart<SETS, WAYS> {
 
     /// Retires an access, to a block that has these words.
     #[inline(always)]
-    fn retire_access(
+    pub(crate) fn retire_access(
         &mut self,
         word: u32,
         effect: &Effect,
@@ -117,7 +130,7 @@ impl<const SETS: usize, const WAYS: usize> Hart<SETS, WAYS> {
         ensures stays { StaysPut self.old self.new }
     {
         let entry = self.access_entry(word, m, content);
-        self.status = Status::Running;
+        self.put_status(Status::Running);
         self.pc = effect.next;
         write_register(&mut self.regs, loaded_by(content, m));
         self.fresh = false;

@@ -57,6 +57,10 @@ impl<const SETS: usize, const WAYS: usize> Observer<SETS, WAYS, ()> for Unobserv
         most: u32,
         _log: &mut (),
     ) -> (u32, Turned) {
+        // Most turns under contention are messages' turns: nothing is set up behind those.
+        if !last.quiescent {
+            return (0, last);
+        }
         let plain = machine.plain_turns(last, most);
         (plain.turns, plain.last)
     }
