@@ -1,7 +1,10 @@
 mod Words
 mod Reading
 mod Finding
+mod Gathering
+mod Resting
 pub mod Making
+pub mod Going
 pub mod Seeing
 pub mod PlainTurns
 pub mod Lengths

@@ -1,0 +1,218 @@
+//! Steps that are chosen by chance, by a seed.
+ghost use Rattle.std.specs.Prelude.{◌≡◌, ◌<◌, ◌++◌, [], ◌∷◌, ℕ, Some, None, false, IfSome, IfNone, OnOk, OnErr};
+ghost use Rattle.std.specs.Option.{option_map};
+ghost use Rattle.words.specs.declared.entry.Step.TheVariants.{Core, Deliver};
+ghost use Rattle.machine.specs.States.{geometry, setting_of, shown};
+ghost use Rattle.machine.specs.Watch.{IsEnabled};
+ghost use Rattle.schedule.specs.Courses.{IsAtRest, IsChosen};
+ghost use Rattle.schedule.specs.Courses.Behind.{Chance as ByChance};
+
+use crate::choices::Choice;
+use crate::chooser::Chooser;
+use crate::enabled::{Picked, arrival, arrivals, find_eviction, ready_harts};
+use crate::history::History;
+use machine::{Machine, Turned};
+use rand_core::SeedableRng;
+use rand_core::utils::NextWord;
+use rand_pcg::Pcg32;
+use std::alloc::{AllocError, Global};
+use std::marker::Model;
+use words::{HartId, Step};
+
+/// The weights by which chance draws what comes next: a step of a core, the arrival of a message, or an eviction. Where nothing of what it draws is
+/// enabled, it is another's turn.
+#[derive(Clone, Copy, Debug, PartialEq, Eq)]
+pub struct Mix {
+    pub cores: u32,
+    pub arrivals: u32,
+    pub evictions: u32,
+}
+
+/// Chooses steps by chance, each among those that are enabled: of the harts whose cores have a step to make, of the messages in flight that aren't held,
+/// now and then of the lines that can be evicted. It ends where no core has a step to make and no message can arrive. By one seed it chooses the same
+/// steps of the same machine on every host.
+#[derive(Drop)]
+pub struct Chance {
+    generator: Pcg32,
+    mix: Mix,
+    history: Option<History>,
+}
+
+impl Model for Chance {
+    ghost use Rattle.std.specs.Prelude.{List, Option};
+    ghost use Rattle.std.specs.Option.{option_map};
+    ghost use Rattle.schedule.specs.declared.choices.Choice.{Choice as ChoiceValue};
+
+    // The choices so far, where they are kept.
+    ghost Value = { Option (List ChoiceValue) };
+
+    ghost view = { λ c. option_map (λ h. h.choices) c.history };
+}
+
+impl Chance {
+    /// Chance by a seed, which keeps no choices.
+    pub fn new(seed: u64, mix: Mix) -> Self
+        ensures { result ≡ None }
+    {
+        Chance {
+            generator: Pcg32::seed_from_u64(seed),
+            mix,
+            history: None,
+        }
+    }
+
+    /// Chance by a seed, which keeps its choices.
+    pub fn kept(alloc: Global, seed: u64, mix: Mix) -> Self
+        ensures { result ≡ Some [] }
+    {
+        Chance {
+            generator: Pcg32::seed_from_u64(seed),
+            mix,
+            history: Some(History::new(alloc)),
+        }
+    }
+
+    /// The choices so far, where they are kept.
+    pub fn history(&self) -> Option<&History>
+        ensures { option_map (λ h. h.now.choices) result ≡ self.now }
+    {
+        match &self.history {
+            Some(history) => Some(history),
+            None => None,
+        }
+    }
+
+    /// A number below a bound, or 0 if that is 0.
+    fn below(&mut self, bound: usize) -> usize
+        ensures less { 0 < bound → result < bound }
+        ensures kept { self.new ≡ self.old }
+    {
+        let word = self.generator.next_word() as usize;
+        if bound == 0 { 0 } else { word % bound }
+    }
+
+    /// A core's step.
+    fn draw_core<const SETS: usize, const WAYS: usize>(
+        &mut self,
+        machine: &Machine<SETS, WAYS>,
+    ) -> Option<Picked>
+        ensures some { IfSome result (λ p. IsChosen (geometry SETS WAYS) machine.now p.choice p.step) }
+        ensures none { IfNone result ((i : ℕ) → i < (setting_of machine.now).count → IsEnabled (geometry SETS WAYS) (shown SETS machine.now) (Core i) false) }
+        ensures kept { self.new ≡ self.old }
+    {
+        let ready = ready_harts(machine);
+        let index = self.below(ready.len());
+        let number = *ready.get(index)?;
+        let hart = HartId::new(number as u8);
+        Some(Picked {
+            choice: Choice::Core(hart),
+            step: Step::Core(hart),
+        })
+    }
+
+    /// A message's arrival.
+    fn draw_arrival<const SETS: usize, const WAYS: usize>(
+        &mut self,
+        machine: &Machine<SETS, WAYS>,
+    ) -> Option<Picked>
+        ensures some { IfSome result (λ p. IsChosen (geometry SETS WAYS) machine.now p.choice p.step) }
+        ensures none { IfNone result ((key : ℕ) → IsEnabled (geometry SETS WAYS) (shown SETS machine.now) (Deliver key) false) }
+        ensures kept { self.new ≡ self.old }
+    {
+        let keys = arrivals(machine);
+        let index = self.below(keys.len());
+        let key = *keys.get(index)?;
+        Some(arrival(machine, key))
+    }
+
+    /// A core's step, or a message's arrival, which are drawn by their weights. If nothing of what is drawn is enabled, it is the other.
+    fn draw_step<const SETS: usize, const WAYS: usize>(
+        &mut self,
+        machine: &Machine<SETS, WAYS>,
+    ) -> Option<Picked>
+        ensures some { IfSome result (λ p. IsChosen (geometry SETS WAYS) machine.now p.choice p.step) }
+        ensures none { IfNone result (IsAtRest (geometry SETS WAYS) machine.now) }
+        ensures kept { self.new ≡ self.old }
+    {
+        let (cores, arrivals) = (self.mix.cores as usize, self.mix.arrivals as usize);
+        if self.below(cores + arrivals) < cores {
+            match self.draw_core(machine) {
+                Some(picked) => Some(picked),
+                None => self.draw_arrival(machine),
+            }
+        } else {
+            match self.draw_arrival(machine) {
+                Some(picked) => Some(picked),
+                None => self.draw_core(machine),
+            }
+        }
+    }
+
+    /// An eviction, where one is drawn by its weight, and a line can be given up. It goes through the blocks in use from one on that is drawn, and through
+    /// the harts from one on.
+    fn draw_eviction<const SETS: usize, const WAYS: usize>(
+        &mut self,
+        machine: &Machine<SETS, WAYS>,
+    ) -> Option<Picked>
+        ensures some { IfSome result (λ p. IsChosen (geometry SETS WAYS) machine.now p.choice p.step) }
+        ensures kept { self.new ≡ self.old }
+    {
+        let evictions = self.mix.evictions as usize;
+        let others = self.mix.cores as usize + self.mix.arrivals as usize;
+        if self.below(evictions + others) >= evictions {
+            return None;
+        }
+        let first = self.below(machine.used());
+        let hart = self.below(machine.harts());
+        find_eviction(machine, first, hart)
+    }
+
+    /// What comes next. `None` where no core has a step to make, and no message can arrive.
+    fn draw<const SETS: usize, const WAYS: usize>(
+        &mut self,
+        machine: &Machine<SETS, WAYS>,
+    ) -> Option<Picked>
+        ensures some { IfSome result (λ p. IsChosen (geometry SETS WAYS) machine.now p.choice p.step) }
+        ensures none { IfNone result (IsAtRest (geometry SETS WAYS) machine.now) }
+        ensures kept { self.new ≡ self.old }
+    {
+        let step = self.draw_step(machine)?;
+        match self.draw_eviction(machine) {
+            Some(eviction) => Some(eviction),
+            None => Some(step),
+        }
+    }
+
+    /// Keeps a choice, where choices are kept.
+    fn keep(&mut self, choice: Choice) -> Result<(), AllocError>
+        ensures ok { OnOk result (self.new ≡ option_map (λ choices. choices ++ choice ∷ []) self.old) }
+        ensures err { OnErr result (self.new ≡ self.old) }
+    {
+        if let Some(history) = &mut self.history {
+            history.make_room()?;
+            history.note(choice, 1);
+        }
+        Ok(())
+    }
+}
+
+impl<const SETS: usize, const WAYS: usize> Chooser<SETS, WAYS> for Chance {
+    ghost behind = { λ chance. ByChance chance };
+
+    #[inline(always)]
+    fn takes_turns(&self) -> bool {
+        false
+    }
+
+    fn next(
+        &mut self,
+        machine: &Machine<SETS, WAYS>,
+        _last: Turned,
+    ) -> Result<Option<Step>, AllocError> {
+        let Some(picked) = self.draw(machine) else {
+            return Ok(None);
+        };
+        self.keep(picked.choice)?;
+        Ok(Some(picked.step))
+    }
+}
