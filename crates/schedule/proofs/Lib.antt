@@ -3,6 +3,8 @@ mod Reading
 mod Finding
 mod Gathering
 mod Resting
+mod Again
+mod Naming
 pub mod Making
 pub mod Going
 pub mod Seeing

@@ -7,7 +7,7 @@ use Rattle.machine.specs.States.{State, setting_of, shown}
 use Rattle.machine.specs.Turns.{IsNextTurn}
 use Rattle.machine.specs.Watch.{IsEnabled}
 use Rattle.schedule.specs.declared.choices.Choice.{Choice}
-use Rattle.schedule.specs.Steps.{IsStepOf}
+use Rattle.schedule.specs.Steps.{IsChoiceOf, IsWithin}
 
 -- what comes behind a list: turns; or what chance chooses, and these are its choices where they are kept
 pub data Behind : Type 0 where
@@ -22,9 +22,10 @@ pub record Course : Type 0 where
 abbrev pub course : List Choice → Behind → Course
 course choices behind = record { choices = choices; behind = behind }
 
--- a choice is this step, whosever the last core step was; the step is enabled, and the choice can be written
+-- a choice is this step, whosever the last core step was; the step is enabled, and what the choice names is there
 pub record IsChosen (g : Geometry) (v : State) (c : Choice) (step : Step) : Type 0 where
-  pub is : (after : ℕ) → IsStepOf g.sets v after c (Some step)
+  pub is : IsChoiceOf g.sets v step c
+  pub within : IsWithin (setting_of v) c
   pub enabled : IsEnabled g (shown g.sets v) step true
 
 -- no hart's core has a step to make, and no message has where to arrive

@@ -1,6 +1,5 @@
 //! Steps that are chosen by chance, by a seed.
-ghost use Rattle.std.specs.Prelude.{◌≡◌, ◌<◌, ◌++◌, [], ◌∷◌, ℕ, Some, None, false, IfSome, IfNone, OnOk, OnErr};
-ghost use Rattle.std.specs.Option.{option_map};
+ghost use Rattle.std.specs.Prelude.{◌≡◌, ◌<◌, [], ℕ, Some, None, false, IfSome, IfNone};
 ghost use Rattle.words.specs.declared.entry.Step.TheVariants.{Core, Deliver};
 ghost use Rattle.machine.specs.States.{geometry, setting_of, shown};
 ghost use Rattle.machine.specs.Watch.{IsEnabled};
@@ -35,57 +34,20 @@ pub struct Mix {
 pub struct Chance {
     generator: Pcg32,
     mix: Mix,
-    history: Option<History>,
-}
-
-impl Model for Chance {
-    ghost use Rattle.std.specs.Prelude.{List, Option};
-    ghost use Rattle.std.specs.Option.{option_map};
-    ghost use Rattle.schedule.specs.declared.choices.Choice.{Choice as ChoiceValue};
-
-    // The choices so far, where they are kept.
-    ghost Value = { Option (List ChoiceValue) };
-
-    ghost view = { λ c. option_map (λ h. h.choices) c.history };
 }
 
 impl Chance {
-    /// Chance by a seed, which keeps no choices.
-    pub fn new(seed: u64, mix: Mix) -> Self
-        ensures { result ≡ None }
-    {
+    /// Chance by a seed.
+    pub fn new(seed: u64, mix: Mix) -> Self {
         Chance {
             generator: Pcg32::seed_from_u64(seed),
             mix,
-            history: None,
-        }
-    }
-
-    /// Chance by a seed, which keeps its choices.
-    pub fn kept(alloc: Global, seed: u64, mix: Mix) -> Self
-        ensures { result ≡ Some [] }
-    {
-        Chance {
-            generator: Pcg32::seed_from_u64(seed),
-            mix,
-            history: Some(History::new(alloc)),
-        }
-    }
-
-    /// The choices so far, where they are kept.
-    pub fn history(&self) -> Option<&History>
-        ensures { option_map (λ h. h.now.choices) result ≡ self.now }
-    {
-        match &self.history {
-            Some(history) => Some(history),
-            None => None,
         }
     }
 
     /// A number below a bound, or 0 if that is 0.
     fn below(&mut self, bound: usize) -> usize
-        ensures less { 0 < bound → result < bound }
-        ensures kept { self.new ≡ self.old }
+        ensures { 0 < bound → result < bound }
     {
         let word = self.generator.next_word() as usize;
         if bound == 0 { 0 } else { word % bound }
@@ -98,7 +60,6 @@ impl Chance {
     ) -> Option<Picked>
         ensures some { IfSome result (λ p. IsChosen (geometry SETS WAYS) machine.now p.choice p.step) }
         ensures none { IfNone result ((i : ℕ) → i < (setting_of machine.now).count → IsEnabled (geometry SETS WAYS) (shown SETS machine.now) (Core i) false) }
-        ensures kept { self.new ≡ self.old }
     {
         let ready = ready_harts(machine);
         let index = self.below(ready.len());
@@ -117,7 +78,6 @@ impl Chance {
     ) -> Option<Picked>
         ensures some { IfSome result (λ p. IsChosen (geometry SETS WAYS) machine.now p.choice p.step) }
         ensures none { IfNone result ((key : ℕ) → IsEnabled (geometry SETS WAYS) (shown SETS machine.now) (Deliver key) false) }
-        ensures kept { self.new ≡ self.old }
     {
         let keys = arrivals(machine);
         let index = self.below(keys.len());
@@ -132,7 +92,6 @@ impl Chance {
     ) -> Option<Picked>
         ensures some { IfSome result (λ p. IsChosen (geometry SETS WAYS) machine.now p.choice p.step) }
         ensures none { IfNone result (IsAtRest (geometry SETS WAYS) machine.now) }
-        ensures kept { self.new ≡ self.old }
     {
         let (cores, arrivals) = (self.mix.cores as usize, self.mix.arrivals as usize);
         if self.below(cores + arrivals) < cores {
@@ -154,8 +113,7 @@ impl Chance {
         &mut self,
         machine: &Machine<SETS, WAYS>,
     ) -> Option<Picked>
-        ensures some { IfSome result (λ p. IsChosen (geometry SETS WAYS) machine.now p.choice p.step) }
-        ensures kept { self.new ≡ self.old }
+        ensures { IfSome result (λ p. IsChosen (geometry SETS WAYS) machine.now p.choice p.step) }
     {
         let evictions = self.mix.evictions as usize;
         let others = self.mix.cores as usize + self.mix.arrivals as usize;
@@ -174,7 +132,6 @@ impl Chance {
     ) -> Option<Picked>
         ensures some { IfSome result (λ p. IsChosen (geometry SETS WAYS) machine.now p.choice p.step) }
         ensures none { IfNone result (IsAtRest (geometry SETS WAYS) machine.now) }
-        ensures kept { self.new ≡ self.old }
     {
         let step = self.draw_step(machine)?;
         match self.draw_eviction(machine) {
@@ -182,22 +139,10 @@ impl Chance {
             None => Some(step),
         }
     }
-
-    /// Keeps a choice, where choices are kept.
-    fn keep(&mut self, choice: Choice) -> Result<(), AllocError>
-        ensures ok { OnOk result (self.new ≡ option_map (λ choices. choices ++ choice ∷ []) self.old) }
-        ensures err { OnErr result (self.new ≡ self.old) }
-    {
-        if let Some(history) = &mut self.history {
-            history.make_room()?;
-            history.note(choice, 1);
-        }
-        Ok(())
-    }
 }
 
 impl<const SETS: usize, const WAYS: usize> Chooser<SETS, WAYS> for Chance {
-    ghost behind = { λ chance. ByChance chance };
+    ghost behind = { λ _. ByChance None };
 
     #[inline(always)]
     fn takes_turns(&self) -> bool {
@@ -209,10 +154,67 @@ impl<const SETS: usize, const WAYS: usize> Chooser<SETS, WAYS> for Chance {
         machine: &Machine<SETS, WAYS>,
         _last: Turned,
     ) -> Result<Option<Step>, AllocError> {
-        let Some(picked) = self.draw(machine) else {
+        match self.draw(machine) {
+            Some(picked) => Ok(Some(picked.step)),
+            None => Ok(None),
+        }
+    }
+}
+
+/// Chance that keeps what it chooses in a history.
+#[derive(Drop)]
+pub struct KeptChance {
+    chance: Chance,
+    history: History,
+}
+
+impl Model for KeptChance {
+    ghost use Rattle.std.specs.Prelude.{List};
+    ghost use Rattle.schedule.specs.declared.choices.Choice.{Choice as ChoiceValue};
+
+    // The choices so far.
+    ghost Value = { List ChoiceValue };
+
+    ghost view = { λ k. k.history.choices };
+}
+
+impl KeptChance {
+    /// Chance of which nothing was asked yet.
+    pub fn new(alloc: Global, chance: Chance) -> Self
+        ensures { result ≡ [] }
+    {
+        KeptChance {
+            chance,
+            history: History::new(alloc),
+        }
+    }
+
+    /// What was chosen so far.
+    pub fn history(&self) -> &History
+        ensures { result.now.choices ≡ self.now }
+    {
+        &self.history
+    }
+}
+
+impl<const SETS: usize, const WAYS: usize> Chooser<SETS, WAYS> for KeptChance {
+    ghost behind = { λ kept. ByChance (Some kept) };
+
+    #[inline(always)]
+    fn takes_turns(&self) -> bool {
+        false
+    }
+
+    fn next(
+        &mut self,
+        machine: &Machine<SETS, WAYS>,
+        _last: Turned,
+    ) -> Result<Option<Step>, AllocError> {
+        self.history.make_room()?;
+        let Some(picked) = self.chance.draw(machine) else {
             return Ok(None);
         };
-        self.keep(picked.choice)?;
+        self.history.note(picked.choice, 1);
         Ok(Some(picked.step))
     }
 }

@@ -7,7 +7,7 @@ ghost use Rattle.machine.specs.Watch.{IsEnabled};
 ghost use Rattle.schedule.specs.Courses.{IsChosen};
 
 use crate::choices::Choice;
-use crate::step::name_of;
+use crate::step::named;
 use arrayvec::ArrayVec;
 use machine::Machine;
 use words::{BlockNo, HARTS, HartId, Step};
@@ -62,9 +62,9 @@ pub(crate) fn arrival<const SETS: usize, const WAYS: usize>(
     requires { IsEnabled (geometry SETS WAYS) (shown SETS machine.now) (Deliver key) true }
     ensures { IsChosen (geometry SETS WAYS) machine.now result.choice result.step }
 {
-    let message = machine.message(key).unwrap();
+    let name = named(machine, key).unwrap();
     Picked {
-        choice: Choice::Deliver(name_of(&message)),
+        choice: Choice::Deliver(name),
         step: Step::Deliver(key),
     }
 }
@@ -114,12 +114,29 @@ fn eviction_of<const SETS: usize, const WAYS: usize>(
     let harts = machine.harts();
     for offset in 0..harts {
         let id = HartId::new((hart.wrapping_add(offset) % harts) as u8);
-        if machine.line(id, block).is_some() && machine.is_enabled(Step::Evict(id, block)) {
-            return Some(Picked {
-                choice: Choice::Evict(id, block),
-                step: Step::Evict(id, block),
-            });
+        if let Some(picked) = eviction_by(machine, block, id) {
+            return Some(picked);
         }
     }
     None
+}
+
+/// The same, by one hart.
+fn eviction_by<const SETS: usize, const WAYS: usize>(
+    machine: &Machine<SETS, WAYS>,
+    block: BlockNo,
+    id: HartId,
+) -> Option<Picked>
+    ensures { IfSome result (λ p. IsChosen (geometry SETS WAYS) machine.now p.choice p.step) }
+{
+    machine.keeps();
+    let _few = id.index();
+    let _line = machine.line(id, block)?;
+    if !machine.is_enabled(Step::Evict(id, block)) {
+        return None;
+    }
+    Some(Picked {
+        choice: Choice::Evict(id, block),
+        step: Step::Evict(id, block),
+    })
 }
