@@ -6,7 +6,7 @@ mod Finding
 mod Carrying
 pub mod Refusing
 pub mod Performing
-mod TurnRuns
+mod StepRuns
 pub mod Quoting
 mod ShownRuns
 mod ThreadedRuns

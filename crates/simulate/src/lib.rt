@@ -11,6 +11,7 @@ mod debugging;
 mod fault;
 mod files;
 mod laws;
+mod kept;
 mod live;
 mod meter;
 mod page;
@@ -19,8 +20,8 @@ pub mod readable;
 mod search;
 mod serving;
 pub mod source;
+mod steps;
 mod threads;
-mod turns;
 
 pub use carry::{Outcome, carry_out};
 pub use fault::{Fault, RefusedLine};
