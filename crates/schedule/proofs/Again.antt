@@ -1,5 +1,5 @@
 -- A run by chance, as a run by a schedule.
-use Rattle.std.proofs.Common.{◌≡◌, ◌++◌, ℕ, zero, suc, List, [], ◌∷◌, length, take, Some, refl, sym, subst}
+use Rattle.std.proofs.Common.{◌++◌, ℕ, zero, suc, List, [], ◌∷◌, length, take, Some, sym, subst}
 use Rattle.protocol.specs.Caches.{Geometry}
 use Rattle.machine.specs.States.{State}
 use Rattle.machine.specs.Turns.{hart_after}

@@ -31,19 +31,18 @@ pub full_is_some : (found : List ℕ) → 0 < length found → found ≡ [] → 
 full_is_some [] some is = absurd (omega (arith, some))
 full_is_some (x ∷ xs) some is = cc
 
--- the same of numbers of harts
-abbrev pub Readies : (ℕ → Bool → Type 0) → List ℕ → ℕ → Type 0
-Readies test found n =
-    All (λ k. (k < most_harts) × test k true) found × (length found ≤ n) × (found ≡ [] → (k : ℕ) → k < n → test k false)
+-- the same of numbers of harts, which pass one test or another
+abbrev pub Readies : (ℕ → Type 0) → (ℕ → Type 0) → List ℕ → ℕ → Type 0
+Readies can lacks found n = All (λ k. (k < most_harts) × can k) found × (length found ≤ n) × (found ≡ [] → (k : ℕ) → k < n → lacks k)
 
-module _ (test : ℕ → Bool → Type 0) (found : List ℕ) (n : ℕ) (before : Readies test found n) where
-  pub ready_more : n < most_harts → test n true → Readies test (found ++ n ∷ []) (n + 1)
+module _ (can lacks : ℕ → Type 0) (found : List ℕ) (n : ℕ) (before : Readies can lacks found n) where
+  pub ready_more : n < most_harts → can n → Readies can lacks (found ++ n ∷ []) (n + 1)
   ready_more few passes =
       let one = length-append found (n ∷ []) in (
-        All-append (λ k. (k < most_harts) × test k true) found (n ∷ []) before.0 (All-cons (λ k. (k < most_harts) × test k true) n [] (few, passes) (All-nil (λ k. (k < most_harts) × test k true))),
+        All-append (λ k. (k < most_harts) × can k) found (n ∷ []) before.0 (All-cons (λ k. (k < most_harts) × can k) n [] (few, passes) (All-nil (λ k. (k < most_harts) × can k))),
         omega (arith, before.1, one),
         λ none. absurd (not_none found n none),
       )
 
-  pub ready_none : test n false → Readies test found (n + 1)
-  ready_none fails = (before.0, omega (arith, before.1), λ none k less. elim (at_most k n less) [ inl l ↦ before.2 none k l | inr e ↦ subst (λ (i : ℕ). test i false) (sym e) fails ])
+  pub ready_none : lacks n → Readies can lacks found (n + 1)
+  ready_none fails = (before.0, omega (arith, before.1), λ none k less. elim (at_most k n less) [ inl l ↦ before.2 none k l | inr e ↦ subst (λ (i : ℕ). lacks i) (sym e) fails ])

@@ -7,6 +7,7 @@ mod Again
 mod Naming
 pub mod Making
 pub mod Going
+mod Ready
 pub mod Seeing
 pub mod PlainTurns
 pub mod Lengths

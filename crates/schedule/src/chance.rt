@@ -3,7 +3,7 @@ ghost use Rattle.std.specs.Prelude.{◌≡◌, ◌<◌, [], ℕ, Some, None, fal
 ghost use Rattle.words.specs.declared.entry.Step.TheVariants.{Core, Deliver};
 ghost use Rattle.machine.specs.States.{geometry, setting_of, shown};
 ghost use Rattle.machine.specs.Watch.{IsEnabled};
-ghost use Rattle.schedule.specs.Courses.{IsAtRest, IsChosen};
+ghost use Rattle.schedule.specs.Courses.{IsAtRest, IsPicked};
 ghost use Rattle.schedule.specs.Courses.Behind.{Chance as ByChance};
 
 use crate::choices::Choice;
@@ -58,7 +58,7 @@ impl Chance {
         &mut self,
         machine: &Machine<SETS, WAYS>,
     ) -> Option<Picked>
-        ensures some { IfSome result (λ p. IsChosen (geometry SETS WAYS) machine.now p.choice p.step) }
+        ensures some { IfSome result (λ p. IsPicked (geometry SETS WAYS) machine.now p.choice p.step) }
         ensures none { IfNone result ((i : ℕ) → i < (setting_of machine.now).count → IsEnabled (geometry SETS WAYS) (shown SETS machine.now) (Core i) false) }
     {
         let ready = ready_harts(machine);
@@ -76,7 +76,7 @@ impl Chance {
         &mut self,
         machine: &Machine<SETS, WAYS>,
     ) -> Option<Picked>
-        ensures some { IfSome result (λ p. IsChosen (geometry SETS WAYS) machine.now p.choice p.step) }
+        ensures some { IfSome result (λ p. IsPicked (geometry SETS WAYS) machine.now p.choice p.step) }
         ensures none { IfNone result ((key : ℕ) → IsEnabled (geometry SETS WAYS) (shown SETS machine.now) (Deliver key) false) }
     {
         let keys = arrivals(machine);
@@ -90,7 +90,7 @@ impl Chance {
         &mut self,
         machine: &Machine<SETS, WAYS>,
     ) -> Option<Picked>
-        ensures some { IfSome result (λ p. IsChosen (geometry SETS WAYS) machine.now p.choice p.step) }
+        ensures some { IfSome result (λ p. IsPicked (geometry SETS WAYS) machine.now p.choice p.step) }
         ensures none { IfNone result (IsAtRest (geometry SETS WAYS) machine.now) }
     {
         let (cores, arrivals) = (self.mix.cores as usize, self.mix.arrivals as usize);
@@ -113,7 +113,7 @@ impl Chance {
         &mut self,
         machine: &Machine<SETS, WAYS>,
     ) -> Option<Picked>
-        ensures { IfSome result (λ p. IsChosen (geometry SETS WAYS) machine.now p.choice p.step) }
+        ensures { IfSome result (λ p. IsPicked (geometry SETS WAYS) machine.now p.choice p.step) }
     {
         let evictions = self.mix.evictions as usize;
         let others = self.mix.cores as usize + self.mix.arrivals as usize;
@@ -130,7 +130,7 @@ impl Chance {
         &mut self,
         machine: &Machine<SETS, WAYS>,
     ) -> Option<Picked>
-        ensures some { IfSome result (λ p. IsChosen (geometry SETS WAYS) machine.now p.choice p.step) }
+        ensures some { IfSome result (λ p. IsPicked (geometry SETS WAYS) machine.now p.choice p.step) }
         ensures none { IfNone result (IsAtRest (geometry SETS WAYS) machine.now) }
     {
         let step = self.draw_step(machine)?;

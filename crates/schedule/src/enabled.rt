@@ -1,16 +1,17 @@
 //! The steps among which chance chooses.
-ghost use Rattle.std.specs.Prelude.{◌≡◌, ◌<◌, ℕ, [], All, IfSome, true, false};
+ghost use Rattle.std.specs.Prelude.{◌≡◌, ◌<◌, ◌*◌, ◌^◌, ℕ, [], All, IfSome, IsTrue, IsFalse, true, false};
 ghost use Rattle.words.specs.Limits.{most_harts};
 ghost use Rattle.words.specs.declared.entry.Step.TheVariants.{Core, Deliver};
+ghost use Rattle.protocol.specs.Hart.{is_running};
 ghost use Rattle.machine.specs.States.{geometry, setting_of, shown};
 ghost use Rattle.machine.specs.Watch.{IsEnabled};
-ghost use Rattle.schedule.specs.Courses.{IsChosen};
+ghost use Rattle.schedule.specs.Courses.{IsAble, IsPicked};
 
 use crate::choices::Choice;
 use crate::step::named;
 use arrayvec::ArrayVec;
 use machine::Machine;
-use words::{BlockNo, HARTS, HartId, Step};
+use words::{BlockNo, HARTS, HartId, Status, Step};
 
 /// How many messages chance chooses among at most.
 const MESSAGES: usize = 64;
@@ -26,16 +27,47 @@ pub(crate) struct Picked {
 pub(crate) fn ready_harts<const SETS: usize, const WAYS: usize>(
     machine: &Machine<SETS, WAYS>,
 ) -> ArrayVec<usize, HARTS>
-    ensures all { All (λ i. (i < most_harts) × IsEnabled (geometry SETS WAYS) (shown SETS machine.now) (Core i) true) result.items }
+    ensures all { All (λ i. (i < most_harts) × IsAble (geometry SETS WAYS) machine.now (Core i)) result.items }
     ensures none { result.items ≡ [] → (i : ℕ) → i < (setting_of machine.now).count → IsEnabled (geometry SETS WAYS) (shown SETS machine.now) (Core i) false }
 {
+    machine.keeps();
     let mut ready = ArrayVec::new();
     for number in 0..machine.harts() {
-        if machine.is_enabled(Step::Core(HartId::new(number as u8))) {
+        if is_ready(machine, HartId::new(number as u8)) {
             ready.push(number);
         }
     }
     ready
+}
+
+/// Whether a hart's core has a step to make. That is known at once but where a Put of the hart is out.
+fn is_ready<const SETS: usize, const WAYS: usize>(
+    machine: &Machine<SETS, WAYS>,
+    id: HartId,
+) -> bool
+    requires { SETS * WAYS < 2 ^ 32 }
+    ensures yes { IsTrue result → IsAble (geometry SETS WAYS) machine.now (Core id) }
+    ensures no { IsFalse result → IsEnabled (geometry SETS WAYS) (shown SETS machine.now) (Core id) false }
+{
+    let Some(hart) = machine.hart(id) else {
+        return machine.is_enabled(Step::Core(id));
+    };
+    if !runs(hart.status()) {
+        return false;
+    }
+    if hart.request().is_some() {
+        return false;
+    }
+    if hart.put().is_some() {
+        return machine.is_enabled(Step::Core(id));
+    }
+    true
+}
+
+fn runs(status: Status) -> bool
+    ensures { result ≡ is_running status }
+{
+    matches!(status, Status::Running)
 }
 
 /// The keys of messages that can arrive: of all, but for those behind the first [`MESSAGES`].
@@ -60,7 +92,7 @@ pub(crate) fn arrival<const SETS: usize, const WAYS: usize>(
     key: usize,
 ) -> Picked
     requires { IsEnabled (geometry SETS WAYS) (shown SETS machine.now) (Deliver key) true }
-    ensures { IsChosen (geometry SETS WAYS) machine.now result.choice result.step }
+    ensures { IsPicked (geometry SETS WAYS) machine.now result.choice result.step }
 {
     let name = named(machine, key).unwrap();
     Picked {
@@ -76,7 +108,7 @@ pub(crate) fn find_eviction<const SETS: usize, const WAYS: usize>(
     first: usize,
     hart: usize,
 ) -> Option<Picked>
-    ensures { IfSome result (λ p. IsChosen (geometry SETS WAYS) machine.now p.choice p.step) }
+    ensures { IfSome result (λ p. IsPicked (geometry SETS WAYS) machine.now p.choice p.step) }
 {
     match eviction_among(machine, first, usize::MAX, hart) {
         Some(picked) => Some(picked),
@@ -91,7 +123,7 @@ fn eviction_among<const SETS: usize, const WAYS: usize>(
     to: usize,
     hart: usize,
 ) -> Option<Picked>
-    ensures { IfSome result (λ p. IsChosen (geometry SETS WAYS) machine.now p.choice p.step) }
+    ensures { IfSome result (λ p. IsPicked (geometry SETS WAYS) machine.now p.choice p.step) }
 {
     for (place, (number, _entry)) in machine.kept().iter().enumerate() {
         if from <= place && place < to {
@@ -109,7 +141,7 @@ fn eviction_of<const SETS: usize, const WAYS: usize>(
     block: BlockNo,
     hart: usize,
 ) -> Option<Picked>
-    ensures { IfSome result (λ p. IsChosen (geometry SETS WAYS) machine.now p.choice p.step) }
+    ensures { IfSome result (λ p. IsPicked (geometry SETS WAYS) machine.now p.choice p.step) }
 {
     let harts = machine.harts();
     for offset in 0..harts {
@@ -127,7 +159,7 @@ fn eviction_by<const SETS: usize, const WAYS: usize>(
     block: BlockNo,
     id: HartId,
 ) -> Option<Picked>
-    ensures { IfSome result (λ p. IsChosen (geometry SETS WAYS) machine.now p.choice p.step) }
+    ensures { IfSome result (λ p. IsPicked (geometry SETS WAYS) machine.now p.choice p.step) }
 {
     machine.keeps();
     let _few = id.index();

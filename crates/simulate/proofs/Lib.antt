@@ -7,6 +7,7 @@ mod Carrying
 pub mod Refusing
 pub mod Performing
 mod StepRuns
+mod KeptRuns
 pub mod Quoting
 mod ShownRuns
 mod ThreadedRuns

@@ -1,5 +1,5 @@
 //! A run by chance whose history is written.
-ghost use Rattle.std.specs.Prelude.{◌<◌, ◌*◌, ◌^◌, ◌++◌, MatchResult, take};
+ghost use Rattle.std.specs.Prelude.{◌≡◌, ◌<◌, ◌*◌, ◌^◌, ◌++◌, MatchResult, take};
 ghost use Rattle.words.specs.Sinks.{TookAll};
 ghost use Rattle.command_line.specs.Runs.{shown};
 ghost use Rattle.machine.specs.States.{geometry};
