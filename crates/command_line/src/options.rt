@@ -3,9 +3,7 @@ ghost use Rattle.command_line.specs.Runs.{IsRunFault, IsRunOf, IsShowFault, IsSh
 ghost use Rattle.command_line.specs.Runs.{IsInFile, IsWayFault, IsWayOf, can_keep, drawing_at, reads, shown, stands_alone};
 
 use crate::fault::OrderFault;
-use crate::request::{
-    Chance, MOST_DRAWN, Mix, Print, Run, Setup, Show, Stats, View, Way, Word,
-};
+use crate::request::{Chance, MOST_DRAWN, Mix, Print, Run, Setup, Show, Stats, View, Way, Word};
 
 /// The weights where none are given.
 const DEFAULT_MIX: Mix = Mix {

@@ -183,8 +183,10 @@ fn with_choosers<'a>(
     ensures { (app : App) → Makes command.entry app → Makes result (with_rules spec.choosers app) }
 {
     let schedule = "A file whose lines choose the first steps";
-    let seed = "Chooses the steps by chance, behind those of a schedule: by one number the same steps";
-    let mix = "The weights of core steps, arrivals of messages and evictions by chance, 20,20,1 if not given";
+    let seed =
+        "Chooses the steps by chance, behind those of a schedule: by one number the same steps";
+    let mix =
+        "The weights of core steps, arrivals of messages and evictions by chance, 20,20,1 if not given";
     let command = with_option(alloc, command, "schedule", "LIST", schedule);
     let command = with_option(alloc, command, "seed", "N", seed);
     with_option(alloc, command, "mix", "C,D,E", mix)

@@ -7,8 +7,8 @@ ghost use Rattle.command_line.specs.Reading.{malformed_of_setup, read_or, seed_o
 ghost use Rattle.command_line.specs.Mixes.{mix_of};
 
 use crate::fault::OrderFault;
-use crate::options::Options;
 use crate::mix::mix_named;
+use crate::options::Options;
 use crate::request::{Cache, Mix, Request, Search, Setup, Stats, Witness, Word};
 use clap::ArgMatches;
 use std::alloc::Global;

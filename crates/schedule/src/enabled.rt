@@ -41,10 +41,7 @@ pub(crate) fn ready_harts<const SETS: usize, const WAYS: usize>(
 }
 
 /// Whether a hart's core has a step to make. That is known at once but where a Put of the hart is out.
-fn is_ready<const SETS: usize, const WAYS: usize>(
-    machine: &Machine<SETS, WAYS>,
-    id: HartId,
-) -> bool
+fn is_ready<const SETS: usize, const WAYS: usize>(machine: &Machine<SETS, WAYS>, id: HartId) -> bool
     requires { SETS * WAYS < 2 ^ 32 }
     ensures yes { IsTrue result → IsAble (geometry SETS WAYS) machine.now (Core id) }
     ensures no { IsFalse result → IsEnabled (geometry SETS WAYS) (shown SETS machine.now) (Core id) false }

@@ -56,7 +56,15 @@ forget_comes : (g : Geometry) (setup : Setup) (b : Behind) (file list : List ℕ
 forget_comes g setup Turns file list steps ms f comes = comes
 forget_comes g setup (Chance None) file list steps ms f comes = comes
 forget_comes g setup (Chance (Some chosen)) file list steps ms f comes = record {
-  program = comes.program; holds = comes.holds; first = comes.first; begins = comes.begins; choices = comes.choices; chosen = comes.chosen; last = comes.last; made = (chosen, comes.made); run = comes.run;
+  program = comes.program;
+  holds = comes.holds;
+  first = comes.first;
+  begins = comes.begins;
+  choices = comes.choices;
+  chosen = comes.chosen;
+  last = comes.last;
+  made = (chosen, comes.made);
+  run = comes.run;
 }
 
 module _ (g : Geometry) (run : Run) (b : Behind) (show : Show) (file list : List ℕ) (v w : State) (addrs : List ℕ) (choices followed : List Choice) (begun : IsBegunBy g run file list v addrs choices) (same : followed ≡ choices) where

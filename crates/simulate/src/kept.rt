@@ -70,7 +70,13 @@ pub(crate) fn run_and_keep<'a, const SETS: usize, const WAYS: usize, P: Progress
         chart,
         out,
     )?;
-    keep(&choices, run.steps, chooser.history(), path, &mut chart.sink)?;
+    keep(
+        &choices,
+        run.steps,
+        chooser.history(),
+        path,
+        &mut chart.sink,
+    )?;
     Ok(status)
 }
 

@@ -25,10 +25,7 @@ fn begun(rt: &impl AllocGlobal) -> Result<Machine<2, 1>, Fail> {
 }
 
 /// The history of a run by a seed, as a schedule, and the machine behind it.
-fn played(
-    rt: &(impl Abort + AllocGlobal),
-    seed: u64,
-) -> Result<(Vec<u8>, Machine<2, 1>), Fail> {
+fn played(rt: &(impl Abort + AllocGlobal), seed: u64) -> Result<(Vec<u8>, Machine<2, 1>), Fail> {
     let mut machine = begun(rt)?;
     let mut chance = KeptChance::new(rt.alloc(), Chance::new(seed, MIX));
     play(&mut machine, &[], STEPS, &mut chance, &mut Silent)?;

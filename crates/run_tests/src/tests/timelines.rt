@@ -46,14 +46,7 @@ fn shown<S: Sink>(
     chart: &mut Chart<S>,
 ) -> Result<(), Halt> {
     let mut machine = booted(rt, text, harts);
-    put_timeline(
-        &mut machine,
-        &[],
-        1000,
-        &mut Turns,
-        chart,
-        &mut Silent,
-    )
+    put_timeline(&mut machine, &[], 1000, &mut Turns, chart, &mut Silent)
 }
 
 /// A sink in memory.

@@ -26,14 +26,7 @@ fn traced<S: Sink>(
     let choices = [Choice::Core(HartId::new(0)); 3];
     let choices = &choices[..chosen.min(3)];
     let mut machine = booted(rt, &COMMITS, 1);
-    put_trace(
-        &mut machine,
-        choices,
-        100,
-        &mut Turns,
-        sink,
-        &mut Silent,
-    )
+    put_trace(&mut machine, choices, 100, &mut Turns, sink, &mut Silent)
 }
 
 #[test]

@@ -519,14 +519,13 @@ fn reads_a_run_in_threads(rt: HostRuntime) {
 }
 
 /// The seed and the weights of a run by chance, and where its history goes: an empty path where it is not kept.
-fn chance(
-    alloc: Global,
-    words: &'static [&'static str],
-) -> Option<(u32, [u32; 3], &'static str)> {
+fn chance(alloc: Global, words: &'static [&'static str]) -> Option<(u32, [u32; 3], &'static str)> {
     let (chance, history) = match run_of(alloc, words)?.way {
         Way::Chance { chance, .. } => (chance, ""),
         Way::Kept {
-            chance, history, ..
+            chance,
+            history,
+            ..
         } => (chance, history),
         Way::Turns { .. } | Way::Threads { .. } => return None,
     };
@@ -562,7 +561,14 @@ fn reads_a_run_by_chance(rt: HostRuntime) {
             Some((1, [20, 20, 1], "h")),
         ),
         (
-            &["logtm", "run", "f", "--seed=1", "--stats=csv", "--schedule=l"],
+            &[
+                "logtm",
+                "run",
+                "f",
+                "--seed=1",
+                "--stats=csv",
+                "--schedule=l",
+            ],
             Some((1, [20, 20, 1], "")),
         ),
         (&["logtm", "run", "f"], None),
