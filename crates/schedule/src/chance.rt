@@ -8,7 +8,9 @@ ghost use Rattle.schedule.specs.Courses.Behind.{Chance as ByChance};
 
 use crate::choices::Choice;
 use crate::chooser::Chooser;
-use crate::enabled::{Picked, arrival, arrivals, find_eviction, ready_harts};
+use crate::enabled::{
+    Picked, arrival, arrivals, can_arrive, find_eviction, is_ready, ready_harts, step_of,
+};
 use crate::history::History;
 use machine::{Machine, Turned};
 use rand_core::SeedableRng;
@@ -16,7 +18,10 @@ use rand_core::utils::NextWord;
 use rand_pcg::Pcg32;
 use std::alloc::{AllocError, Global};
 use std::marker::Model;
-use words::{HartId, Step};
+use words::{HARTS, HartId, Step};
+
+/// How often chance draws before it looks which draws would do. All that would do are as likely either way.
+const TRIES: usize = 4;
 
 /// The weights by which chance draws what comes next: a step of a core, the arrival of a message, or an eviction. Where nothing of what it draws is
 /// enabled, it is another's turn.
@@ -61,14 +66,17 @@ impl Chance {
         ensures some { IfSome result (λ p. IsPicked (geometry SETS WAYS) machine.now p.choice p.step) }
         ensures none { IfNone result ((i : ℕ) → i < (setting_of machine.now).count → IsEnabled (geometry SETS WAYS) (shown SETS machine.now) (Core i) false) }
     {
+        machine.keeps();
+        for _try in 0..TRIES {
+            let hart = HartId::new((self.below(machine.harts()) % HARTS) as u8);
+            if is_ready(machine, hart) {
+                return Some(step_of(machine, hart));
+            }
+        }
         let ready = ready_harts(machine);
         let index = self.below(ready.len());
         let number = *ready.get(index)?;
-        let hart = HartId::new(number as u8);
-        Some(Picked {
-            choice: Choice::Core(hart),
-            step: Step::Core(hart),
-        })
+        Some(step_of(machine, HartId::new(number as u8)))
     }
 
     /// A message's arrival.
@@ -79,6 +87,12 @@ impl Chance {
         ensures some { IfSome result (λ p. IsPicked (geometry SETS WAYS) machine.now p.choice p.step) }
         ensures none { IfNone result ((key : ℕ) → IsEnabled (geometry SETS WAYS) (shown SETS machine.now) (Deliver key) false) }
     {
+        for _try in 0..TRIES {
+            let key = self.below(machine.keys());
+            if can_arrive(machine, key) {
+                return Some(arrival(machine, key));
+            }
+        }
         let keys = arrivals(machine);
         let index = self.below(keys.len());
         let key = *keys.get(index)?;
@@ -116,6 +130,9 @@ impl Chance {
         ensures { IfSome result (λ p. IsPicked (geometry SETS WAYS) machine.now p.choice p.step) }
     {
         let evictions = self.mix.evictions as usize;
+        if evictions == 0 {
+            return None;
+        }
         let others = self.mix.cores as usize + self.mix.arrivals as usize;
         if self.below(evictions + others) >= evictions {
             return None;

@@ -14,7 +14,7 @@ use machine::Machine;
 use words::{BlockNo, HARTS, HartId, Status, Step};
 
 /// How many messages chance chooses among at most.
-const MESSAGES: usize = 64;
+const MESSAGES: usize = 32;
 
 /// A step, and the choice that it is.
 #[derive(Clone, Copy, Debug)]
@@ -41,7 +41,10 @@ pub(crate) fn ready_harts<const SETS: usize, const WAYS: usize>(
 }
 
 /// Whether a hart's core has a step to make. That is known at once but where a Put of the hart is out.
-fn is_ready<const SETS: usize, const WAYS: usize>(machine: &Machine<SETS, WAYS>, id: HartId) -> bool
+pub(crate) fn is_ready<const SETS: usize, const WAYS: usize>(
+    machine: &Machine<SETS, WAYS>,
+    id: HartId,
+) -> bool
     requires { SETS * WAYS < 2 ^ 32 }
     ensures yes { IsTrue result → IsAble (geometry SETS WAYS) machine.now (Core id) }
     ensures no { IsFalse result → IsEnabled (geometry SETS WAYS) (shown SETS machine.now) (Core id) false }
@@ -67,6 +70,20 @@ fn runs(status: Status) -> bool
     matches!(status, Status::Running)
 }
 
+/// Whether a message is under a key that can arrive.
+#[inline(always)]
+pub(crate) fn can_arrive<const SETS: usize, const WAYS: usize>(
+    machine: &Machine<SETS, WAYS>,
+    key: usize,
+) -> bool
+    ensures { IsEnabled (geometry SETS WAYS) (shown SETS machine.now) (Deliver key) result }
+{
+    match machine.peek_flight(key) {
+        Some(_) => machine.is_enabled(Step::Deliver(key)),
+        None => false,
+    }
+}
+
 /// The keys of messages that can arrive: of all, but for those behind the first [`MESSAGES`].
 pub(crate) fn arrivals<const SETS: usize, const WAYS: usize>(
     machine: &Machine<SETS, WAYS>,
@@ -76,11 +93,27 @@ pub(crate) fn arrivals<const SETS: usize, const WAYS: usize>(
 {
     let mut keys = ArrayVec::new();
     for key in 0..machine.keys() {
-        if machine.is_enabled(Step::Deliver(key)) && keys.len() < MESSAGES {
+        if can_arrive(machine, key) && keys.len() < MESSAGES {
             keys.push(key);
         }
     }
     keys
+}
+
+/// A step of the core of a hart, which has one to make.
+pub(crate) fn step_of<const SETS: usize, const WAYS: usize>(
+    machine: &Machine<SETS, WAYS>,
+    hart: HartId,
+) -> Picked
+    requires { IsAble (geometry SETS WAYS) machine.now (Core hart) }
+    ensures { IsPicked (geometry SETS WAYS) machine.now result.choice result.step }
+{
+    let _few = hart.index();
+    let _harts = machine.harts();
+    Picked {
+        choice: Choice::Core(hart),
+        step: Step::Core(hart),
+    }
 }
 
 /// The arrival of the message under a key, which can arrive.

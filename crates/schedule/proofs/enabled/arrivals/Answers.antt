@@ -8,7 +8,7 @@ use Rattle.machine.specs.Watch.{IsEnabled}
 use Rattle.schedule.proofs.Gathering.{gathers_more, gathers_none, gathers_full, full_is_some}
 use Rattle.schedule.proofs.Resting.{nothing_under}
 use Rattle.schedule.proofs.enabled.arrivals.Goals as goal
-use Rattle.schedule.proofs.enabled.arrivals.Goals.{then-is_enabled+then-len-lt-MESSAGES, else-is_enabled, else-is_enabled-via-then-is_enabled+else-len-lt-MESSAGES, else-is_enabled-via-else-is_enabled}
+use Rattle.schedule.proofs.enabled.arrivals.Goals.{then-can_arrive+then-len-lt-MESSAGES, else-can_arrive, else-can_arrive-via-then-can_arrive+else-len-lt-MESSAGES, else-can_arrive-via-else-can_arrive}
 
 pub loop-key-preserved : goal.loop-key-preserved
 loop-key-preserved g c =
@@ -16,11 +16,11 @@ loop-key-preserved g c =
     let test : ℕ → Bool → Type 0 = λ key b. IsEnabled G (shown g.row.SETS c.args.machine.now) (Deliver key) b in
     let found = c.loop-key.keys.items in
     let n = c.loop-key.key in
-    elim c.if-is_enabled.branch [
-      | then-is_enabled+then-len-lt-MESSAGES w ↦ rw (w.keys-is, w.push.ensures.items) (gathers_more test found n c.loop-key.invariant (rw w.if-is_enabled.true at c.is_enabled.ensures))
-      | else-is_enabled w ↦ rw w.keys-is (elim w.else-is_enabled.branch [
-        | else-is_enabled-via-then-is_enabled+else-len-lt-MESSAGES x ↦ gathers_full test found n c.loop-key.invariant (full_is_some found (let many : 64 ≤ length found = omega (arith, x.if-len-lt-MESSAGES.false, x.len.ensures.value) in omega (arith, many)))
-        | else-is_enabled-via-else-is_enabled x ↦ gathers_none test found n c.loop-key.invariant (rw x.if-is_enabled.false at c.is_enabled.ensures)
+    elim c.if-can_arrive.branch [
+      | then-can_arrive+then-len-lt-MESSAGES w ↦ rw (w.keys-is, w.push.ensures.items) (gathers_more test found n c.loop-key.invariant (rw w.if-can_arrive.true at c.can_arrive.ensures))
+      | else-can_arrive w ↦ rw w.keys-is (elim w.else-can_arrive.branch [
+        | else-can_arrive-via-then-can_arrive+else-len-lt-MESSAGES x ↦ gathers_full test found n c.loop-key.invariant (full_is_some found (let many : 32 ≤ length found = omega (arith, x.if-len-lt-MESSAGES.false, x.len.ensures.value) in omega (arith, many)))
+        | else-can_arrive-via-else-can_arrive x ↦ gathers_none test found n c.loop-key.invariant (rw x.if-can_arrive.false at c.can_arrive.ensures)
       ])
     ]
 

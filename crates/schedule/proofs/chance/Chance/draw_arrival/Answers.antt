@@ -5,8 +5,8 @@ use Rattle.machine.specs.States.{geometry, shown}
 use Rattle.machine.specs.Watch.{IsEnabled}
 use Rattle.schedule.proofs.chance.Chance.draw_arrival.Goals as goal
 
-pub arrival-requires : goal.arrival-requires
-arrival-requires g c =
+pub arrival-requires-2 : goal.arrival-requires-2
+arrival-requires-2 g c =
     let key = c.in_ok-key.field-0.now in
     let i = c.below-index.result in
     let items = c.deref.result.now in
