@@ -20,7 +20,8 @@ use Rattle.schedule.specs.Runs.{Makes, Follows, last_after}
 use Rattle.schedule.specs.Written.{IsWritable}
 use Rattle.schedule.proofs.Making.{entries_both, entries_one}
 use Rattle.board.specs.Leases.{Lent}
-use Rattle.board.specs.Histories.{Told, IsChosen, IsOf, IsChoiceOf, IsWithin, Leads, LeadsAlone, no_step, one_step, core_steps, both, told_then, first_flat, IsReplay, IsCourseIf, IsKept, IsEnd}
+use Rattle.schedule.specs.Steps.{IsChoiceOf, IsWithin}
+use Rattle.board.specs.Histories.{Told, IsChosen, IsOf, Leads, LeadsAlone, no_step, one_step, core_steps, both, told_then, first_flat, IsReplay, IsCourseIf, IsKept, IsEnd}
 use Rattle.board.proofs.Replays.{Begins, run_settings, replay_none, replay_more, replay_segments, replay_flat}
 
 -- choices behind others

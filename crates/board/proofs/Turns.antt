@@ -9,7 +9,8 @@ use Rattle.machine.specs.Lent.{with_hart}
 use Rattle.schedule.specs.declared.choices.Choice.{Choice}
 use Rattle.schedule.specs.Runs.{Makes}
 use Rattle.board.specs.Leases.{Lent}
-use Rattle.board.specs.Histories.{Told, TellsMore, IsChoiceOf, LeadsAlone, one_step, core_steps}
+use Rattle.schedule.specs.Steps.{IsChoiceOf}
+use Rattle.board.specs.Histories.{Told, TellsMore, LeadsAlone, one_step, core_steps}
 use Rattle.board.specs.Boards.{Held, IsTurn, IsSettled}
 
 module _ {J : Type 0} (g : Geometry) (tells : J → Told → Type 0) (b : Held J) (m : State) (j : J) where

@@ -14,7 +14,8 @@ use Rattle.machine.specs.Lent.{hart_if, with_hart}
 use Rattle.schedule.specs.declared.choices.Choice.{Choice}
 use Rattle.schedule.specs.Runs.{Makes}
 use Rattle.board.specs.Leases.{Lent, IsLentFrom, FitsIn}
-use Rattle.board.specs.Histories.{Told, TellsStill, TellsMore, IsChoiceOf, first_flat, one_step, core_steps}
+use Rattle.schedule.specs.Steps.{IsChoiceOf}
+use Rattle.board.specs.Histories.{Told, TellsStill, TellsMore, first_flat, one_step, core_steps}
 use Rattle.board.specs.declared.refusal.Refusal.{Refusal}
 use Rattle.board.specs.declared.refusal.Refusal.TheVariants.{Stale, NoMemory}
 

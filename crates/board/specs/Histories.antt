@@ -27,21 +27,6 @@ use Rattle.schedule.specs.Written.{IsWritable}
 
 -- Choices
 
--- a choice is this step, whosever the last core step was
-abbrev pub IsChoiceOf : ℕ → State → Step → Choice → Type 0
-IsChoiceOf sets m step c = (after : ℕ) → IsStepOf sets m after c (Some step)
-
--- a name's hart is one that a machine may have, and its block lies in memory
-abbrev pub IsNamedIn : Setting → Name → Type 0
-IsNamedIn s n = (n.hart < most_harts) × LiesInMemory s n.block
-
--- a choice is of one step, and so are its hart and its block
-abbrev pub IsWithin : Setting → Choice → Type 0
-IsWithin s (Core hart) = hart < most_harts
-IsWithin s (Evict hart block) = (hart < most_harts) × LiesInMemory s block
-IsWithin s (Deliver name) = IsNamedIn s name
-IsWithin s Turn = ⊥
-
 -- as many steps by a schedule of choices, whosever the last core step was, lead from one machine to another, with these entries
 abbrev pub Leads : Geometry → List Choice → State → List Entry → State → Type 0
 Leads g choices v es w = (ms : List Moment) × (es ≡ entries_of ms) × ((after : ℕ) → Follows g choices (length choices) v after ms w)

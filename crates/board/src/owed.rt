@@ -1,30 +1,12 @@
 ghost use Rattle.std.specs.Prelude.{◌≡◌, ◌<◌, ◌*◌, ◌^◌, IfSome, IfNone, Some, None};
-ghost use Rattle.words.specs.declared.entry.Step.TheVariants.{Deliver};
-ghost use Rattle.machine.specs.States.{setting_of, shown, geometry};
-ghost use Rattle.schedule.specs.Steps.{IsArrivalOf};
-ghost use Rattle.board.specs.Histories.{IsChoiceOf, IsNamedIn, IsWithin};
+ghost use Rattle.machine.specs.States.{setting_of, geometry};
+ghost use Rattle.schedule.specs.Steps.{IsChoiceOf, IsWithin};
 ghost use Rattle.board.specs.Visits.{Owes};
 
 use crate::journal::Chosen;
 use machine::Machine;
-use schedule::{Choice, Name, name_of};
+use schedule::{Choice, named};
 use words::{HartId, Step};
-
-/// The name of the message under a key.
-fn named<const SETS: usize, const WAYS: usize>(
-    machine: &Machine<SETS, WAYS>,
-    key: usize,
-) -> Option<Name>
-    ensures only { IfSome result (λ n. IsArrivalOf (shown SETS machine.now) n (Some (Deliver key))) }
-    ensures within { IfSome result (IsNamedIn (setting_of machine.now)) }
-    ensures none { IfNone result ((shown SETS machine.now).net key ≡ None) }
-{
-    machine.keeps();
-    let message = machine.message(key)?;
-    let name = name_of(&message);
-    let _few = name.hart.index();
-    Some(name)
-}
 
 /// The step that is owed on a visit to a hart.
 pub(crate) fn owed<const SETS: usize, const WAYS: usize>(

@@ -1,7 +1,7 @@
 ghost use Rattle.std.specs.Prelude.{◌≡◌, ◌↔◌, IsTrue, IfOk, OnOk, OnErr, Option};
 ghost use Rattle.words.specs.declared.entry.Entry.{Entry};
 ghost use Rattle.machine.specs.States.{setting_of, geometry};
-ghost use Rattle.board.specs.Histories.{IsChoiceOf, IsWithin};
+ghost use Rattle.schedule.specs.Steps.{IsChoiceOf, IsWithin};
 ghost use Rattle.board.specs.Boards.{IsRunning, IsTurn, IsAsBefore};
 ghost use Rattle.board.specs.Visits.{PaysOne, IsVisit, BeginsVisit};
 

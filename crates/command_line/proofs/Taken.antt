@@ -18,7 +18,7 @@ use Rattle.clap.specs.Walk.{answers_to, finished, nothing_held, rows_after, stop
 use Rattle.command_line.specs.Command.{asm, debug, dis, logtm, outcomes, run}
 use Rattle.command_line.specs.Reading.{AsksFor, IsComplete, IsFaultOf, IsReadingFault, IsReadingOf, IsRefusal, IsRequestOf}
 use Rattle.command_line.specs.declared.fault.OrderFault.{OrderFault}
-use Rattle.command_line.specs.declared.fault.OrderFault.TheVariants.{NoMemory, Refused, ThreadsAlone, TwoViews, LongPicture, Value}
+use Rattle.command_line.specs.declared.fault.OrderFault.TheVariants.{NoMemory, Refused, ThreadsAlone, MixAlone, TwoFiles, TwoViews, LongPicture, Value}
 use Rattle.command_line.specs.declared.request.Request.{Request}
 use Rattle.command_line.proofs.Filled.{is_none}
 use Rattle.command_line.proofs.Levels.{both_there, given_first, lacks_nothing, level_passes, subcommand_checked, value_there}
@@ -200,6 +200,8 @@ refused_words words a error (Value value) is fails memory refusal = absurd refus
 refused_words words a error TwoViews is fails memory refusal = absurd refusal
 refused_words words a error LongPicture is fails memory refusal = absurd refusal
 refused_words words a error ThreadsAlone is fails memory refusal = absurd refusal
+refused_words words a error MixAlone is fails memory refusal = absurd refusal
+refused_words words a error TwoFiles is fails memory refusal = absurd refusal
 refused_words words a error NoMemory is fails memory refusal = tt
 
 -- ---- the reading of the values is what the words ask for
@@ -214,4 +216,6 @@ read_words words name rows (Err (Value value)) asks bad = (name, rows, asks, bad
 read_words words name rows (Err TwoViews) asks bad = (name, rows, asks, bad)
 read_words words name rows (Err LongPicture) asks bad = (name, rows, asks, bad)
 read_words words name rows (Err ThreadsAlone) asks bad = (name, rows, asks, bad)
+read_words words name rows (Err MixAlone) asks bad = (name, rows, asks, bad)
+read_words words name rows (Err TwoFiles) asks bad = (name, rows, asks, bad)
 read_words words name rows (Err NoMemory) asks bad = tt

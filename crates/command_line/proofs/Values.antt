@@ -12,7 +12,7 @@ use Rattle.clap.proofs.WalkLemmas.{first_value-rows, raw_values-rows}
 use Rattle.texts.specs.Numbers.{number_of}
 use Rattle.command_line.specs.Reading.{AreWordsOf, HasBoth, HasValue, IsWitnessOf, NamesFirstOf, can_write, given, malformed, witness_paths, words_of}
 use Rattle.command_line.specs.declared.fault.OrderFault.{OrderFault}
-use Rattle.command_line.specs.declared.fault.OrderFault.TheVariants.{Refused, Value, TwoViews, LongPicture, ThreadsAlone, NoMemory}
+use Rattle.command_line.specs.declared.fault.OrderFault.TheVariants.{Refused, Value, TwoViews, LongPicture, ThreadsAlone, MixAlone, TwoFiles, NoMemory}
 use Rattle.command_line.specs.declared.request.Witness.{Witness}
 use Rattle.command_line.specs.declared.request.Word.{Word}
 
@@ -49,6 +49,8 @@ first_of_more (x ∷ xs) ys (Value value) first = first
 first_of_more xs ys TwoViews first = absurd first
 first_of_more xs ys LongPicture first = absurd first
 first_of_more xs ys ThreadsAlone first = absurd first
+first_of_more xs ys MixAlone first = absurd first
+first_of_more xs ys TwoFiles first = absurd first
 first_of_more xs ys NoMemory first = tt
 
 -- a fault in the values behind one that is read is the first of all

@@ -49,9 +49,12 @@ with_rules (rule ∷ rules) app = with_rules rules (with_rule app rule)
 abbrev pub machine : List Rule
 machine = required_named (codes "file") ∷ option_named (codes "harts") ∷ option_named (codes "memory") ∷ []
 
--- of `run`: how far it goes, what is shown of it, and the rest
+-- of `run`: how far it goes, what chooses its steps, what is shown of it, and the rest
 abbrev pub limits : List Rule
-limits = option_named (codes "steps") ∷ option_named (codes "cache") ∷ option_named (codes "schedule") ∷ []
+limits = option_named (codes "steps") ∷ option_named (codes "cache") ∷ []
+
+abbrev pub choosers : List Rule
+choosers = option_named (codes "schedule") ∷ option_named (codes "seed") ∷ option_named (codes "mix") ∷ []
 
 abbrev pub views : List Rule
 views = option_named (codes "trace") ∷ option_named (codes "timeline") ∷ option_named (codes "stats") ∷ []
@@ -67,7 +70,7 @@ search_and_words = option_named (codes "states") ∷ witness ∷ words ∷ []
 abbrev pub run : Shape
 run = record (new_shape (codes "run")) {
   rules = required_named (codes "file") ∷ option_named (codes "harts") ∷ option_named (codes "memory")
-      ∷ option_named (codes "steps") ∷ option_named (codes "cache") ∷ option_named (codes "schedule") ∷ option_named (codes "trace")
+      ∷ option_named (codes "steps") ∷ option_named (codes "cache") ∷ option_named (codes "schedule") ∷ option_named (codes "seed") ∷ option_named (codes "mix") ∷ option_named (codes "trace")
       ∷ option_named (codes "timeline") ∷ option_named (codes "stats") ∷ flag_named (codes "threads") ∷ option_named (codes "history") ∷ words ∷ [];
 }
 

@@ -1,3 +1,4 @@
 pub mod Command
+pub mod Mixes
 pub mod Runs
 pub mod Reading

@@ -1,5 +1,5 @@
 -- What the values that clap found stand for.
-use Rattle.std.specs.Prelude.{◌≡◌, ◌≢◌, ◌⊎◌, ◌||◌, Bool, true, false, IfSome, IsSome, ⊤, List, [], ◌∷◌, ◌++◌, Option, Some, None, codes, drop, filter, if◌then◌else◌, is_some, length, map, not, slice_get, unwrap_or}
+use Rattle.std.specs.Prelude.{ℕ, ◌≡◌, ◌≢◌, ◌⊎◌, ◌||◌, Bool, true, false, IfSome, IsSome, ⊤, List, [], ◌∷◌, ◌++◌, Option, Some, None, codes, drop, filter, if◌then◌else◌, is_some, length, map, not, slice_get, unwrap_or}
 use Rattle.std.specs.Borrow.{Bor}
 use Rattle.std.specs.Option.{option_map, option_map_or, option_to_list}
 use Rattle.std.specs.Str.{bytes_eq}
@@ -19,6 +19,7 @@ use Rattle.command_line.specs.declared.request.Stats.{Stats}
 use Rattle.command_line.specs.declared.request.Stats.TheVariants.{Table, Csv}
 use Rattle.command_line.specs.declared.request.Witness.{Witness}
 use Rattle.command_line.specs.declared.request.Word.{Word}
+use Rattle.command_line.specs.Mixes.{mix_of}
 use Rattle.command_line.specs.Runs.{IsRunFault, IsRunOf}
 
 -- the cache of this name
@@ -32,6 +33,10 @@ abbrev pub stats_of : Text → Option (Option Stats)
 stats_of text =
     if bytes_eq text (codes "table") then Some (Some Table)
     else if bytes_eq text (codes "csv") then Some (Some Csv) else None
+
+-- the seed that a text says
+abbrev pub seed_of : Text → Option (Option ℕ)
+seed_of text = option_map Some (number_of text)
 
 -- the value given for an option, if it was given
 abbrev pub given : Text → List Row → List Text
@@ -60,7 +65,9 @@ malformed_of_run rows = malformed number_of (given (codes "harts") rows)
     ++ (malformed number_of (given (codes "steps") rows)
     ++ (malformed cache_of (given (codes "cache") rows)
     ++ (malformed stats_of (given (codes "stats") rows)
-    ++ malformed number_of (words_of rows)))))
+    ++ (malformed seed_of (given (codes "seed") rows)
+    ++ (malformed mix_of (given (codes "mix") rows)
+    ++ malformed number_of (words_of rows)))))))
 
 -- the same of a machine that is to be played by hand
 abbrev pub malformed_of_setup : List Row → List Text
@@ -109,6 +116,8 @@ AreOptionsOf rows options =
     × (read_or number_of 10000000 (codes "steps") rows ≡ Some options.steps)
     × IsPathOf (codes "schedule") rows options.schedule
     × (read_or stats_of None (codes "stats") rows ≡ Some options.stats)
+    × (read_or seed_of None (codes "seed") rows ≡ Some options.seed)
+    × (read_or mix_of None (codes "mix") rows ≡ Some options.mix)
     × IsPathOf (codes "trace") rows options.trace
     × IsPathOf (codes "timeline") rows options.timeline
     × (options.threads ≡ is_given (codes "threads") rows)

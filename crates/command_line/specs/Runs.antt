@@ -1,12 +1,12 @@
 -- The run that options ask for.
-use Rattle.std.specs.Prelude.{ℕ, ◌≡◌, ◌≢◌, ◌<◌, ◌≤◌, ◌⊎◌, ◌||◌, ◌&&◌, Bool, true, false, IfSome, IsSome, Option, Some, None, codes, if◌then◌else◌, is_some, nat_eq, not}
+use Rattle.std.specs.Prelude.{ℕ, ◌≡◌, ◌≢◌, ◌<◌, ◌≤◌, ◌⊎◌, ◌||◌, ◌&&◌, Bool, true, false, IfSome, IsSome, Option, Some, None, codes, if◌then◌else◌, is_some, nat_eq, not, unwrap_or}
 use Rattle.std.specs.Borrow.{Bor}
 use Rattle.std.specs.List.{ends_with}
 use Rattle.std.specs.Option.{option_map_or}
 use Rattle.std.specs.Str.{bytes_eq}
 use Rattle.clap.specs.Words.{Text}
 use Rattle.command_line.specs.declared.fault.OrderFault.{OrderFault}
-use Rattle.command_line.specs.declared.fault.OrderFault.TheVariants.{Value, TwoViews, LongPicture, ThreadsAlone}
+use Rattle.command_line.specs.declared.fault.OrderFault.TheVariants.{Value, TwoViews, LongPicture, ThreadsAlone, MixAlone, TwoFiles}
 use Rattle.command_line.specs.declared.options.Options.{Options}
 use Rattle.command_line.specs.declared.request.Run.{Run}
 use Rattle.command_line.specs.declared.request.Show.{Show}
@@ -15,6 +15,11 @@ use Rattle.command_line.specs.declared.request.View.{View}
 use Rattle.command_line.specs.declared.request.View.TheVariants as view
 use Rattle.command_line.specs.declared.request.Way.{Way}
 use Rattle.command_line.specs.declared.request.Way.TheVariants.{Turns, Threads}
+use Rattle.command_line.specs.declared.request.Way.TheVariants as way
+use Rattle.command_line.specs.declared.request.Chance.{Chance}
+use Rattle.command_line.specs.declared.request.Mix.{Mix}
+use Rattle.command_line.specs.declared.request.Print.{Print}
+use Rattle.command_line.specs.declared.request.Print.TheVariants as print
 
 -- whether the run reads the file with this path: the program's, or the schedule's
 abbrev pub reads : Options → Text → Bool
@@ -71,28 +76,54 @@ IsShowFault options other = ⊥
 
 -- ---- how it is made
 
--- whether it has no schedule, and no more is shown of it than its report
+-- whether it has no schedule and no chance, and no more is shown of it than its report
 abbrev pub stands_alone : Options → Show → Bool
-stands_alone options show.Report = not (is_some options.schedule)
+stands_alone options show.Report = not (is_some options.schedule) && not (is_some options.seed) && not (is_some options.mix)
 stands_alone options other = false
 
 -- whether the history can go to this path, which is neither a dash nor that of a file that the run reads
 abbrev pub can_keep : Options → Text → Bool
 can_keep options path = not (bytes_eq path (codes "-") || reads options path)
 
--- the run of which this is shown is made so: in turns without a history, or in threads alone
+-- the weights where none are given
+abbrev pub default_mix : Mix
+default_mix = record { cores = 20; arrivals = 20; evictions = 1 }
+
+-- the chance that is asked for: by its seed, with its weights
+abbrev pub IsChanceOf : Options → Chance → Type 0
+IsChanceOf options chance = (options.seed ≡ Some chance.seed) × (chance.mix ≡ unwrap_or options.mix default_mix)
+
+-- what is shown on standard output alone; and what isn't
+abbrev pub shown : Print → Show
+shown print.Report = show.Report
+shown (print.Counts stats) = show.Counts stats
+shown print.Trace = show.Trace
+
+abbrev pub IsInFile : Show → Type 0
+IsInFile (show.View view path) = Unit {0}
+IsInFile other = ⊥
+
+-- the run of which this is shown is made so: in turns without a history, by chance, with a history that is not beside another file, or in threads alone
 abbrev pub IsWayOf : Options → Show → Way → Type 0
-IsWayOf options show (Turns schedule shown) = (options.threads ≡ false) × (options.history ≡ None) × (schedule ≡ options.schedule) × (shown ≡ show)
+IsWayOf options show (Turns schedule shows) = (options.threads ≡ false) × (options.seed ≡ None) × (options.mix ≡ None) × (options.history ≡ None)
+    × (schedule ≡ options.schedule) × (shows ≡ show)
+IsWayOf options show (way.Chance schedule chance shows) = (options.threads ≡ false) × IsChanceOf options chance × (options.history ≡ None)
+    × (schedule ≡ options.schedule) × (shows ≡ show)
+IsWayOf options show (way.Kept schedule chance history print) = (options.threads ≡ false) × IsChanceOf options chance
+    × (options.history ≡ Some history) × (can_keep options history.now ≡ true) × (schedule ≡ options.schedule) × (show ≡ shown print)
 IsWayOf options show (Threads history) = (options.threads ≡ true) × (stands_alone options show ≡ true)
     × (history ≡ options.history) × IfSome options.history (λ path. can_keep options path.now ≡ true)
 
--- why it can't be: threads don't stand alone, or a history is asked for without them; or the history can't go to its path
-abbrev pub IsThreadsFault : Options → Show → OrderFault → Type 0
-IsThreadsFault options show ThreadsAlone =
-    ((options.threads ≡ true) × (stands_alone options show ≡ false)) ⊎ ((options.threads ≡ false) × IsSome options.history)
-IsThreadsFault options show (Value path) = (options.threads ≡ true) × (stands_alone options show ≡ true)
+-- why it can't be: threads don't stand alone, or a history is asked for without them and without chance; weights are given without chance; the history can't go
+-- to its path, or is beside another file
+abbrev pub IsWayFault : Options → Show → OrderFault → Type 0
+IsWayFault options show ThreadsAlone =
+    ((options.threads ≡ true) × (stands_alone options show ≡ false)) ⊎ ((options.threads ≡ false) × (options.seed ≡ None) × IsSome options.history)
+IsWayFault options show MixAlone = (options.threads ≡ false) × (options.seed ≡ None) × (options.history ≡ None) × IsSome options.mix
+IsWayFault options show (Value path) = ((options.threads ≡ true) × (stands_alone options show ≡ true) ⊎ (options.threads ≡ false) × IsSome options.seed)
     × (options.history ≡ Some path) × (can_keep options path.now ≡ false)
-IsThreadsFault options show other = ⊥
+IsWayFault options show TwoFiles = (options.threads ≡ false) × IsSome options.seed × ((path : Bor Text) × (options.history ≡ Some path) × (can_keep options path.now ≡ true)) × IsInFile show
+IsWayFault options show other = ⊥
 
 -- ---- the run
 
@@ -103,4 +134,4 @@ IsRunOf options run = (run.setup ≡ options.setup) × (run.steps ≡ options.st
 
 -- why they ask for none: nothing can be shown of it; or it can, and the run can't be made
 abbrev pub IsRunFault : Options → OrderFault → Type 0
-IsRunFault options fault = IsShowFault options fault ⊎ ((show : Show) × IsShowOf options show × IsThreadsFault options show fault)
+IsRunFault options fault = IsShowFault options fault ⊎ ((show : Show) × IsShowOf options show × IsWayFault options show fault)

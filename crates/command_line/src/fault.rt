@@ -10,15 +10,20 @@ pub enum OrderFault<'a> {
     /// texts, so none says which text this is.
     Refused(String),
     /// The first malformed value, as the user wrote it: no number below 2^32, for `--cache` and `--stats` the
-    /// name of no cache and no form, or for `--trace`, `--timeline`, `--history` and `--witness` a path where nothing
+    /// name of no cache and no form, for `--mix` no three numbers that aren't all 0, or for `--trace`, `--timeline`, `--history` and `--witness` a path where nothing
     /// can be written, and for `--timeline` too one that ends neither in `.json` nor in `.svg`.
     Value(&'a str),
     /// More than one is asked for of a trace, a timeline and counts.
     TwoViews,
     /// A picture is asked for of a run that may take more steps than a picture shows.
     LongPicture,
-    /// A run in threads is given a schedule, or more is to be shown of it, or it is to be counted; or the history is asked for of a run that isn't in threads.
+    /// A run in threads is given a schedule or chance, or more is to be shown of it, or it is to be counted; or the history is asked for of a run that is
+    /// made neither in threads nor by chance.
     ThreadsAlone,
+    /// Weights are given, and no seed.
+    MixAlone,
+    /// A history is asked for beside another file.
+    TwoFiles,
     /// Memory ran out.
     NoMemory,
 }

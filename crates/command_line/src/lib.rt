@@ -3,6 +3,8 @@
 //! The subcommands are:
 //!
 //! - `logtm run FILE [--harts N] [--memory S] [--steps N] [--cache small|normal] [--schedule LIST] [--trace FILE | --timeline FILE | --stats table|csv] [WORD..]`
+//! - `logtm run FILE [--harts N] [--memory S] [--steps N] [--cache small|normal] [--schedule LIST] --seed N [--mix C,D,E] [--trace FILE | --timeline FILE | --stats table|csv] [WORD..]`
+//! - `logtm run FILE [--harts N] [--memory S] [--steps N] [--cache small|normal] [--schedule LIST] --seed N [--mix C,D,E] --history FILE [--trace - | --stats table|csv] [WORD..]`
 //! - `logtm run FILE [--harts N] [--memory S] [--steps N] [--cache small|normal] --threads [--history FILE] [WORD..]`
 //! - `logtm debug FILE [--harts N] [--memory S] [--cache small|normal]`
 //! - `logtm outcomes FILE [--harts N] [--memory S] [--states N] [--witness K LIST] [WORD..]`
@@ -15,6 +17,7 @@
 #![tactic(auto)]
 
 mod fault;
+mod mix;
 mod options;
 mod parser;
 mod reading;
@@ -23,5 +26,6 @@ mod request;
 pub use fault::OrderFault;
 pub use parser::parse;
 pub use request::{
-    Cache, MOST_DRAWN, Request, Run, Search, Setup, Show, Stats, View, Way, Witness, Word,
+    Cache, Chance, MOST_DRAWN, Mix, Print, Request, Run, Search, Setup, Show, Stats, View, Way,
+    Witness, Word,
 };

@@ -1,9 +1,16 @@
-ghost use Rattle.std.specs.Prelude.{◌≡◌, MatchResult};
+ghost use Rattle.std.specs.Prelude.{◌≡◌, MatchOption, MatchResult, None, Some, false, true};
 ghost use Rattle.command_line.specs.Runs.{IsRunFault, IsRunOf, IsShowFault, IsShowOf, IsTimelineAlone, IsTraceAlone};
-ghost use Rattle.command_line.specs.Runs.{IsThreadsFault, IsWayOf, can_keep, drawing_at, reads, stands_alone};
+ghost use Rattle.command_line.specs.Runs.{IsInFile, IsWayFault, IsWayOf, can_keep, drawing_at, reads, shown, stands_alone};
 
 use crate::fault::OrderFault;
-use crate::request::{MOST_DRAWN, Run, Setup, Show, Stats, View, Way, Word};
+use crate::request::{Chance, MOST_DRAWN, Mix, Print, Run, Setup, Show, Stats, View, Way, Word};
+
+/// The weights where none are given.
+const DEFAULT_MIX: Mix = Mix {
+    cores: 20,
+    arrivals: 20,
+    evictions: 1,
+};
 
 /// What a command line says of a run, each option by itself.
 #[derive(Drop)]
@@ -11,6 +18,8 @@ pub(crate) struct Options<'a> {
     pub setup: Setup<'a>,
     pub steps: u32,
     pub schedule: Option<&'a str>,
+    pub seed: Option<u32>,
+    pub mix: Option<Mix>,
     pub stats: Option<Stats>,
     pub trace: Option<&'a str>,
     pub timeline: Option<&'a str>,
@@ -78,25 +87,86 @@ impl<'a> Options<'a> {
 
     /// How the run is made, of which this is shown.
     fn way(&self, show: Show<'a>) -> Result<Way<'a>, OrderFault<'a>>
-        ensures { MatchResult result (IsWayOf self.now show.entry) (IsThreadsFault self.now show.entry) }
+        ensures { MatchResult result (IsWayOf self.now show.entry) (IsWayFault self.now show.entry) }
     {
-        match (self.threads, self.history) {
-            (false, None) => Ok(Way::Turns {
-                schedule: self.schedule,
-                show,
-            }),
-            (false, Some(_)) => Err(OrderFault::ThreadsAlone),
-            (true, _) if !self.stands_alone(show) => Err(OrderFault::ThreadsAlone),
-            (true, Some(path)) if !self.can_keep(path) => Err(OrderFault::Value(path)),
-            (true, history) => Ok(Way::Threads { history }),
+        if self.threads {
+            return self.threaded(show);
+        }
+        match self.seed {
+            Some(seed) => self.by_chance(seed, show),
+            None => self.by_turns(show),
         }
     }
 
-    /// Whether the run has no schedule, and no more is shown of it than its report.
+    /// A run in threads.
+    fn threaded(&self, show: Show<'a>) -> Result<Way<'a>, OrderFault<'a>>
+        requires { self.now.threads ≡ true }
+        ensures { MatchResult result (IsWayOf self.now show.entry) (IsWayFault self.now show.entry) }
+    {
+        if !self.stands_alone(show) {
+            return Err(OrderFault::ThreadsAlone);
+        }
+        match self.history {
+            Some(path) if !self.can_keep(path) => Err(OrderFault::Value(path)),
+            history => Ok(Way::Threads { history }),
+        }
+    }
+
+    /// A run by turns, behind its schedule.
+    fn by_turns(&self, show: Show<'a>) -> Result<Way<'a>, OrderFault<'a>>
+        requires threads { self.now.threads ≡ false }
+        requires seed { self.now.seed ≡ None }
+        ensures { MatchResult result (IsWayOf self.now show.entry) (IsWayFault self.now show.entry) }
+    {
+        match (self.history, self.mix) {
+            (None, None) => Ok(Way::Turns {
+                schedule: self.schedule,
+                show,
+            }),
+            (Some(_), _) => Err(OrderFault::ThreadsAlone),
+            (None, Some(_)) => Err(OrderFault::MixAlone),
+        }
+    }
+
+    /// A run by chance, behind its schedule.
+    fn by_chance(&self, seed: u32, show: Show<'a>) -> Result<Way<'a>, OrderFault<'a>>
+        requires threads { self.now.threads ≡ false }
+        requires seed { self.now.seed ≡ Some seed }
+        ensures { MatchResult result (IsWayOf self.now show.entry) (IsWayFault self.now show.entry) }
+    {
+        let chance = Chance {
+            seed,
+            mix: self.mix.unwrap_or(DEFAULT_MIX),
+        };
+        let Some(history) = self.history else {
+            return Ok(Way::Chance {
+                schedule: self.schedule,
+                chance,
+                show,
+            });
+        };
+        if !self.can_keep(history) {
+            return Err(OrderFault::Value(history));
+        }
+        match print_of(show) {
+            Some(print) => Ok(Way::Kept {
+                schedule: self.schedule,
+                chance,
+                history,
+                print,
+            }),
+            None => Err(OrderFault::TwoFiles),
+        }
+    }
+
+    /// Whether the run has no schedule and no chance, and no more is shown of it than its report.
     fn stands_alone(&self, show: Show<'_>) -> bool
         ensures { result ≡ stands_alone self.now show.entry }
     {
-        matches!(show, Show::Report) && self.schedule.is_none()
+        matches!(show, Show::Report)
+            && self.schedule.is_none()
+            && self.seed.is_none()
+            && self.mix.is_none()
     }
 
     /// Whether the history can go to a path: no dash, and no file that the run reads.
@@ -127,5 +197,17 @@ fn drawing_at(path: &str) -> Option<View>
         Some(View::Picture)
     } else {
         None
+    }
+}
+
+/// What is shown on standard output alone. `None` where it is shown in a file.
+fn print_of(show: Show<'_>) -> Option<Print>
+    ensures { MatchOption result (IsInFile show.entry) (λ print. show.entry ≡ shown print) }
+{
+    match show {
+        Show::Report => Some(Print::Report),
+        Show::Counts(stats) => Some(Print::Counts(stats)),
+        Show::Trace => Some(Print::Trace),
+        Show::View(..) => None,
     }
 }

@@ -32,12 +32,13 @@ const VERSION: &str = "1.0.0\nProved in the logic dac8208d650f15bf";
 /// environment gives, and is not read.
 ///
 /// clap says what it refuses, and answers `--help` and `--version` in the same way. Where it takes the words of a
-/// run, the values of `--harts`, `--memory`, `--steps`, `--cache` and `--stats` and then the WORDs are read, in
+/// run, the values of `--harts`, `--memory`, `--steps`, `--cache`, `--stats`, `--seed` and `--mix` and then the WORDs are read, in
 /// this order, up to the first malformed one; those of `debug` likewise. Then more than one of `--trace`, `--timeline` and `--stats`
 /// is refused; then the value of `--trace` or `--timeline` is malformed where it is the path of a file that the run reads, and that of
 /// `--timeline` where it ends neither in `.json` nor in `.svg`; and a picture is refused where `--steps` is above what it shows. Then
-/// `--threads` is refused beside `--schedule`, `--trace`, `--timeline` and `--stats`, and `--history` without it; and last the value of
-/// `--history` is malformed where it is a dash or the path of a file that the run reads.
+/// `--threads` is refused beside `--schedule`, `--seed`, `--mix`, `--trace`, `--timeline` and `--stats`, `--history` without it and without
+/// `--seed`, and `--mix` without `--seed`; then the value of `--history` is malformed where it is a dash or the path of a file that the run
+/// reads; and last `--history` is refused beside `--timeline`, and beside a trace in a file.
 ///
 /// Of `outcomes` the values of `--harts`, `--memory` and `--states`, the number of `--witness` and then the WORDs are read, in this order,
 /// up to the first malformed one; and last the path of `--witness` is malformed where it is a dash or the path of the program's file.
@@ -137,6 +138,7 @@ fn run_command<'a>(alloc: Global) -> Result<Command<'a>, AllocError>
     let about = "Runs a program, and reports what became of it";
     let command = with_machine(alloc, Ok(bare(alloc, "run", about)));
     let command = with_limits(alloc, command);
+    let command = with_choosers(alloc, command);
     let command = with_views(alloc, command);
     with_threads(alloc, command)
 }
@@ -161,7 +163,7 @@ fn with_machine<'a>(
     with_option(alloc, command, "memory", "S", MEMORY_HELP)
 }
 
-/// The command with how far a run goes, with which caches, and by which first steps.
+/// The command with how far a run goes, and with which caches.
 fn with_limits<'a>(
     alloc: Global,
     command: Result<Command<'a>, AllocError>,
@@ -169,10 +171,25 @@ fn with_limits<'a>(
     ensures { (app : App) → Makes command.entry app → Makes result (with_rules spec.limits app) }
 {
     let steps = "How many steps are taken at most, 10000000 if not given";
-    let schedule = "A file whose lines choose the first steps";
     let command = with_option(alloc, command, "steps", "N", steps);
-    let command = with_option(alloc, command, "cache", "NAME", CACHE_HELP);
-    with_option(alloc, command, "schedule", "LIST", schedule)
+    with_option(alloc, command, "cache", "NAME", CACHE_HELP)
+}
+
+/// The command with what chooses the steps of a run.
+fn with_choosers<'a>(
+    alloc: Global,
+    command: Result<Command<'a>, AllocError>,
+) -> Result<Command<'a>, AllocError>
+    ensures { (app : App) → Makes command.entry app → Makes result (with_rules spec.choosers app) }
+{
+    let schedule = "A file whose lines choose the first steps";
+    let seed =
+        "Chooses the steps by chance, behind those of a schedule: by one number the same steps";
+    let mix =
+        "The weights of core steps, arrivals of messages and evictions by chance, 20,20,1 if not given";
+    let command = with_option(alloc, command, "schedule", "LIST", schedule);
+    let command = with_option(alloc, command, "seed", "N", seed);
+    with_option(alloc, command, "mix", "C,D,E", mix)
 }
 
 /// The command with what is shown of a run beside its report.
@@ -199,8 +216,9 @@ fn with_threads<'a>(
     ensures { (app : App) → Makes command.entry app → Makes result (with_rules spec.threads_and_words app) }
 {
     let threads =
-        "Runs each hart in a thread of its own, with no schedule, trace, timeline and counts";
-    let history = "A file for the steps that threads made, as a schedule that plays them again";
+        "Runs each hart in a thread of its own, with no schedule, seed, trace, timeline and counts";
+    let history =
+        "A file for the steps that threads or chance made, as a schedule that plays them again";
     let command = with_argument(command, flag(alloc, "threads", threads));
     let command = with_option(alloc, command, "history", "FILE", history);
     with_argument(command, words(alloc))

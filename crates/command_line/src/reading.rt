@@ -3,11 +3,13 @@ ghost use Rattle.clap.specs.Words.{first_of, found_of, rows_of};
 ghost use Rattle.texts.specs.Numbers.{number_of};
 ghost use Rattle.command_line.specs.Reading.{AreOptionsOf, AreWordsOf, HasBoth, HasValue, IsComplete, IsReadingFault, IsReadingOf, IsSearchOf, IsSetupOf};
 ghost use Rattle.command_line.specs.Reading.{IsWitnessOf, NamesFirstOf, cache_of, can_write, given, is_given, malformed, malformed_of_run, malformed_of_search};
-ghost use Rattle.command_line.specs.Reading.{malformed_of_setup, read_or, stats_of, words_of};
+ghost use Rattle.command_line.specs.Reading.{malformed_of_setup, read_or, seed_of, stats_of, words_of};
+ghost use Rattle.command_line.specs.Mixes.{mix_of};
 
 use crate::fault::OrderFault;
+use crate::mix::mix_named;
 use crate::options::Options;
-use crate::request::{Cache, Request, Search, Setup, Stats, Witness, Word};
+use crate::request::{Cache, Mix, Request, Search, Setup, Stats, Witness, Word};
 use clap::ArgMatches;
 use std::alloc::Global;
 use texts::number;
@@ -61,6 +63,8 @@ fn read_options<'a>(alloc: Global, matches: &ArgMatches<'a>) -> Result<Options<'
     let steps = number_given(matches, "steps", DEFAULT_STEPS)?;
     let cache = cache_given(matches, "cache", DEFAULT_CACHE)?;
     let stats = stats_given(matches, "stats")?;
+    let seed = seed_given(matches, "seed")?;
+    let mix = mix_given(matches, "mix")?;
     let words = words_given(alloc, matches)?;
     Ok(Options {
         setup: Setup {
@@ -71,6 +75,8 @@ fn read_options<'a>(alloc: Global, matches: &ArgMatches<'a>) -> Result<Options<'
         },
         steps,
         schedule: path_given(matches, "schedule"),
+        seed,
+        mix,
         stats,
         trace: path_given(matches, "trace"),
         timeline: path_given(matches, "timeline"),
@@ -170,6 +176,30 @@ fn stats_given<'a>(matches: &ArgMatches<'a>, id: &str) -> Result<Option<Stats>, 
     }
 }
 
+/// The seed by which chance chooses, if it does.
+fn seed_given<'a>(matches: &ArgMatches<'a>, id: &str) -> Result<Option<u32>, OrderFault<'a>>
+    ensures { MatchResult result
+        (λ seed. read_or seed_of None id.now (rows_of (found_of matches.now)) ≡ Some seed)
+        (NamesFirstOf (malformed seed_of (given id.now (rows_of (found_of matches.now))))) }
+{
+    match matches.get_str(id) {
+        Some(text) => seed_named(text).ok_or(OrderFault::Value(text)),
+        None => Ok(None),
+    }
+}
+
+/// The weights of what chance draws, if they are given.
+fn mix_given<'a>(matches: &ArgMatches<'a>, id: &str) -> Result<Option<Mix>, OrderFault<'a>>
+    ensures { MatchResult result
+        (λ mix. read_or mix_of None id.now (rows_of (found_of matches.now)) ≡ Some mix)
+        (NamesFirstOf (malformed mix_of (given id.now (rows_of (found_of matches.now))))) }
+{
+    match matches.get_str(id) {
+        Some(text) => mix_named(text).ok_or(OrderFault::Value(text)),
+        None => Ok(None),
+    }
+}
+
 fn path_given<'a>(matches: &ArgMatches<'a>, id: &str) -> Option<&'a str>
     ensures { option_map (λ path. path.now) result ≡ first_of id.now (rows_of (found_of matches.now)) }
 {
@@ -230,6 +260,12 @@ fn stats_named(name: &str) -> Option<Option<Stats>>
         "csv" => Some(Some(Stats::Csv)),
         _ => None,
     }
+}
+
+fn seed_named(text: &str) -> Option<Option<u32>>
+    ensures { result ≡ seed_of text.now }
+{
+    Some(Some(number(text)?))
 }
 
 fn words_given<'a>(alloc: Global, matches: &ArgMatches<'a>) -> Result<Vec<Word<'a>>, OrderFault<'a>>

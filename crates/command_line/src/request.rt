@@ -54,11 +54,46 @@ pub enum Way<'a> {
         schedule: Option<&'a str>,
         show: Show<'a>,
     },
+    /// Step by step, as a schedule says, and then by chance.
+    Chance {
+        /// The path of the file whose lines choose the first steps, if there is one.
+        schedule: Option<&'a str>,
+        chance: Chance,
+        show: Show<'a>,
+    },
+    /// The same, with its history in a file.
+    Kept {
+        /// The path of the file whose lines choose the first steps, if there is one.
+        schedule: Option<&'a str>,
+        chance: Chance,
+        /// The path of the file for the history: neither a dash nor that of a file that the run reads.
+        history: &'a str,
+        print: Print,
+    },
     /// With each hart in a thread of its own.
     Threads {
         /// The path of the file for the run's history, if it is to be written: neither a dash nor the program's.
         history: Option<&'a str>,
     },
+}
+
+/// What chooses steps by chance.
+#[derive(Clone, Copy, Debug, PartialEq, Eq)]
+pub struct Chance {
+    /// By one seed the same steps are chosen.
+    pub seed: u32,
+    pub mix: Mix,
+}
+
+/// The weights of what chance draws. Not all of them are 0.
+#[derive(Clone, Copy, Debug, PartialEq, Eq)]
+pub struct Mix {
+    /// Of a step of a core.
+    pub cores: u32,
+    /// Of the arrival of a message.
+    pub arrivals: u32,
+    /// Of the eviction of a line.
+    pub evictions: u32,
 }
 
 /// A search of all ends of a program.
@@ -98,6 +133,17 @@ pub enum Show<'a> {
     Trace,
     /// Its report, and this in the file with this path, which is none that the run reads.
     View(View, &'a str),
+}
+
+/// What is shown of a run on standard output alone.
+#[derive(Clone, Copy, Debug)]
+pub enum Print {
+    /// Its report.
+    Report,
+    /// Its report, and behind it its counts.
+    Counts(Stats),
+    /// Its trace, and behind it its report.
+    Trace,
 }
 
 /// What is shown of a run in a file of its own.

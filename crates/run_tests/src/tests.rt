@@ -1,5 +1,6 @@
 mod boards;
 mod booted;
+mod chances;
 mod cut;
 mod cut_looks;
 mod pictures;

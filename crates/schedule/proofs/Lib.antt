@@ -1,7 +1,13 @@
 mod Words
 mod Reading
 mod Finding
+mod Gathering
+mod Resting
+mod Again
+mod Naming
 pub mod Making
+pub mod Going
+mod Ready
 pub mod Seeing
 pub mod PlainTurns
 pub mod Lengths

@@ -2,6 +2,7 @@ pub mod Spelling
 pub mod Lines
 pub mod Steps
 pub mod Moments
+pub mod Courses
 pub mod Runs
 pub mod Observed
 pub mod Written

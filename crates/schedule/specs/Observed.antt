@@ -5,7 +5,7 @@ use Rattle.words.specs.declared.entry.Entry.{Entry}
 use Rattle.words.specs.declared.entry.Step.{Step}
 use Rattle.protocol.specs.Caches.{Geometry}
 use Rattle.machine.specs.States.{State}
-use Rattle.schedule.specs.declared.choices.Choice.{Choice}
+use Rattle.schedule.specs.Courses.{Behind, Turns, Chance, Course, forgotten, IsNextOf}
 use Rattle.schedule.specs.declared.halt.Halt.{Halt}
 use Rattle.schedule.specs.declared.halt.Halt.TheVariants.{NoMemory, Untold}
 use Rattle.schedule.specs.Moments.{Moment, moment}
@@ -29,21 +29,34 @@ abbrev pub StopsAt : {L : Type 0} → Sight L → Geometry → State → Step �
 StopsAt missed g v step w x y NoMemory = (w ≡ v) × (y ≡ x)
 StopsAt missed g v step w x y Untold = (e : Option Entry) × Makes g v (Some step) e w × missed x (moment v step e w ∷ []) y
 
+-- the next step behind a list was made, and its moment was seen; or it was not, and why
+abbrev pub GoesSeen : {L : Type 0} → Sight L → Geometry → State → ℕ → Behind → Step → Behind → State → L → L → Type 0
+GoesSeen saw g v after b step c w x y = IsNextOf g v after b step c × MakesSeen saw g v (Some step) w x y
+
+abbrev pub GoesUnseen : {L : Type 0} → Sight L → Geometry → State → ℕ → Behind → Behind → State → L → L → Halt → Type 0
+GoesUnseen missed g v after b c w x y NoMemory = (w ≡ v) × (y ≡ x) × (forgotten c ≡ forgotten b)
+GoesUnseen missed g v after b c w x y Untold = (step : Step) × IsNextOf g v after b step c × StopsAt missed g v step w x y Untold
+
 -- so many turns were taken, the first after one hart's, and all were seen at once, or there was none; the last core step was then this hart's
 abbrev pub TakesSeen : {L : Type 0} → Sight L → Geometry → State → ℕ → ℕ → State → ℕ → L → L → Type 0
 TakesSeen saw g v after n w last x y =
     ((n ≡ 0) × (w ≡ v) × (last ≡ after) × (y ≡ x)) ⊎ ((ms : List Moment) × TookTurns g v after ms w last × (n ≡ length ms) × saw x ms y)
 
--- n steps by a schedule were made, and their moments were seen, group by group
-abbrev pub IsSeen : {L : Type 0} → Sight L → Geometry → List Choice → ℕ → State → State → L → L → Type 0
-IsSeen saw g choices n v w x y = (groups : List (List Moment)) × Plays g choices n v (joined groups) w × FoldsTo saw x groups y
+-- the same behind a step, where it is turns that come behind a list
+abbrev pub MoreSeen : {L : Type 0} → Sight L → Geometry → Behind → State → ℕ → ℕ → State → ℕ → L → L → Type 0
+MoreSeen saw g Turns v after n w last x y = TakesSeen saw g v after n w last x y
+MoreSeen saw g (Chance kept) v after n w last x y = (n ≡ 0) × (w ≡ v) × (last ≡ after) × (y ≡ x)
+
+-- n steps on a course were made, and their moments were seen, group by group
+abbrev pub IsSeen : {L : Type 0} → Sight L → Geometry → Course → ℕ → State → State → L → L → Type 0
+IsSeen saw g course n v w x y = (groups : List (List Moment)) × Plays g course n v (joined groups) w × FoldsTo saw x groups y
 
 -- n steps were made: the moments but the last ones were seen, and of these the observer could not tell
-abbrev pub IsMissed : {L : Type 0} → Sight L → Sight L → Geometry → List Choice → ℕ → State → State → L → L → Type 0
-IsMissed {L} saw missed g choices n v w x y = (groups : List (List Moment)) × (last : List Moment) × (z : L)
-    × Plays g choices n v (joined groups ++ last) w × FoldsTo saw x groups z × missed z last y
+abbrev pub IsMissed : {L : Type 0} → Sight L → Sight L → Geometry → Course → ℕ → State → State → L → L → Type 0
+IsMissed {L} saw missed g course n v w x y = (groups : List (List Moment)) × (last : List Moment) × (z : L)
+    × Plays g course n v (joined groups ++ last) w × FoldsTo saw x groups z × missed z last y
 
 -- what was made of n steps. Memory ran out: fewer, and all were seen. The observer failed: some, and it could not tell of the last
-abbrev pub IsHalted : {L : Type 0} → Sight L → Sight L → Geometry → List Choice → ℕ → State → State → L → L → Halt → Type 0
-IsHalted saw missed g choices n v w x y NoMemory = (m : ℕ) × (m < n) × IsSeen saw g choices m v w x y
-IsHalted saw missed g choices n v w x y Untold = (m : ℕ) × (m < n) × IsMissed saw missed g choices (m + 1) v w x y
+abbrev pub IsHalted : {L : Type 0} → Sight L → Sight L → Geometry → Course → ℕ → State → State → L → L → Halt → Type 0
+IsHalted saw missed g course n v w x y NoMemory = (m : ℕ) × (m < n) × IsSeen saw g course m v w x y
+IsHalted saw missed g course n v w x y Untold = (m : ℕ) × (m < n) × IsMissed saw missed g course (m + 1) v w x y

@@ -11,6 +11,7 @@ use Rattle.machine.specs.Mail.{NumbersOn}
 use Rattle.machine.specs.States.{State, setting_of, shown}
 use Rattle.machine.specs.Turns.{IsNextTurn, hart_after}
 use Rattle.schedule.specs.declared.choices.Choice.{Choice}
+use Rattle.schedule.specs.Courses.{Behind, Turns, Chance, Course, IsAtRest, IsChosen}
 use Rattle.schedule.specs.Moments.{Moment, moment, moments, entries_of}
 use Rattle.schedule.specs.Steps.{IsStepOf}
 
@@ -39,19 +40,46 @@ TakesTurns g (suc n) v after ms w =
     ⊎ ((step : Step) × (e : Option Entry) × (u : State) × (rest : List Moment)
     × IsNextTurn (shown g.sets v) v.flights after (Some step) × Makes g v (Some step) e u × TakesTurns g n u (hart_after step after) rest w × (ms ≡ moment v step e u ∷ rest))
 
--- n steps, where the last core step was a hart's: each choice in order is made, enabled or not; and behind the last choice turns are taken
-abbrev pub Follows : Geometry → List Choice → ℕ → State → ℕ → List Moment → State → Type 0
-Follows g [] n v after ms w = TakesTurns g n v after ms w
-Follows g (c ∷ cs) zero v after ms w = (ms ≡ []) × (w ≡ v)
-Follows g (c ∷ cs) (suc n) v after ms w =
+-- n choices, each of a step that is enabled, or fewer where the machine is at rest behind them
+abbrev pub TakesChosen : Geometry → List Choice → ℕ → State → ℕ → List Moment → State → Type 0
+TakesChosen g [] n v after ms w = (ms ≡ []) × (w ≡ v) × ((n ≡ 0) ⊎ IsAtRest g v)
+TakesChosen g (c ∷ cs) zero v after ms w = ⊥
+TakesChosen g (c ∷ cs) (suc n) v after ms w =
+    (step : Step) × (e : Option Entry) × (u : State) × (rest : List Moment)
+    × IsChosen g v c step × Makes g v (Some step) e u × TakesChosen g cs n u (hart_after step after) rest w × (ms ≡ moment v step e u ∷ rest)
+
+-- what comes behind a list: turns, or these choices
+abbrev pub TakesBehind : Option (List Choice) → Geometry → ℕ → State → ℕ → List Moment → State → Type 0
+TakesBehind None g n v after ms w = TakesTurns g n v after ms w
+TakesBehind (Some chosen) g n v after ms w = TakesChosen g chosen n v after ms w
+
+abbrev pub IsNothing : Option (List Choice) → Type 0
+IsNothing None = Unit {0}
+IsNothing (Some chosen) = chosen ≡ []
+
+-- n steps, where the last core step was a hart's: each choice of a list in order is made, enabled or not; and behind the last one come turns, or these choices
+abbrev pub FollowsThen : Option (List Choice) → Geometry → List Choice → ℕ → State → ℕ → List Moment → State → Type 0
+FollowsThen behind g [] n v after ms w = TakesBehind behind g n v after ms w
+FollowsThen behind g (c ∷ cs) zero v after ms w = (ms ≡ []) × (w ≡ v) × IsNothing behind
+FollowsThen behind g (c ∷ cs) (suc n) v after ms w =
     (step : Option Step) × (e : Option Entry) × (u : State) × (rest : List Moment)
-    × IsStepOf g.sets v after c step × Makes g v step e u × Follows g cs n u (last_after step after) rest w × (ms ≡ moments v step e u ++ rest)
+    × IsStepOf g.sets v after c step × Makes g v step e u × FollowsThen behind g cs n u (last_after step after) rest w × (ms ≡ moments v step e u ++ rest)
+
+-- the same with turns behind the list
+abbrev pub Follows : Geometry → List Choice → ℕ → State → ℕ → List Moment → State → Type 0
+Follows g choices n v after ms w = FollowsThen None g choices n v after ms w
+
+-- the same with turns, or with what chance chose: these choices where they were kept, and else some
+abbrev pub Goes : Behind → Geometry → List Choice → ℕ → State → ℕ → List Moment → State → Type 0
+Goes Turns g choices n v after ms w = Follows g choices n v after ms w
+Goes (Chance (Some chosen)) g choices n v after ms w = FollowsThen (Some chosen) g choices n v after ms w
+Goes (Chance None) g choices n v after ms w = (chosen : List Choice) × FollowsThen (Some chosen) g choices n v after ms w
 
 -- the entries carry each flat state that belongs to the one machine to a state that belongs to the other
 abbrev pub CarryAll : Geometry → State → List Entry → State → Type 0
 CarryAll g v es w = (f : Flat) → Belongs g f (shown g.sets v) → (h : Flat) × IsRun f es h × Belongs g h (shown g.sets w)
 
--- n steps by a schedule lead from one machine to another, where the highest hart counts as that of the last core step. These are their moments, whose
+-- n steps on a course lead from one machine to another, where the highest hart counts as that of the last core step. These are their moments, whose
 -- entries carry flat states on
-abbrev pub Plays : Geometry → List Choice → ℕ → State → List Moment → State → Type 0
-Plays g choices n v ms w = Follows g choices n v ((setting_of v).count - 1) ms w × CarryAll g v (entries_of ms) w
+abbrev pub Plays : Geometry → Course → ℕ → State → List Moment → State → Type 0
+Plays g course n v ms w = Goes course.behind g course.choices n v ((setting_of v).count - 1) ms w × CarryAll g v (entries_of ms) w

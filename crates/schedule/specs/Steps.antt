@@ -1,7 +1,10 @@
 -- The step that a choice is on a machine.
-use Rattle.std.specs.Prelude.{ℕ, ◌≡◌, Option, Some, None}
+use Rattle.std.specs.Prelude.{ℕ, ◌≡◌, ◌<◌, Option, Some, None}
 use Rattle.words.specs.declared.entry.Step.{Step}
 use Rattle.words.specs.declared.entry.Step.TheVariants as step
+use Rattle.words.specs.Limits.{most_harts}
+use Rattle.flat.specs.State.{Setting}
+use Rattle.isolation.specs.Memory.{LiesInMemory}
 use Rattle.protocol.specs.Messages.{Message, Get, Put, Done, Grant, Forward, PutAck, Ack, Nack}
 use Rattle.protocol.specs.Machine.{Machine}
 use Rattle.machine.specs.States.{State, shown}
@@ -39,3 +42,18 @@ IsStepOf sets m after (Core h) s = s ≡ Some (step.Core h)
 IsStepOf sets m after (Evict h b) s = s ≡ Some (step.Evict h b)
 IsStepOf sets m after (Deliver n) s = IsArrivalOf (shown sets m) n s
 IsStepOf sets m after Turn s = IsNextTurn (shown sets m) m.flights after s
+
+-- a choice is this step, whosever the last core step was
+abbrev pub IsChoiceOf : ℕ → State → Step → Choice → Type 0
+IsChoiceOf sets m step c = (after : ℕ) → IsStepOf sets m after c (Some step)
+
+-- a name's hart is one that a machine may have, and its block lies in memory
+abbrev pub IsNamedIn : Setting → Name → Type 0
+IsNamedIn s n = (n.hart < most_harts) × LiesInMemory s n.block
+
+-- a choice is of one step, and so are its hart and its block
+abbrev pub IsWithin : Setting → Choice → Type 0
+IsWithin s (Core hart) = hart < most_harts
+IsWithin s (Evict hart block) = (hart < most_harts) × LiesInMemory s block
+IsWithin s (Deliver name) = IsNamedIn s name
+IsWithin s Turn = ⊥

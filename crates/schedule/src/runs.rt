@@ -1,12 +1,14 @@
-ghost use Rattle.std.specs.Prelude.{ℕ, ◌≡◌, Option, Some, None, IsTrue, MatchOption, MatchResult};
+ghost use Rattle.std.specs.Prelude.{ℕ, ◌≡◌, ◌≤◌, Option, Some, None, IsTrue, MatchOption, MatchResult};
 ghost use Rattle.words.specs.declared.entry.Step.{Step as StepValue};
-ghost use Rattle.machine.specs.States.{geometry, shown};
-ghost use Rattle.machine.specs.Turns.{IsQuiescent, IsNextTurn, hart_after};
-ghost use Rattle.schedule.specs.Observed.{MakesSeen, StopsAt, IsSeen, IsHalted};
+ghost use Rattle.machine.specs.States.{geometry};
+ghost use Rattle.machine.specs.Turns.{IsQuiescent, hart_after};
+ghost use Rattle.schedule.specs.Courses.{IsNoneNext, IsUnbegun, course, forgotten};
+ghost use Rattle.schedule.specs.Observed.{MakesSeen, StopsAt, GoesSeen, GoesUnseen, MoreSeen, IsSeen, IsHalted};
 ghost use Rattle.schedule.specs.Runs.{last_after};
 ghost use Rattle.schedule.specs.Steps.{IsStepOf};
 
 use crate::choices::Choice;
+use crate::chooser::Chooser;
 use crate::halt::Halt;
 use crate::observer::Observer;
 use machine::{Machine, PROGRESS_INTERVAL, Progress, Turned, hart_after};
@@ -33,49 +35,68 @@ fn choose<const SETS: usize, const WAYS: usize, L, O: Observer<SETS, WAYS, L>>(
     Ok(hart_after(&step, last))
 }
 
-/// Takes the turn behind another. It answers how that left the machine; `None`, and nothing changes, where there is no turn.
+/// Makes the step that a chooser gives next, behind the last one. It answers how that left the machine; `None`, and nothing changes, where there is no
+/// such step.
 #[inline(always)]
-fn turn<const SETS: usize, const WAYS: usize, L, O: Observer<SETS, WAYS, L>>(
+fn go_on<
+    const SETS: usize,
+    const WAYS: usize,
+    L,
+    C: Chooser<SETS, WAYS>,
+    O: Observer<SETS, WAYS, L>,
+>(
     machine: &mut Machine<SETS, WAYS>,
     last: Turned,
+    chooser: &mut C,
     observer: &O,
     log: &mut L,
 ) -> Result<Option<Turned>, Halt>
     requires { IsTrue last.quiescent → IsQuiescent SETS machine.old }
     ensures { MatchResult result
-        (λ t. MatchOption t (IsNextTurn (shown SETS machine.old) machine.old.flights last.hart None × (machine.new ≡ machine.old) × (log.new ≡ log.old))
-        (λ next. (step : StepValue) × IsNextTurn (shown SETS machine.old) machine.old.flights last.hart (Some step)
-        × MakesSeen (O.saw observer.now) (geometry SETS WAYS) machine.old (Some step) machine.new log.old log.new
+        (λ t. MatchOption t
+        (IsNoneNext (geometry SETS WAYS) machine.old last.hart (C.behind chooser.old) × (C.behind chooser.new ≡ C.behind chooser.old)
+        × (machine.new ≡ machine.old) × (log.new ≡ log.old))
+        (λ next. (step : StepValue)
+        × GoesSeen (O.saw observer.now) (geometry SETS WAYS) machine.old last.hart (C.behind chooser.old) step (C.behind chooser.new) machine.new log.old log.new
         × (next.hart ≡ hart_after step last.hart) × (IsTrue next.quiescent → IsQuiescent SETS machine.new)))
-        (λ halt. (step : StepValue) × IsNextTurn (shown SETS machine.old) machine.old.flights last.hart (Some step)
-        × StopsAt (O.missed observer.now) (geometry SETS WAYS) machine.old step machine.new log.old log.new halt) }
+        (GoesUnseen (O.missed observer.now) (geometry SETS WAYS) machine.old last.hart (C.behind chooser.old) (C.behind chooser.new) machine.new log.old log.new) }
 {
     let Turned { hart, quiescent } = last;
-    let Some(step) = machine.turn_behind(last) else {
+    let Some(step) = chooser.next(machine, last)? else {
         return Ok(None);
     };
     observer.make(machine, step, quiescent, log)?;
     Ok(Some(Turned {
         hart: hart_after(&step, hart),
-        quiescent: machine.is_quiescent(),
+        quiescent: chooser.takes_turns() && machine.is_quiescent(),
     }))
 }
 
-/// Makes the choices in order, so many steps at most: each is made, enabled or not, and counts as a step. Behind the last of them turns are taken.
-/// An observer sees each moment before the next step. Progress is told on the way.
+/// Makes the choices in order, so many steps at most: each is made, enabled or not, and counts as a step. Behind the last of them come the steps that
+/// the chooser gives. An observer sees each moment before the next step. Progress is told on the way.
 ///
 /// If memory runs out, the machine and the log are left where the steps before led. If the observer can't tell of a moment, its step was made.
-pub fn run<const SETS: usize, const WAYS: usize, L, O: Observer<SETS, WAYS, L>, P: Progress>(
+pub fn run<
+    const SETS: usize,
+    const WAYS: usize,
+    L,
+    C: Chooser<SETS, WAYS>,
+    O: Observer<SETS, WAYS, L>,
+    P: Progress,
+>(
     machine: &mut Machine<SETS, WAYS>,
     choices: &[Choice],
     steps: u32,
+    chooser: &mut C,
     observer: &O,
     log: &mut L,
     progress: &mut P,
 ) -> Result<(), Halt>
+    requires { IsUnbegun (C.behind chooser.old) }
     ensures { MatchResult result
-        (λ _. IsSeen (O.saw observer.now) (geometry SETS WAYS) choices.now steps machine.old machine.new log.old log.new)
-        (IsHalted (O.saw observer.now) (O.missed observer.now) (geometry SETS WAYS) choices.now steps machine.old machine.new log.old log.new) }
+        (λ _. IsSeen (O.saw observer.now) (geometry SETS WAYS) (course choices.now (C.behind chooser.new)) steps machine.old machine.new log.old log.new)
+        (IsHalted (O.saw observer.now) (O.missed observer.now) (geometry SETS WAYS) (course choices.now (forgotten (C.behind chooser.new)))
+        steps machine.old machine.new log.old log.new) }
 {
     let mut hart = machine.last_hart();
     let mut left = steps;
@@ -93,14 +114,42 @@ pub fn run<const SETS: usize, const WAYS: usize, L, O: Observer<SETS, WAYS, L>, 
         quiescent: false,
     };
     while left > 0 {
-        let Some(next) = turn(machine, last, observer, log)? else {
+        let Some(next) = go_on(machine, last, chooser, observer, log)? else {
             return Ok(());
         };
         left -= 1;
-        let (taken, behind) = observer.take_turns(machine, next, left.min(due), log);
+        let (taken, behind) = take_turns(machine, next, left.min(due), chooser, observer, log);
         left -= taken;
         last = behind;
         due = machine.note_progress(1 + taken, due, progress);
     }
     Ok(())
+}
+
+/// Takes turns quickly behind a step, so many at most, where it is turns that come next.
+#[inline(always)]
+fn take_turns<
+    const SETS: usize,
+    const WAYS: usize,
+    L,
+    C: Chooser<SETS, WAYS>,
+    O: Observer<SETS, WAYS, L>,
+>(
+    machine: &mut Machine<SETS, WAYS>,
+    last: Turned,
+    most: u32,
+    chooser: &C,
+    observer: &O,
+    log: &mut L,
+) -> (u32, Turned)
+    requires { IsTrue last.quiescent → IsQuiescent SETS machine.old }
+    ensures turns { MoreSeen (O.saw observer.now) (geometry SETS WAYS) (C.behind chooser.now) machine.old last.hart result.0 machine.new result.1.hart log.old log.new }
+    ensures most { result.0 ≤ most }
+    ensures quiescent { IsTrue result.1.quiescent → IsQuiescent SETS machine.new }
+{
+    if chooser.takes_turns() {
+        observer.take_turns(machine, last, most, log)
+    } else {
+        (0, last)
+    }
 }

@@ -1,9 +1,9 @@
-ghost use Rattle.std.specs.Prelude.{◌≡◌, ◌≢◌, ℕ, Some, IfSome, IfNone};
+ghost use Rattle.std.specs.Prelude.{◌≡◌, ◌≢◌, ◌<◌, ◌*◌, ◌^◌, ℕ, Some, None, IfSome, IfNone};
 ghost use Rattle.std.specs.Bool.{MatchBool};
 ghost use Rattle.words.specs.declared.entry.Step.TheVariants.{Deliver};
 ghost use Rattle.protocol.specs.Messages.{shown as shown_message};
-ghost use Rattle.machine.specs.States.{shown};
-ghost use Rattle.schedule.specs.Steps.{name_of, LiesUnder, IsArrivalOf, IsStepOf};
+ghost use Rattle.machine.specs.States.{setting_of, shown};
+ghost use Rattle.schedule.specs.Steps.{name_of, LiesUnder, IsArrivalOf, IsNamedIn, IsStepOf};
 
 use crate::choices::{Choice, Name, Sort};
 use machine::Machine;
@@ -28,6 +28,22 @@ pub fn name_of(message: &Message) -> Name
         hart: *hart,
         block: *block,
     }
+}
+
+/// The name of the message under a key. `None` where there is none.
+pub fn named<const SETS: usize, const WAYS: usize>(
+    machine: &Machine<SETS, WAYS>,
+    key: usize,
+) -> Option<Name>
+    ensures only { IfSome result (λ n. IsArrivalOf (shown SETS machine.now) n (Some (Deliver key))) }
+    ensures within { IfSome result (IsNamedIn (setting_of machine.now)) }
+    ensures none { IfNone result ((shown SETS machine.now).net key ≡ None) }
+{
+    machine.keeps();
+    let message = machine.message(key)?;
+    let name = name_of(&message);
+    let _few = name.hart.index();
+    Some(name)
 }
 
 /// Whether a message has a name.

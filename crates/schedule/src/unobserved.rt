@@ -1,9 +1,11 @@
 ghost use Rattle.std.specs.Prelude.{ℕ, ◌<◌, List, OnOk, OnErr};
 ghost use Rattle.machine.specs.States.{geometry};
+ghost use Rattle.schedule.specs.Courses.{IsUnbegun, course, forgotten};
 ghost use Rattle.schedule.specs.Moments.{Moment};
 ghost use Rattle.schedule.specs.Runs.{Plays};
 
 use crate::choices::Choice;
+use crate::chooser::Chooser;
 use crate::halt::{Halt, Unseen};
 use crate::observer::Observer;
 use crate::runs::run;
@@ -66,18 +68,29 @@ impl<const SETS: usize, const WAYS: usize> Observer<SETS, WAYS, ()> for Unobserv
     }
 }
 
-/// Makes the choices in order, and turns behind the last of them, as [`run`] does, and nobody sees them. Progress is told on the way. It fails only if
+/// Makes the choices in order, and the steps that the chooser gives behind the last of them, as [`run`] does, and nobody sees them. Progress is told on the way. It fails only if
 /// memory runs out, which leaves the machine where the steps before led.
-pub fn play<const SETS: usize, const WAYS: usize, P: Progress>(
+pub fn play<const SETS: usize, const WAYS: usize, C: Chooser<SETS, WAYS>, P: Progress>(
     machine: &mut Machine<SETS, WAYS>,
     choices: &[Choice],
     steps: u32,
+    chooser: &mut C,
     progress: &mut P,
 ) -> Result<(), AllocError>
-    ensures ok { OnOk result ((ms : List Moment) × Plays (geometry SETS WAYS) choices.now steps machine.old ms machine.new) }
-    ensures err { OnErr result ((n : ℕ) × (n < steps) × (ms : List Moment) × Plays (geometry SETS WAYS) choices.now n machine.old ms machine.new) }
+    requires { IsUnbegun (C.behind chooser.old) }
+    ensures ok { OnOk result ((ms : List Moment) × Plays (geometry SETS WAYS) (course choices.now (C.behind chooser.new)) steps machine.old ms machine.new) }
+    ensures err { OnErr result ((n : ℕ) × (n < steps) × (ms : List Moment)
+        × Plays (geometry SETS WAYS) (course choices.now (forgotten (C.behind chooser.new))) n machine.old ms machine.new) }
 {
-    match run(machine, choices, steps, &Unobserved, &mut (), progress) {
+    match run(
+        machine,
+        choices,
+        steps,
+        chooser,
+        &Unobserved,
+        &mut (),
+        progress,
+    ) {
         Ok(()) => Ok(()),
         Err(Halt::NoMemory) => Err(AllocError),
         Err(Halt::Untold) => unreachable!(),

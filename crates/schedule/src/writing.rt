@@ -18,6 +18,16 @@ pub fn put_history<S: Sink>(sink: &mut S, history: &History) -> Result<(), SinkF
     put_batches(sink, &history.batches)
 }
 
+/// Puts choices as a schedule: the line of each, in order.
+pub fn put_choices<S: Sink>(sink: &mut S, choices: &[Choice]) -> Result<(), SinkFault>
+    ensures { Puts (S.state sink.old) (S.state sink.new) (text_of choices.now) result }
+{
+    for choice in choices {
+        put_line(sink, choice)?;
+    }
+    Ok(())
+}
+
 fn put_batches<S: Sink>(sink: &mut S, batches: &[Batch]) -> Result<(), SinkFault>
     ensures { Puts (S.state sink.old) (S.state sink.new) (text_of (choices_in batches.now)) result }
 {

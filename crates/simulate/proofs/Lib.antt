@@ -6,7 +6,8 @@ mod Finding
 mod Carrying
 pub mod Refusing
 pub mod Performing
-mod TurnRuns
+mod StepRuns
+mod KeptRuns
 pub mod Quoting
 mod ShownRuns
 mod ThreadedRuns

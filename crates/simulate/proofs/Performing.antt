@@ -8,6 +8,7 @@ use Rattle.isolation.specs.Belongs.{Belongs}
 use Rattle.isolation.proofs.Belongs.Belonging.{inv_of}
 use Rattle.machine.specs.States.{State, setting_of, shown}
 use Rattle.schedule.specs.declared.choices.Choice.{Choice}
+use Rattle.schedule.specs.Courses.{Behind, course}
 use Rattle.schedule.specs.Moments.{Moment, entries_of}
 use Rattle.schedule.specs.Runs.{Plays}
 use Rattle.reports.specs.Reports.{AllReadable, report_of}
@@ -22,18 +23,18 @@ pub same_setting : (g : Geometry) (f : Flat) (m : State) → Belongs g f (shown 
 same_setting g f m b = (inv_of g f (shown g.sets m) b).1.same
 
 -- a run that has begun, and made so many steps, has an end: a flat state belongs to its machine to which its entries lead
-pub record HasEnd (g : Geometry) (run : Run) (file list : List ℕ) (steps : ℕ) (moments : List Moment) (v w : State) : Type 0 where
+pub record HasEnd (g : Geometry) (run : Run) (b : Behind) (file list : List ℕ) (steps : ℕ) (moments : List Moment) (v w : State) : Type 0 where
   pub end : Flat
-  pub comes : ComesBy g run.setup file list steps moments end
+  pub comes : ComesBy g run.setup b file list steps moments end
   pub belongs : Belongs g end (shown g.sets w)
   pub same : end.setting ≡ setting_of v
 
-module _ (g : Geometry) (run : Run) (file list : List ℕ) (v : State) (addrs : List ℕ) (choices followed : List Choice) (begun : IsBegunBy g run file list v addrs choices) (same : followed ≡ choices) where
-  pub end_of : (steps : ℕ) (moments : List Moment) (w : State) → Plays g followed steps v moments w → HasEnd g run file list steps moments v w
+module _ (g : Geometry) (run : Run) (b : Behind) (file list : List ℕ) (v : State) (addrs : List ℕ) (choices followed : List Choice) (begun : IsBegunBy g run file list v addrs choices) (same : followed ≡ choices) where
+  pub end_of : (steps : ℕ) (moments : List Moment) (w : State) → Plays g (course followed b) steps v moments w → HasEnd g run b file list steps moments v w
   end_of steps moments w plays =
       let start = begun.starts in
       let booting : Flat = flat_start start.program run.setup in
-      let as_chosen : Plays g choices steps v moments w = subst (λ (cs : List Choice). Plays g cs steps v moments w) same plays in
+      let as_chosen : Plays g (course choices b) steps v moments w = subst (λ (cs : List Choice). Plays g (course cs b) steps v moments w) same plays in
       let carried = as_chosen.1 booting start.belongs in
       record {
         end = carried.0;
@@ -43,7 +44,7 @@ module _ (g : Geometry) (run : Run) (file list : List ℕ) (v : State) (addrs : 
       }
 
   -- the words can still be read in it
-  module _ (words : List ℕ) (as_given : words ≡ addrs) (moments : List Moment) (w : State) (e : HasEnd g run file list run.steps moments v w) where
+  module _ (words : List ℕ) (as_given : words ≡ addrs) (moments : List Moment) (w : State) (e : HasEnd g run b file list run.steps moments v w) where
     asked : words ≡ addresses run.words.items
     asked = as_given ∙ begun.same
 

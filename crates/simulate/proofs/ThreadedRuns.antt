@@ -27,6 +27,7 @@ use Rattle.schedule.specs.declared.choices.Choice.{Choice}
 use Rattle.schedule.specs.Lines.{lines_of, AreSpelledBy}
 use Rattle.schedule.specs.Written.{text_of, IsWritable}
 use Rattle.simulate.specs.Conclusions.{IsConcluded, IsHalfConcluded, IsHalfPut}
+use Rattle.schedule.specs.Courses.{Turns}
 use Rattle.simulate.specs.Given.{AreTextsOf}
 use Rattle.reports.specs.Reports.{AllReadable, report_of}
 use Rattle.simulate.specs.Runs.{addresses, ComesBy}
@@ -135,7 +136,7 @@ module _ (g : Geometry) (run : Run) (file : List ℕ) (p : Program) (holds : IsP
   abbrev steps : ℕ
   steps = length choices
 
-  comes : ComesBy g run.setup file list steps come.end.course.moments come.end.flat
+  comes : ComesBy g run.setup Turns file list steps come.end.course.moments come.end.flat
   comes =
       let course = come.end.course in record {
         program = p;
@@ -154,7 +155,7 @@ module _ (g : Geometry) (run : Run) (file : List ℕ) (p : Program) (holds : IsP
     whole = record { output = report_of come.end.flat words ++ []; file = [] }
 
     -- the report on it
-    texts : (status : ℕ) → IsStatusOf come.end.flat status → AreTextsOf g (with_steps run steps) Report file list whole status
+    texts : (status : ℕ) → IsStatusOf come.end.flat status → AreTextsOf g (with_steps run steps) Turns Report file list whole status
     texts status is =
         let same : words ≡ addresses run.words.items = as_given ∙ come.same in
         let setting : setting_of m ≡ come.end.flat.setting = sym (same_setting g come.end.flat m come.end.belongs) in

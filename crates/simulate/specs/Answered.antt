@@ -6,9 +6,10 @@ use Rattle.command_line.specs.Reading.{IsRequestOf, IsFaultOf}
 use Rattle.command_line.specs.declared.fault.OrderFault.{OrderFault}
 use Rattle.command_line.specs.declared.request.Request.{Request}
 use Rattle.command_line.specs.declared.request.Request.TheVariants as request
+use Rattle.command_line.specs.declared.request.Show.{Show}
 use Rattle.command_line.specs.declared.request.Show.TheVariants.{View}
 use Rattle.command_line.specs.declared.request.Way.{Way}
-use Rattle.command_line.specs.declared.request.Way.TheVariants.{Turns, Threads}
+use Rattle.command_line.specs.declared.request.Way.TheVariants as way
 use Rattle.command_line.specs.declared.request.Witness.{Witness}
 use Rattle.debugger.specs.Plays.{Giving}
 use Rattle.reports.specs.Statuses.{IsReported}
@@ -32,18 +33,25 @@ file_of (request.Dis path) = path
 file_of (request.Asm source target) = source
 
 abbrev pub schedule_in : Way → Option (Bor (List ℕ))
-schedule_in (Turns schedule show) = schedule
-schedule_in (Threads history) = None
+schedule_in (way.Turns schedule show) = schedule
+schedule_in (way.Chance schedule chance show) = schedule
+schedule_in (way.Kept schedule chance history print) = schedule
+schedule_in (way.Threads history) = None
 
 -- that of a schedule, if it names one
 abbrev pub schedule_of : Request → Option (Bor (List ℕ))
 schedule_of (request.Run run) = schedule_in run.way
 schedule_of other = None
 
+abbrev pub view_in : Show → Option (Bor (List ℕ))
+view_in (View view path) = Some path
+view_in other = None
+
 abbrev pub page_in : Way → Option (Bor (List ℕ))
-page_in (Turns schedule (View view path)) = Some path
-page_in (Turns schedule other) = None
-page_in (Threads history) = history
+page_in (way.Turns schedule show) = view_in show
+page_in (way.Chance schedule chance show) = view_in show
+page_in (way.Kept schedule chance history print) = Some history
+page_in (way.Threads history) = history
 
 abbrev pub witness_in : Option Witness → Option (Bor (List ℕ))
 witness_in None = None

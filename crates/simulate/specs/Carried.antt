@@ -8,14 +8,17 @@ use Rattle.command_line.specs.declared.request.Request.{Request}
 use Rattle.command_line.specs.declared.request.Request.TheVariants as request
 use Rattle.command_line.specs.declared.request.Run.{Run}
 use Rattle.command_line.specs.declared.request.Way.{Way}
-use Rattle.command_line.specs.declared.request.Way.TheVariants.{Turns, Threads}
+use Rattle.command_line.specs.declared.request.Way.TheVariants.{Turns, Kept, Threads}
+use Rattle.command_line.specs.declared.request.Way.TheVariants as way
 use Rattle.debugger.specs.Plays.{Giving}
 use Rattle.protocol.specs.Caches.{Geometry}
 use Rattle.simulate.specs.Debugging.{IsPlayedByHand}
 use Rattle.simulate.specs.Ends.{AreEndsGiven, AreEndsNotGiven}
 use Rattle.simulate.specs.Faults.{fault_status, fault_text}
 use Rattle.simulate.specs.Files.{IsListed, IsUnlisted, IsImageOf}
+use Rattle.schedule.specs.Courses as behind
 use Rattle.simulate.specs.Given.{IsGiven, IsNotGiven}
+use Rattle.simulate.specs.Kept.{IsGivenAndKept, IsNotGivenOrKept}
 use Rattle.simulate.specs.Orders.{geometry_of}
 use Rattle.simulate.specs.Shown.{Sinks}
 use Rattle.simulate.specs.Sources.{IsSourceFault}
@@ -30,11 +33,15 @@ AreUntouched before after = IsUntouched before.output after.output × IsUntouche
 -- a run gave all its texts, or it did not, for a fault
 module _ (g : Geometry) (run : Run) (file list : List ℕ) (before after : Sinks) where
   abbrev pub RunGives : Way → ℕ → Type 0
-  RunGives (Turns schedule show) status = IsGiven g run show file list before after status
+  RunGives (Turns schedule show) status = IsGiven g run behind.Turns show file list before after status
+  RunGives (way.Chance schedule chance show) status = IsGiven g run (behind.Chance None) show file list before after status
+  RunGives (Kept schedule chance path print) status = IsGivenAndKept g run print path file list before after status
   RunGives (Threads history) status = IsGivenInThreads g run history file before after status
 
   abbrev pub RunFails : Way → Fault → Type 0
-  RunFails (Turns schedule show) fault = IsNotGiven g run show file list before after fault
+  RunFails (Turns schedule show) fault = IsNotGiven g run behind.Turns show file list before after fault
+  RunFails (way.Chance schedule chance show) fault = IsNotGiven g run (behind.Chance None) show file list before after fault
+  RunFails (Kept schedule chance path print) fault = IsNotGivenOrKept g run print path file list before after fault
   RunFails (Threads history) fault = IsNotGivenInThreads g run history file before after fault
 
 -- the cache that a request asks for, where it is carried out on a machine

@@ -19,7 +19,7 @@ use Rattle.simulate.specs.Quotes.{quotation}
 use Rattle.reports.specs.Reports.{line_end}
 use Rattle.simulate.specs.declared.fault.Fault.{Fault}
 use Rattle.simulate.specs.declared.fault.RefusedLine.{RefusedLine}
-use Rattle.simulate.specs.declared.fault.Fault.TheVariants.{NotText, Refused, Value, TwoViews, LongPicture, ThreadsAlone, Unread, TooLong, NotSource, Source, Load, Boot, Word, NotSchedule, Schedule, NoOutcome, Exchanged, Unwritten, Unmade, NoMemory}
+use Rattle.simulate.specs.declared.fault.Fault.TheVariants.{NotText, Refused, Value, TwoViews, LongPicture, ThreadsAlone, MixAlone, TwoFiles, Unread, TooLong, NotSource, Source, Load, Boot, Word, NotSchedule, Schedule, NoOutcome, Exchanged, Unwritten, Unmade, NoMemory}
 
 -- 2 for the command line, a schedule and an outcome that there isn't, 3 for a file, 4 for what is in the file and for the machine that is asked for, 6 if memory ran out, 7 where the lock gave back
 -- another board
@@ -30,6 +30,8 @@ fault_status (Value text) = 2
 fault_status TwoViews = 2
 fault_status LongPicture = 2
 fault_status ThreadsAlone = 2
+fault_status MixAlone = 2
+fault_status TwoFiles = 2
 fault_status (Unread file) = 3
 fault_status (TooLong file) = 3
 fault_status NotSource = 4
@@ -76,7 +78,9 @@ fault_text (Refused text) = concat (string_bytes text ∷ [])
 fault_text (Value text) = line (codes "value ") text.now
 fault_text TwoViews = line (codes "--trace, --timeline and --stats exclude each other") []
 fault_text LongPicture = line (codes "a picture takes --steps of at most 2000") []
-fault_text ThreadsAlone = line (codes "--threads excludes --schedule, --trace, --timeline and --stats, and --history needs --threads") []
+fault_text ThreadsAlone = line (codes "--threads excludes --schedule, --seed, --trace, --timeline and --stats, and --history needs --threads or --seed") []
+fault_text MixAlone = line (codes "--mix needs --seed") []
+fault_text TwoFiles = line (codes "--history excludes --timeline, and --trace into a file") []
 fault_text (Unread file) = line (codes "cannot read ") file.now
 fault_text (TooLong file) = line (codes "longer than 33554432 bytes: ") file.now
 fault_text NotSource = line (codes "source is not text") []
@@ -109,6 +113,8 @@ of_order (order.Value text) = Value text
 of_order order.TwoViews = TwoViews
 of_order order.LongPicture = LongPicture
 of_order order.ThreadsAlone = ThreadsAlone
+of_order order.MixAlone = MixAlone
+of_order order.TwoFiles = TwoFiles
 of_order order.NoMemory = NoMemory
 
 -- the fault of a file, where it is not the file's fault that memory ran out

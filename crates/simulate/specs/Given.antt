@@ -1,4 +1,4 @@
--- What a run by turns gives: what standard output and a file took, and the status.
+-- What a run by turns or by chance gives: what standard output and a file took, and the status.
 use Rattle.std.specs.Prelude.{ℕ, ◌≡◌, ◌<◌, ◌≤◌, ◌⊎◌, List}
 use Rattle.std.specs.Borrow.{Bor}
 use Rattle.words.specs.Sinks.{IsUntouched, TookAll, TookPart}
@@ -8,6 +8,7 @@ use Rattle.command_line.specs.declared.request.Run.{Run}
 use Rattle.command_line.specs.declared.request.Show.{Show}
 use Rattle.command_line.specs.declared.request.Show.TheVariants as shows
 use Rattle.command_line.specs.declared.request.View.{View}
+use Rattle.schedule.specs.Courses.{Behind}
 use Rattle.schedule.specs.Moments.{Moment}
 use Rattle.simulate.specs.Begins.{IsUnbegun}
 use Rattle.simulate.specs.Runs.{ComesBy, IsReport}
@@ -16,10 +17,10 @@ use Rattle.reports.specs.Statuses.{IsReported}
 use Rattle.simulate.specs.declared.fault.Fault.{Fault}
 use Rattle.simulate.specs.declared.fault.Fault.TheVariants.{Unmade, Unwritten, NoMemory}
 
-module _ (g : Geometry) (run : Run) (show : Show) (file list : List ℕ) where
-  -- so many steps of the file with these bytes, by this list, have these moments, and lead to this flat state
+module _ (g : Geometry) (run : Run) (behind : Behind) (show : Show) (file list : List ℕ) where
+  -- so many steps of the file with these bytes, by this list and what comes behind it, have these moments, and lead to this flat state
   abbrev pub Comes : ℕ → List Moment → Flat → Type 0
-  Comes steps ms f = ComesBy g run.setup file list steps ms f
+  Comes steps ms f = ComesBy g run.setup behind file list steps ms f
 
   -- the texts are all that is shown of the run, with the report on the state that its steps lead to; and the status goes with it
   abbrev pub AreTextsOf : Texts → ℕ → Type 0

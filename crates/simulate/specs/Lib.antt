@@ -12,6 +12,7 @@ pub mod Begins
 pub mod Shown
 pub mod Orders
 pub mod Given
+pub mod Kept
 pub mod Threaded
 pub mod Files
 pub mod Ends

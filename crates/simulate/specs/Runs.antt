@@ -9,16 +9,17 @@ use Rattle.command_line.specs.declared.request.Setup.{Setup}
 use Rattle.command_line.specs.declared.request.Word.{Word}
 use Rattle.schedule.specs.declared.choices.Choice.{Choice}
 use Rattle.schedule.specs.Moments.{Moment, entries_of}
-use Rattle.schedule.specs.Runs.{Follows}
+use Rattle.schedule.specs.Courses.{Behind}
+use Rattle.schedule.specs.Runs.{Goes}
 use Rattle.reports.specs.Reports.{report_of, AllReadable}
 use Rattle.simulate.specs.Schedules.{AreChosenBy}
 use Rattle.simulate.specs.Sources.{IsProgramIn}
 use Rattle.simulate.specs.Starts.{IsFirstOf, flat_start}
 use Rattle.reports.specs.Statuses.{IsStatusOf}
 
--- the file with this name and these bytes has a program; so many steps, those that a list chooses and then turns, lead from the machine that it begins in to another, or fewer if there
--- are no more; these are their moments, and the entries that they gave lead as a run of the flat machine from the program's first state to this one
-pub record ComesBy (g : Geometry) (setup : Setup) (file list : List ℕ) (steps : ℕ) (moments : List Moment) (f : Flat) : Type 0 where
+-- the file with this name and these bytes has a program; so many steps, those that a list chooses and then turns, or what chance chooses, lead from the machine that it begins in to
+-- another, or fewer if there are no more; these are their moments, and the entries that they gave lead as a run of the flat machine from the program's first state to this one
+pub record ComesBy (g : Geometry) (setup : Setup) (behind : Behind) (file list : List ℕ) (steps : ℕ) (moments : List Moment) (f : Flat) : Type 0 where
   pub program : Program
   pub holds : IsProgramIn setup.file.now file program
   pub first : State
@@ -26,7 +27,7 @@ pub record ComesBy (g : Geometry) (setup : Setup) (file list : List ℕ) (steps 
   pub choices : List Choice
   pub chosen : AreChosenBy list choices
   pub last : State
-  pub made : Follows g choices steps first ((setting_of first).count - 1) moments last
+  pub made : Goes behind g choices steps first ((setting_of first).count - 1) moments last
   pub run : IsRun (flat_start program setup) (entries_of moments) f
 
 -- the addresses of the words that are to be shown

@@ -8,7 +8,7 @@ use Rattle.command_line.specs.declared.request.Show.{Show}
 use Rattle.command_line.specs.declared.request.Show.TheVariants as shows
 use Rattle.command_line.specs.declared.request.View.{View}
 use Rattle.command_line.specs.declared.request.View.TheVariants.{Trace, Timeline, Picture}
-use Rattle.schedule.specs.declared.choices.Choice.{Choice}
+use Rattle.schedule.specs.Courses.{Course}
 use Rattle.schedule.specs.Moments.{Moment}
 use Rattle.schedule.specs.Runs.{Plays}
 use Rattle.schedule.specs.declared.halt.Halt.{Halt}
@@ -64,23 +64,23 @@ abbrev pub shown_texts : Show → ℕ → ℕ → List Moment → List ℕ → T
 shown_texts show sets harts ms report =
     record { output = (shown_before show sets harts ms).output ++ (report ++ behind_report show harts ms); file = (shown_before show sets harts ms).file }
 
--- n steps by a schedule were made, and counted where counts are shown; and what is shown before the report was taken
-abbrev pub IsShown : Show → Geometry → List Choice → ℕ → State → State → Tally → Sinks → Sinks → Type 0
-IsShown show g choices n v w counts before after =
-    (ms : List Moment) × Plays g choices n v ms w × AreCounts show ms counts × TakeAll before after (shown_before show g.sets (setting_of v).count ms)
+-- n steps on a course were made, and counted where counts are shown; and what is shown before the report was taken
+abbrev pub IsShown : Show → Geometry → Course → ℕ → State → State → Tally → Sinks → Sinks → Type 0
+IsShown show g course n v w counts before after =
+    (ms : List Moment) × Plays g course n v ms w × AreCounts show ms counts × TakeAll before after (shown_before show g.sets (setting_of v).count ms)
 
 -- why n steps weren't made and shown: memory ran out behind fewer, and all that can be shown of them was taken; or a put failed, and a beginning of what is shown of some was taken by
 -- standard output, or by the file
-module _ (show : Show) (g : Geometry) (choices : List Choice) (n : ℕ) (v w : State) (before after : Sinks) where
+module _ (show : Show) (g : Geometry) (course : Course) (n : ℕ) (v w : State) (before after : Sinks) where
   abbrev pub IsStoppedBehind : Type 0
-  IsStoppedBehind = (m : ℕ) × (m < n) × ((ms : List Moment) × Plays g choices m v ms w × TakeAll before after (shown_so_far show g.sets (setting_of v).count ms))
+  IsStoppedBehind = (m : ℕ) × (m < n) × ((ms : List Moment) × Plays g course m v ms w × TakeAll before after (shown_so_far show g.sets (setting_of v).count ms))
 
   abbrev pub IsOutputCut : Type 0
-  IsOutputCut = (m : ℕ) × (m ≤ n) × ((ms : List Moment) × Plays g choices m v ms w
+  IsOutputCut = (m : ℕ) × (m ≤ n) × ((ms : List Moment) × Plays g course m v ms w
       × TookPart before.output after.output (shown_before show g.sets (setting_of v).count ms).output × IsUntouched before.file after.file)
 
   abbrev pub IsFileCut : Type 0
-  IsFileCut = (m : ℕ) × (m ≤ n) × ((ms : List Moment) × Plays g choices m v ms w
+  IsFileCut = (m : ℕ) × (m ≤ n) × ((ms : List Moment) × Plays g course m v ms w
       × TookPart before.file after.file (shown_before show g.sets (setting_of v).count ms).file × IsUntouched before.output after.output)
 
   abbrev pub IsCutShort : Fault → Type 0
@@ -89,15 +89,15 @@ module _ (show : Show) (g : Geometry) (choices : List Choice) (n : ℕ) (v w : S
       ⊎ ((view : View) × (path : Bor (List ℕ)) × (show ≡ shows.View view path) × (fault ≡ Unmade path) × IsFileCut))
 
 -- the same of a view's file alone
-module _ (view : View) (g : Geometry) (choices : List Choice) (n : ℕ) (v w : State) (before after : SinkState) where
+module _ (view : View) (g : Geometry) (course : Course) (n : ℕ) (v w : State) (before after : SinkState) where
   abbrev pub IsViewed : Type 0
-  IsViewed = (ms : List Moment) × Plays g choices n v ms w × TookAll before after (view_text view g.sets (setting_of v).count ms)
+  IsViewed = (ms : List Moment) × Plays g course n v ms w × TookAll before after (view_text view g.sets (setting_of v).count ms)
 
   abbrev pub IsViewedSoFar : Type 0
-  IsViewedSoFar = (m : ℕ) × (m < n) × ((ms : List Moment) × Plays g choices m v ms w × TookAll before after (begun_view view g.sets (setting_of v).count ms))
+  IsViewedSoFar = (m : ℕ) × (m < n) × ((ms : List Moment) × Plays g course m v ms w × TookAll before after (begun_view view g.sets (setting_of v).count ms))
 
   abbrev pub IsViewedInPart : Type 0
-  IsViewedInPart = (m : ℕ) × (m ≤ n) × ((ms : List Moment) × Plays g choices m v ms w × TookPart before after (view_text view g.sets (setting_of v).count ms))
+  IsViewedInPart = (m : ℕ) × (m ≤ n) × ((ms : List Moment) × Plays g course m v ms w × TookPart before after (view_text view g.sets (setting_of v).count ms))
 
   abbrev pub IsViewCut : Halt → Type 0
   IsViewCut halt.NoMemory = IsViewedSoFar

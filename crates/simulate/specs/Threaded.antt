@@ -10,6 +10,7 @@ use Rattle.command_line.specs.declared.request.Run.{Run}
 use Rattle.command_line.specs.declared.request.Show.TheVariants.{Report}
 use Rattle.command_line.specs.declared.request.Word.{Word as Asked}
 use Rattle.protocol.specs.Caches.{Geometry}
+use Rattle.schedule.specs.Courses.{Turns}
 use Rattle.schedule.specs.Moments.{Moment}
 use Rattle.simulate.specs.Begins.{IsUnbegun}
 use Rattle.simulate.specs.Given.{AreTextsOf, Comes}
@@ -34,16 +35,16 @@ history_text (Some path) list = list
 module _ (g : Geometry) (run : Run) (history : Option (Bor (List ℕ))) (file : List ℕ) (before after : Sinks) where
   -- the report is on the run which n steps by some list come to, as a schedule of this list makes it; and the list is the history
   abbrev pub IsGivenInThreads : ℕ → Type 0
-  IsGivenInThreads status = IsReported status × ((list : List ℕ) × (n : ℕ) × (texts : Texts) × AreTextsOf g (with_steps run n) Report file list texts status
+  IsGivenInThreads status = IsReported status × ((list : List ℕ) × (n : ℕ) × (texts : Texts) × AreTextsOf g (with_steps run n) Turns Report file list texts status
       × TookAll before.output after.output texts.output × TookAll before.file after.file (history_text history list))
 
   -- a put of the history failed, or one of the report behind it
   abbrev pub IsHistoryCut : Type 0
-  IsHistoryCut = (list : List ℕ) × (n : ℕ) × ((ms : List Moment) × (f : Flat) × Comes g run Report file list n ms f)
+  IsHistoryCut = (list : List ℕ) × (n : ℕ) × ((ms : List Moment) × (f : Flat) × Comes g run Turns Report file list n ms f)
       × TookPart before.file after.file list × IsUntouched before.output after.output
 
   abbrev pub IsReportCut : Type 0
-  IsReportCut = (list : List ℕ) × (n : ℕ) × (texts : Texts) × (status : ℕ) × AreTextsOf g (with_steps run n) Report file list texts status
+  IsReportCut = (list : List ℕ) × (n : ℕ) × (texts : Texts) × (status : ℕ) × AreTextsOf g (with_steps run n) Turns Report file list texts status
       × TookPart before.output after.output texts.output × TookAll before.file after.file (history_text history list)
 
   -- why not all was taken: there is no run, memory ran out, the lock gave back another board, or a put failed

@@ -8,16 +8,18 @@ ghost use Rattle.simulate.specs.Sources.{IsSourceFault};
 
 use crate::debugging::play_by_hand;
 use crate::fault::Fault;
+use crate::kept::{chance_of, run_and_keep};
 use crate::live::Live;
 use crate::page::Page;
 use crate::search::find_ends;
 use crate::source::program_of_source;
+use crate::steps::run_by_steps;
 use crate::threads::run_in_threads;
-use crate::turns::run_by_turns;
 use command_line::{Cache, Request, Run, Way};
 use debugger::LineInput;
 use disassembler::listing;
 use loader::{read_elf, write_elf};
+use schedule::{Chance, Turns};
 use std::alloc::Global;
 use std::sync::Wait;
 use std::thread::Threads;
@@ -191,8 +193,27 @@ fn make_run<
         (record { output = O.state out.old; file = T.state chart.old.sink }) (record { output = O.state out.new; file = T.state chart.new.sink }) run.now.way) }
 {
     match run.way {
-        Way::Turns { show, .. } => run_by_turns::<SETS, WAYS, P, T, O>(
-            alloc, run, show, file, schedule, progress, chart, out,
+        Way::Turns { show, .. } => run_by_steps::<SETS, WAYS, Turns, P, T, O>(
+            alloc, run, show, &mut Turns, file, schedule, progress, chart, out,
+        ),
+        Way::Chance { chance, show, .. } => run_by_steps::<SETS, WAYS, Chance, P, T, O>(
+            alloc,
+            run,
+            show,
+            &mut chance_of(chance),
+            file,
+            schedule,
+            progress,
+            chart,
+            out,
+        ),
+        Way::Kept {
+            chance,
+            history,
+            print,
+            ..
+        } => run_and_keep::<SETS, WAYS, P, T, O>(
+            alloc, run, chance, history, print, file, schedule, progress, chart, out,
         ),
         Way::Threads { history } => run_in_threads::<SETS, WAYS, R, T, O>(
             rt,

@@ -194,7 +194,9 @@ fn schedule_of<'a>(request: &Request<'a>) -> Option<&'a str>
 {
     match request {
         Request::Run(run) => match run.way {
-            Way::Turns { schedule, .. } => schedule,
+            Way::Turns { schedule, .. }
+            | Way::Chance { schedule, .. }
+            | Way::Kept { schedule, .. } => schedule,
             Way::Threads { .. } => None,
         },
         _ => None,
@@ -207,11 +209,11 @@ fn page_of<'a>(request: &Request<'a>) -> Option<&'a str>
 {
     match request {
         Request::Run(run) => match run.way {
-            Way::Turns {
-                show: Show::View(_, path),
-                ..
-            } => Some(path),
-            Way::Turns { .. } => None,
+            Way::Turns { show, .. } | Way::Chance { show, .. } => match show {
+                Show::View(_, path) => Some(path),
+                _ => None,
+            },
+            Way::Kept { history, .. } => Some(history),
             Way::Threads { history } => history,
         },
         Request::Outcomes(asked) => match asked.witness {

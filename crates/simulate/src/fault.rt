@@ -36,8 +36,13 @@ pub enum Fault<'a> {
     TwoViews,
     /// A picture is asked for of a run that may take more steps than a picture shows.
     LongPicture,
-    /// A run in threads is given a schedule, or more is to be shown of it, or it is to be counted; or the history is asked for of a run that isn't in threads.
+    /// A run in threads is given a schedule, or more is to be shown of it, or it is to be counted; or the history is asked for of a run that is
+    /// made neither in threads nor by chance.
     ThreadsAlone,
+    /// Weights are given, and no seed.
+    MixAlone,
+    /// A history is asked for beside another file.
+    TwoFiles,
     /// The path of a file that can't be read.
     Unread(&'a str),
     /// The path of a file that is longer than any that is taken.
@@ -77,6 +82,7 @@ impl<'a> Fault<'a> {
         match self {
             Fault::NotText | Fault::Refused(_) | Fault::Value(_) | Fault::Word(_) => 2,
             Fault::TwoViews | Fault::LongPicture | Fault::ThreadsAlone => 2,
+            Fault::MixAlone | Fault::TwoFiles => 2,
             Fault::NotSchedule | Fault::Schedule(_) | Fault::NoOutcome(_) => 2,
             Fault::Unread(_) | Fault::TooLong(_) | Fault::Unwritten | Fault::Unmade(_) => 3,
             Fault::NotSource | Fault::Source(_) | Fault::Load(_) | Fault::Boot(_) => 4,
@@ -114,7 +120,12 @@ impl<'a> Fault<'a> {
             Fault::TwoViews => (b"--trace, --timeline and --stats exclude each other", ""),
             Fault::LongPicture => (b"a picture takes --steps of at most 2000", ""),
             Fault::ThreadsAlone => (
-                b"--threads excludes --schedule, --trace, --timeline and --stats, and --history needs --threads",
+                b"--threads excludes --schedule, --seed, --trace, --timeline and --stats, and --history needs --threads or --seed",
+                "",
+            ),
+            Fault::MixAlone => (b"--mix needs --seed", ""),
+            Fault::TwoFiles => (
+                b"--history excludes --timeline, and --trace into a file",
                 "",
             ),
             Fault::Unread(file) => (b"cannot read ", *file),
@@ -236,6 +247,8 @@ impl<'a> From<OrderFault<'a>> for Fault<'a> {
             OrderFault::TwoViews => Fault::TwoViews,
             OrderFault::LongPicture => Fault::LongPicture,
             OrderFault::ThreadsAlone => Fault::ThreadsAlone,
+            OrderFault::MixAlone => Fault::MixAlone,
+            OrderFault::TwoFiles => Fault::TwoFiles,
             OrderFault::NoMemory => Fault::NoMemory,
         }
     }

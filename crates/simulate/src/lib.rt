@@ -10,6 +10,7 @@ mod counting;
 mod debugging;
 mod entry;
 mod fault;
+mod kept;
 mod laws;
 mod live;
 mod meter;
@@ -19,9 +20,9 @@ pub mod readable;
 mod search;
 mod serving;
 pub mod source;
+mod steps;
 mod store;
 mod threads;
-mod turns;
 
 pub use carry::{Outcome, carry_out};
 pub use entry::answer;

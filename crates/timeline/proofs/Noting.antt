@@ -7,6 +7,8 @@ use Rattle.texts.specs.Puts.{Puts}
 use Rattle.texts.proofs.Putting.{puts-same}
 use Rattle.protocol.specs.Caches.{Geometry}
 use Rattle.machine.specs.States.{State, setting_of}
+use Rattle.schedule.specs.Courses.{Behind, Course, course, forgotten, IsUnbegun}
+use Rattle.schedule.proofs.Going.{forget, unbegun_still}
 use Rattle.schedule.specs.declared.choices.Choice.{Choice}
 use Rattle.schedule.specs.Moments.{Moment}
 use Rattle.schedule.proofs.Lengths.{none_played, steps_at_most}
@@ -24,9 +26,10 @@ not_ok (Ok x) failed well = absurd (cc)
 not_ok (Err e) failed well = cc
 
 -- there was no room for the rows of some steps
-pub cut_first : {T E : Type 0} (g : Geometry) (choices : List Choice) (n : ℕ) (v : State) (r : Result T E) {e : E} → r ≡ Err e → (n ≡ 0 → IsOk r) → IsCut g choices n v v
-cut_first g choices zero v r failed none = absurd (not_ok r failed (none refl))
-cut_first g choices (suc n) v r failed none = (0, omega arith, [], none_played g choices v)
+pub cut_first : {T E : Type 0} (g : Geometry) (choices : List Choice) (b : Behind) (n : ℕ) (v : State) (r : Result T E) {e : E} → IsUnbegun b → r ≡ Err e → (n ≡ 0 → IsOk r)
+    → IsCut g (course choices (forgotten b)) n v v
+cut_first g choices b zero v r unbegun failed none = absurd (not_ok r failed (none refl))
+cut_first g choices b (suc n) v r unbegun failed none = (0, omega arith, [], none_played g choices (forgotten b) v (unbegun_still b unbegun))
 
 pub on_err : {T E : Type 0} {P : Type 0} (r : Result T E) → P → OnErr r P
 on_err (Ok x) fact = tt
@@ -61,28 +64,32 @@ module _ {Z : Type 0} (sets : ℕ) where
   pub noted_all : (groups : List (List Moment)) (x y : Vec Row Z) → FoldsTo (NotesRows sets) x groups y → NotesRows sets x (joined groups) y
   noted_all groups x y folds = holds_of_all (NotesRows sets) (NotesRows sets x) (λ ms ns z w first later. rows_more x z w ms ns first later) groups x y (rows_none x) folds
 
-module _ {Z : Type 0} (g : Geometry) (choices : List Choice) (n : ℕ) (v w : State) (x y : Vec Row Z) (none : x.items ≡ []) (empty : vec_len x ≡ 0) where
-  pub told : IsSeen (NotesRows g.sets) g choices n v w x y → IsNoted g choices n v w y.items
+module _ {Z : Type 0} (g : Geometry) (on : Course) (n : ℕ) (v w : State) (x y : Vec Row Z) (none : x.items ≡ []) (empty : vec_len x ≡ 0) where
+  pub told : IsSeen (NotesRows g.sets) g on n v w x y → IsNoted g on n v w y.items
   told (groups, plays, folds) =
       let ms = joined groups in
       let notes = noted_all g.sets groups x y folds in
       (ms, plays, notes.rows ∙ ap (λ (rows : List Row). rows ++ rows_from g.sets (vec_len x) ms) none ∙ ap (λ (k : ℕ). rows_from g.sets k ms) empty)
 
   -- where there is room for n rows, none is missed
-  pub never_full : n ≤ vec_capacity x → IsHalted (NotesRows g.sets) IsFull g choices n v w x y Untold → ⊥
+  pub never_full : n ≤ vec_capacity x → IsHalted (NotesRows g.sets) IsFull g on n v w x y Untold → ⊥
   never_full enough (m, less, (groups, last, z, plays, folds, full)) =
-      let few = steps_at_most g choices (m + 1) v _ (joined groups ++ last) w plays.0 in
+      let few = steps_at_most g on (m + 1) v (joined groups ++ last) w plays in
       let too_many = full_on g.sets x z y (joined groups) last (noted_all g.sets groups x z folds) full in
       omega (arith, enough, less, few, too_many, empty)
 
-module _ (g : Geometry) (choices : List Choice) (n : ℕ) (v w : State) (rows : List Row) (a b : SinkState) where
+module _ (g : Geometry) (on : Course) (n : ℕ) (v w : State) (rows : List Row) (a b : SinkState) where
   -- the drawing of noted rows is the picture of their steps
-  pub pictured : IsNoted g choices n v w rows → Puts a b (drawn (setting_of v).count rows) (Ok tt) → IsPictured g choices n v w a b
+  pub pictured : IsNoted g on n v w rows → Puts a b (drawn (setting_of v).count rows) (Ok tt) → IsPictured g on n v w a b
   pictured (ms, plays, is) puts =
       let all = puts-same {r = Ok tt} (ap (drawn (setting_of v).count) is) puts in
       (ms, plays, record { whole = all.whole; clean = all.clean })
 
-  pub broken : (fault : SinkFault) → IsNoted g choices n v w rows → Puts a b (drawn (setting_of v).count rows) (Err fault) → IsNotPictured g choices n v w a b Untold
+  pub broken : (fault : SinkFault) → IsNoted g on n v w rows → Puts a b (drawn (setting_of v).count rows) (Err fault) → IsNotPictured g on n v w a b Untold
   broken fault (ms, plays, is) puts =
       let all = puts-same {r = Err fault} (ap (drawn (setting_of v).count) is) puts in
       (ms, plays, record { part = all.part; fault = all.fault })
+
+-- the choices of chance need not be told
+pub forget_noted : (g : Geometry) (choices : List Choice) (b : Behind) (n : ℕ) (v w : State) (rows : List Row) → IsNoted g (course choices b) n v w rows → IsNoted g (course choices (forgotten b)) n v w rows
+forget_noted g choices b n v w rows (ms, plays, is) = (ms, forget g choices b n v ms w plays, is)

@@ -4,7 +4,7 @@ use Rattle.std.specs.List.{concat, flat_map, range_with_len}
 use Rattle.words.specs.Sinks.{SinkState, TookAll, TookPart}
 use Rattle.protocol.specs.Caches.{Geometry}
 use Rattle.machine.specs.States.{State, setting_of}
-use Rattle.schedule.specs.declared.choices.Choice.{Choice}
+use Rattle.schedule.specs.Courses.{Course}
 use Rattle.schedule.specs.Moments.{Moment}
 use Rattle.schedule.specs.Runs.{Plays}
 use Rattle.schedule.specs.declared.halt.Halt.{Halt}
@@ -36,14 +36,14 @@ begun_timeline sets harts ms = opening harts ++ events_from sets 0 ms
 abbrev pub timeline_of : ℕ → ℕ → List Moment → List ℕ
 timeline_of sets harts ms = opening harts ++ (events_from sets 0 ms ++ closing)
 
--- n steps by a schedule were made, and the sink took their timeline
-abbrev pub IsShown : Geometry → List Choice → ℕ → State → State → SinkState → SinkState → Type 0
-IsShown g choices n v w before after =
-    (ms : List Moment) × Plays g choices n v ms w × TookAll before after (timeline_of g.sets (setting_of v).count ms)
+-- n steps on a course were made, and the sink took their timeline
+abbrev pub IsShown : Geometry → Course → ℕ → State → State → SinkState → SinkState → Type 0
+IsShown g course n v w before after =
+    (ms : List Moment) × Plays g course n v ms w × TookAll before after (timeline_of g.sets (setting_of v).count ms)
 
 -- what was made of n steps. Memory ran out: fewer, and the sink took the events of all of them, with no end. A put failed: some, or all, and it took a beginning of their timeline
-abbrev pub IsCutShort : Geometry → List Choice → ℕ → State → State → SinkState → SinkState → Halt → Type 0
-IsCutShort g choices n v w before after NoMemory = (m : ℕ) × (m < n) × (ms : List Moment) × Plays g choices m v ms w
+abbrev pub IsCutShort : Geometry → Course → ℕ → State → State → SinkState → SinkState → Halt → Type 0
+IsCutShort g course n v w before after NoMemory = (m : ℕ) × (m < n) × (ms : List Moment) × Plays g course m v ms w
     × TookAll before after (begun_timeline g.sets (setting_of v).count ms)
-IsCutShort g choices n v w before after Untold = (m : ℕ) × (m < n + 1) × (ms : List Moment) × Plays g choices m v ms w
+IsCutShort g course n v w before after Untold = (m : ℕ) × (m < n + 1) × (ms : List Moment) × Plays g course m v ms w
     × TookPart before after (timeline_of g.sets (setting_of v).count ms)

@@ -5,6 +5,7 @@ ghost use Rattle.texts.specs.Puts.{Puts};
 ghost use Rattle.machine.specs.States.{geometry};
 ghost use Rattle.schedule.specs.declared.halt.Halt.TheVariants.{Untold};
 ghost use Rattle.timeline.specs.Events.{events_from, events_of};
+ghost use Rattle.schedule.specs.Courses.{IsUnbegun, course, forgotten};
 ghost use Rattle.timeline.specs.Timelines as spec;
 ghost use Rattle.timeline.specs.Timelines.{IsShown, IsCutShort};
 ghost use Rattle.timeline.specs.Notes.{PutEvents};
@@ -15,7 +16,7 @@ use crate::label::{DIRECTORY, lane};
 use itoa::Buffer;
 use machine::{Machine, Progress};
 use network::Flight;
-use schedule::{Choice, Halt, Observer, Unseen, run};
+use schedule::{Choice, Chooser, Halt, Observer, Unseen, run};
 use texts::put_all;
 use words::{Entry, Sink, SinkFault, Step};
 
@@ -153,26 +154,35 @@ fn put_harts<S: Sink>(sink: &mut S, harts: usize) -> Result<(), SinkFault>
     Ok(())
 }
 
-/// The choices in order, so many at most, and turns behind the last of them, as [`schedule::run`] makes them. The events of each step are put
-/// before the next step. Progress is told on the way.
+/// The choices in order, so many at most, and behind the last of them the steps that a chooser gives, as [`schedule::run`] makes them. The events of
+/// each step are put before the next step. Progress is told on the way.
 ///
 /// If memory runs out, the machine is left where the steps before led, and their events were put, with no end of the timeline. If a put fails,
 /// the steps of all events up to it were made, and a beginning of their timeline was taken.
-pub fn put_timeline<const SETS: usize, const WAYS: usize, S: Sink, P: Progress>(
+pub fn put_timeline<
+    const SETS: usize,
+    const WAYS: usize,
+    C: Chooser<SETS, WAYS>,
+    S: Sink,
+    P: Progress,
+>(
     machine: &mut Machine<SETS, WAYS>,
     choices: &[Choice],
     steps: u32,
+    chooser: &mut C,
     chart: &mut Chart<S>,
     progress: &mut P,
 ) -> Result<(), Halt>
+    requires { IsUnbegun (C.behind chooser.old) }
     ensures { MatchResult result
-        (λ _. IsShown (geometry SETS WAYS) choices.now steps machine.old machine.new (S.state chart.old.sink) (S.state chart.new.sink))
-        (IsCutShort (geometry SETS WAYS) choices.now steps machine.old machine.new (S.state chart.old.sink) (S.state chart.new.sink)) }
+        (λ _. IsShown (geometry SETS WAYS) (course choices.now (C.behind chooser.new)) steps machine.old machine.new (S.state chart.old.sink) (S.state chart.new.sink))
+        (IsCutShort (geometry SETS WAYS) (course choices.now (forgotten (C.behind chooser.new))) steps machine.old machine.new
+        (S.state chart.old.sink) (S.state chart.new.sink)) }
 {
     chart.time = 0;
     let harts = machine.harts();
     put_or_halt(put_opening(&mut chart.sink, harts))?;
-    run(machine, choices, steps, &Drawer, chart, progress)?;
+    run(machine, choices, steps, chooser, &Drawer, chart, progress)?;
     put_or_halt(put_all(&mut chart.sink, &[b"\n]}\n"]))
 }
 

@@ -1,6 +1,7 @@
 ghost use Rattle.std.specs.Prelude.{◌≡◌, ◌≤◌, ◌+◌, ◌++◌, [], ◌∷◌, MatchResult, IfOk, OnErr, IsErr, Ok, vec_len, vec_capacity};
 ghost use Rattle.machine.specs.States.{geometry};
 ghost use Rattle.schedule.specs.declared.halt.Halt.TheVariants.{Untold};
+ghost use Rattle.schedule.specs.Courses.{IsUnbegun, course, forgotten};
 ghost use Rattle.timeline.specs.Pictures.{IsNoted, IsCut, IsPictured, IsNotPictured};
 ghost use Rattle.timeline.specs.Notes.{NotesRows, IsFull};
 
@@ -9,7 +10,7 @@ use crate::edge::edge_at;
 use crate::row::Row;
 use machine::{Machine, Silent};
 use network::Flight;
-use schedule::{Choice, Halt, Observer, Unseen, run};
+use schedule::{Choice, Chooser, Halt, Observer, Unseen, run};
 use std::alloc::{AllocError, Global};
 use words::{Entry, Sink, SinkFault, Step};
 
@@ -47,42 +48,56 @@ impl<const SETS: usize, const WAYS: usize> Observer<SETS, WAYS, Vec<Row>> for No
     }
 }
 
-/// The choices in order, so many at most, and turns behind the last of them, as rows. Room for all rows is taken before the first step.
-fn noted<const SETS: usize, const WAYS: usize>(
+/// The choices in order, so many at most, and behind the last of them the steps that a chooser gives, as rows. Room for all rows is taken before the
+/// first step.
+fn noted<const SETS: usize, const WAYS: usize, C: Chooser<SETS, WAYS>>(
     alloc: Global,
     machine: &mut Machine<SETS, WAYS>,
     choices: &[Choice],
     steps: u32,
+    chooser: &mut C,
 ) -> Result<Vec<Row>, AllocError>
-    ensures ok { IfOk result (λ rows. IsNoted (geometry SETS WAYS) choices.now steps machine.old machine.new rows.items) }
-    ensures err { OnErr result (IsCut (geometry SETS WAYS) choices.now steps machine.old machine.new) }
+    requires { IsUnbegun (C.behind chooser.old) }
+    ensures ok { IfOk result (λ rows. IsNoted (geometry SETS WAYS) (course choices.now (C.behind chooser.new)) steps machine.old machine.new rows.items) }
+    ensures err { OnErr result (IsCut (geometry SETS WAYS) (course choices.now (forgotten (C.behind chooser.new))) steps machine.old machine.new) }
 {
     let mut rows = Vec::with_capacity(alloc, steps as usize)?;
-    match run(machine, choices, steps, &Noter, &mut rows, &mut Silent) {
+    match run(
+        machine,
+        choices,
+        steps,
+        chooser,
+        &Noter,
+        &mut rows,
+        &mut Silent,
+    ) {
         Ok(()) => Ok(rows),
         Err(Halt::NoMemory) => Err(AllocError),
         Err(Halt::Untold) => unreachable!(),
     }
 }
 
-/// The choices in order, so many at most, and turns behind the last of them, as [`schedule::run`] makes them. Their picture is put behind the
-/// last step.
+/// The choices in order, so many at most, and behind the last of them the steps that a chooser gives, as [`schedule::run`] makes them. Their picture
+/// is put behind the last step.
 ///
 /// If memory runs out, the machine is left where the steps before led, and nothing is put. If a put fails, all steps were made, and a beginning
 /// of the picture was taken.
-pub fn put_picture<const SETS: usize, const WAYS: usize, S: Sink>(
+pub fn put_picture<const SETS: usize, const WAYS: usize, C: Chooser<SETS, WAYS>, S: Sink>(
     alloc: Global,
     machine: &mut Machine<SETS, WAYS>,
     choices: &[Choice],
     steps: u32,
+    chooser: &mut C,
     sink: &mut S,
 ) -> Result<(), Halt>
+    requires { IsUnbegun (C.behind chooser.old) }
     ensures { MatchResult result
-        (λ _. IsPictured (geometry SETS WAYS) choices.now steps machine.old machine.new (S.state sink.old) (S.state sink.new))
-        (IsNotPictured (geometry SETS WAYS) choices.now steps machine.old machine.new (S.state sink.old) (S.state sink.new)) }
+        (λ _. IsPictured (geometry SETS WAYS) (course choices.now (C.behind chooser.new)) steps machine.old machine.new (S.state sink.old) (S.state sink.new))
+        (IsNotPictured (geometry SETS WAYS) (course choices.now (forgotten (C.behind chooser.new))) steps machine.old machine.new
+        (S.state sink.old) (S.state sink.new)) }
 {
     let harts = machine.harts();
-    let rows = noted(alloc, machine, choices, steps)?;
+    let rows = noted(alloc, machine, choices, steps, chooser)?;
     match put_drawing(sink, harts, &rows) {
         Ok(()) => Ok(()),
         Err(SinkFault) => Err(Halt::Untold),

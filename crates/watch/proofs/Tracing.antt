@@ -9,7 +9,7 @@ use Rattle.texts.specs.Puts.{Puts}
 use Rattle.texts.proofs.Putting.{took-nothing, took-both, took-then-part}
 use Rattle.protocol.specs.Caches.{Geometry}
 use Rattle.machine.specs.States.{State}
-use Rattle.schedule.specs.declared.choices.Choice.{Choice}
+use Rattle.schedule.specs.Courses.{Course}
 use Rattle.schedule.specs.declared.halt.Halt.{Halt}
 use Rattle.schedule.specs.declared.halt.Halt.TheVariants.{NoMemory, Untold}
 use Rattle.schedule.specs.Moments.{Moment}
@@ -44,11 +44,11 @@ module _ {S : Type 0} (state : S → SinkState) where
   traced_all : (groups : List (List Moment)) (x y : S) → FoldsTo Saw x groups y → Saw x (joined groups) y
   traced_all groups x y folds = holds_of_all Saw (Saw x) (λ ms ns z w first later. traced_both (state x) (state z) (state w) ms ns first later) groups x y (took-nothing (state x)) folds
 
-  -- what was seen of a run, as what the sink took
-  pub told : (g : Geometry) (choices : List Choice) (n : ℕ) (v w : State) (x y : S) (r : Result Unit Halt)
-      → MatchResult r (λ _. IsSeen Saw g choices n v w x y) (IsHalted Saw Missed g choices n v w x y)
-      → MatchResult r (λ _. IsTraced g choices n v w (state x) (state y)) (IsCut g choices n v w (state x) (state y))
-  told g choices n v w x y (Ok _) (groups, plays, folds) = (joined groups, plays, traced_all groups x y folds)
-  told g choices n v w x y (Err NoMemory) (m, less, (groups, plays, folds)) = (m, less, (joined groups, plays, traced_all groups x y folds))
-  told g choices n v w x y (Err Untold) (m, less, (groups, last, z, plays, folds, missed)) =
+  -- what was seen of a run, as what the sink took. Of one that ended early its course is told so
+  pub told : (g : Geometry) (course early : Course) (n : ℕ) (v w : State) (x y : S) (r : Result Unit Halt)
+      → MatchResult r (λ _. IsSeen Saw g course n v w x y) (IsHalted Saw Missed g early n v w x y)
+      → MatchResult r (λ _. IsTraced g course n v w (state x) (state y)) (IsCut g early n v w (state x) (state y))
+  told g course early n v w x y (Ok _) (groups, plays, folds) = (joined groups, plays, traced_all groups x y folds)
+  told g course early n v w x y (Err NoMemory) (m, less, (groups, plays, folds)) = (m, less, (joined groups, plays, traced_all groups x y folds))
+  told g course early n v w x y (Err Untold) (m, less, (groups, last, z, plays, folds, missed)) =
       (m, less, joined groups ++ last, plays, traced_part (state x) (state z) (state y) (joined groups) last (traced_all groups x z folds) missed)

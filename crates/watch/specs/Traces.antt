@@ -6,7 +6,7 @@ use Rattle.words.specs.Sinks.{SinkState, TookAll, TookPart}
 use Rattle.protocol.specs.Caches.{Geometry}
 use Rattle.machine.specs.States.{State}
 use Rattle.lines.specs.Entries.{entry_line}
-use Rattle.schedule.specs.declared.choices.Choice.{Choice}
+use Rattle.schedule.specs.Courses.{Course}
 use Rattle.schedule.specs.declared.halt.Halt.{Halt}
 use Rattle.schedule.specs.declared.halt.Halt.TheVariants.{NoMemory, Untold}
 use Rattle.schedule.specs.Moments.{Moment}
@@ -24,12 +24,12 @@ line_of m = line_if m.entry
 abbrev pub trace_of : List Moment → List ℕ
 trace_of ms = flat_map line_of ms
 
--- n steps by a schedule were made, and the sink took the lines of their entries, all of them and in order
-abbrev pub IsTraced : Geometry → List Choice → ℕ → State → State → SinkState → SinkState → Type 0
-IsTraced g choices n v w before after = (ms : List Moment) × Plays g choices n v ms w × TookAll before after (trace_of ms)
+-- n steps on a course were made, and the sink took the lines of their entries, all of them and in order
+abbrev pub IsTraced : Geometry → Course → ℕ → State → State → SinkState → SinkState → Type 0
+IsTraced g course n v w before after = (ms : List Moment) × Plays g course n v ms w × TookAll before after (trace_of ms)
 
 -- what was made of n steps. Memory ran out: fewer, and the sink took the lines of all their entries. A put failed: some, and it took a beginning of these lines
-abbrev pub IsCut : Geometry → List Choice → ℕ → State → State → SinkState → SinkState → Halt → Type 0
-IsCut g choices n v w before after NoMemory = (m : ℕ) × (m < n) × IsTraced g choices m v w before after
-IsCut g choices n v w before after Untold =
-    (m : ℕ) × (m < n) × (ms : List Moment) × Plays g choices (m + 1) v ms w × TookPart before after (trace_of ms)
+abbrev pub IsCut : Geometry → Course → ℕ → State → State → SinkState → SinkState → Halt → Type 0
+IsCut g course n v w before after NoMemory = (m : ℕ) × (m < n) × IsTraced g course m v w before after
+IsCut g course n v w before after Untold =
+    (m : ℕ) × (m < n) × (ms : List Moment) × Plays g course (m + 1) v ms w × TookPart before after (trace_of ms)

@@ -1,12 +1,13 @@
 ghost use Rattle.std.specs.Prelude.{◌≡◌, MatchResult};
 ghost use Rattle.words.specs.Sinks.{TookAll, TookPart};
 ghost use Rattle.machine.specs.States.{geometry};
+ghost use Rattle.schedule.specs.Courses.{IsUnbegun, course, forgotten};
 ghost use Rattle.watch.specs.Traces.{trace_of, IsTraced, IsCut};
 
 use lines::put_entry;
 use machine::{Machine, Progress};
 use network::Flight;
-use schedule::{Choice, Halt, Observer, Unseen, run};
+use schedule::{Choice, Chooser, Halt, Observer, Unseen, run};
 use words::{Entry, Sink, Step};
 
 /// Puts the entries of steps into a sink, as lines.
@@ -37,21 +38,29 @@ impl<const SETS: usize, const WAYS: usize, S: Sink> Observer<SETS, WAYS, S> for 
     }
 }
 
-/// Makes the choices in order, and turns behind the last of them, as [`schedule::run`] does. The line of each step's entry, if it gives one, is put
+/// Makes the choices in order, and behind the last of them the steps that a chooser gives, as [`schedule::run`] does. The line of each step's entry, if it gives one, is put
 /// before the next step. Progress is told on the way.
 ///
 /// If memory runs out, the machine is left where the steps before led, and their lines were put. If a put fails, the step of its line was made,
 /// and a beginning of the lines up to it was taken.
-pub fn put_trace<const SETS: usize, const WAYS: usize, S: Sink, P: Progress>(
+pub fn put_trace<
+    const SETS: usize,
+    const WAYS: usize,
+    C: Chooser<SETS, WAYS>,
+    S: Sink,
+    P: Progress,
+>(
     machine: &mut Machine<SETS, WAYS>,
     choices: &[Choice],
     steps: u32,
+    chooser: &mut C,
     sink: &mut S,
     progress: &mut P,
 ) -> Result<(), Halt>
+    requires { IsUnbegun (C.behind chooser.old) }
     ensures { MatchResult result
-        (λ _. IsTraced (geometry SETS WAYS) choices.now steps machine.old machine.new (S.state sink.old) (S.state sink.new))
-        (IsCut (geometry SETS WAYS) choices.now steps machine.old machine.new (S.state sink.old) (S.state sink.new)) }
+        (λ _. IsTraced (geometry SETS WAYS) (course choices.now (C.behind chooser.new)) steps machine.old machine.new (S.state sink.old) (S.state sink.new))
+        (IsCut (geometry SETS WAYS) (course choices.now (forgotten (C.behind chooser.new))) steps machine.old machine.new (S.state sink.old) (S.state sink.new)) }
 {
-    run(machine, choices, steps, &Recorder, sink, progress)
+    run(machine, choices, steps, chooser, &Recorder, sink, progress)
 }

@@ -2,7 +2,7 @@
 use super::booted::booted;
 use super::refusing::Refusing;
 use elf_samples::{ABORTS, COMMITS};
-use schedule::Halt;
+use schedule::{Halt, Turns};
 use std::alloc::Global;
 use std::process::Abort;
 use std::str;
@@ -43,7 +43,7 @@ fn drawn<S: Sink>(
     sink: &mut S,
 ) -> Result<(), Halt> {
     let mut machine = booted(rt, text, 1);
-    put_picture(rt.alloc(), &mut machine, &[], steps, sink)
+    put_picture(rt.alloc(), &mut machine, &[], steps, &mut Turns, sink)
 }
 
 /// A sink in memory.

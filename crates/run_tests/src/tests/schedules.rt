@@ -2,7 +2,7 @@
 use super::booted::booted;
 use elf_samples::COMMITS;
 use machine::{Machine, Silent};
-use schedule::{Choice, Name, ScheduleFault, Sort, choice, name_of, play, read};
+use schedule::{Choice, Name, ScheduleFault, Sort, Turns, choice, name_of, play, read};
 use std::process::Abort;
 use words::{Addr, BlockNo, HartId, Message, Status, Step};
 
@@ -112,7 +112,7 @@ fn answers_are_named_for_their_senders(rt: HostRuntime) {
 
 /// Goes on by these choices and turns, so many steps.
 fn go(rt: &impl Abort, machine: &mut Machine<16, 4>, choices: &[Choice], steps: u32) {
-    play(machine, choices, steps, &mut Silent).expect(rt, "memory");
+    play(machine, choices, steps, &mut Turns, &mut Silent).expect(rt, "memory");
 }
 
 /// The step that a choice is in the machine of a program, once its hart has gone on by so many of its first four steps. The fourth asks for

@@ -2,13 +2,14 @@
 use super::booted::booted;
 use elf_samples::{ABORTS, COMMITS};
 use machine::Silent;
+use schedule::Turns;
 use std::process::Abort;
 use watch::{Kind, Tally, count_run};
 use words::HartId;
 
 fn counted(rt: &(impl Abort + AllocGlobal), text: &[u32], harts: u32) -> Tally {
     let mut machine = booted(rt, text, harts);
-    count_run(&mut machine, &[], 1000, &mut Silent).expect(rt, "memory")
+    count_run(&mut machine, &[], 1000, &mut Turns, &mut Silent).expect(rt, "memory")
 }
 
 /// That each of the two harts has this count.

@@ -4,7 +4,7 @@ use super::refusing::Refusing;
 use elf_samples::{ABORTS, COMMITS};
 use json::{Scratch, is_valid};
 use machine::Silent;
-use schedule::Halt;
+use schedule::{Halt, Turns};
 use std::alloc::Global;
 use std::process::Abort;
 use std::str;
@@ -46,7 +46,7 @@ fn shown<S: Sink>(
     chart: &mut Chart<S>,
 ) -> Result<(), Halt> {
     let mut machine = booted(rt, text, harts);
-    put_timeline(&mut machine, &[], 1000, chart, &mut Silent)
+    put_timeline(&mut machine, &[], 1000, &mut Turns, chart, &mut Silent)
 }
 
 /// A sink in memory.

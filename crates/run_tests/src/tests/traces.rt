@@ -3,7 +3,7 @@ use super::booted::booted;
 use super::refusing::Refusing;
 use elf_samples::COMMITS;
 use machine::Silent;
-use schedule::{Choice, Halt};
+use schedule::{Choice, Halt, Turns};
 use std::process::Abort;
 use watch::put_trace;
 use words::{HartId, Sink, Taken};
@@ -26,7 +26,7 @@ fn traced<S: Sink>(
     let choices = [Choice::Core(HartId::new(0)); 3];
     let choices = &choices[..chosen.min(3)];
     let mut machine = booted(rt, &COMMITS, 1);
-    put_trace(&mut machine, choices, 100, sink, &mut Silent)
+    put_trace(&mut machine, choices, 100, &mut Turns, sink, &mut Silent)
 }
 
 #[test]

@@ -5,7 +5,7 @@ use super::booted::booted;
 use elf_samples::COMMITS;
 use machine::{Machine, Silent};
 use network::Flight;
-use schedule::{Choice, Halt, Observer, Unseen, run};
+use schedule::{Choice, Halt, Observer, Turns, Unseen, run};
 use std::process::Abort;
 use words::{Addr, Entry, HartId, Step};
 
@@ -70,6 +70,7 @@ fn watch_run(rt: &(impl Abort + AllocGlobal), chosen: usize, steps: u32, most: u
         &mut machine,
         choices,
         steps,
+        &mut Turns,
         &Collector,
         &mut words,
         &mut Silent,

@@ -46,7 +46,7 @@ fn turns_of(
 ) -> Option<(Option<&'static str>, Show<'static>)> {
     match run_of(alloc, words)?.way {
         Way::Turns { schedule, show } => Some((schedule, show)),
-        Way::Threads { .. } => None,
+        Way::Chance { .. } | Way::Kept { .. } | Way::Threads { .. } => None,
     }
 }
 
@@ -287,6 +287,7 @@ fn gives(alloc: Global, words: &'static [&'static str], count: usize) -> bool {
             OrderFault::NoMemory => true,
             OrderFault::Value(_value) => false,
             OrderFault::TwoViews | OrderFault::LongPicture | OrderFault::ThreadsAlone => false,
+            OrderFault::MixAlone | OrderFault::TwoFiles => false,
             OrderFault::Refused(_text) => false,
         },
     }
@@ -301,6 +302,7 @@ fn assembles(alloc: Global, words: &'static [&'static str], from: &str, to: &str
             OrderFault::NoMemory => true,
             OrderFault::Value(_value) => false,
             OrderFault::TwoViews | OrderFault::LongPicture | OrderFault::ThreadsAlone => false,
+            OrderFault::MixAlone | OrderFault::TwoFiles => false,
             OrderFault::Refused(_text) => false,
         },
     }
@@ -314,6 +316,7 @@ fn fails(alloc: Global, words: &'static [&'static str], part: &str) -> bool {
         Err(fault) => match fault {
             OrderFault::NoMemory => true,
             OrderFault::TwoViews | OrderFault::LongPicture | OrderFault::ThreadsAlone => false,
+            OrderFault::MixAlone | OrderFault::TwoFiles => false,
             OrderFault::Value(value) => value == part,
             OrderFault::Refused(text) => text.contains(part),
         },
@@ -489,7 +492,7 @@ fn reads_a_schedule_and_a_form_of_counts(rt: HostRuntime) {
 fn history(alloc: Global, words: &'static [&'static str]) -> Option<&'static str> {
     match run_of(alloc, words)?.way {
         Way::Threads { history } => Some(history.unwrap_or("")),
-        Way::Turns { .. } => None,
+        Way::Turns { .. } | Way::Chance { .. } | Way::Kept { .. } => None,
     }
 }
 
@@ -512,6 +515,67 @@ fn reads_a_run_in_threads(rt: HostRuntime) {
     ];
     for (words, path) in cases {
         assert_eq!(rt; history(rt.alloc(), words), path);
+    }
+}
+
+/// The seed and the weights of a run by chance, and where its history goes: an empty path where it is not kept.
+fn chance(alloc: Global, words: &'static [&'static str]) -> Option<(u32, [u32; 3], &'static str)> {
+    let (chance, history) = match run_of(alloc, words)?.way {
+        Way::Chance { chance, .. } => (chance, ""),
+        Way::Kept {
+            chance,
+            history,
+            ..
+        } => (chance, history),
+        Way::Turns { .. } | Way::Threads { .. } => return None,
+    };
+    let mix = chance.mix;
+    Some((
+        chance.seed,
+        [mix.cores, mix.arrivals, mix.evictions],
+        history,
+    ))
+}
+
+#[test]
+fn reads_a_run_by_chance(rt: HostRuntime) {
+    let cases: [(&[&str], Option<(u32, [u32; 3], &str)>); 8] = [
+        (
+            &["logtm", "run", "f", "--seed", "7"],
+            Some((7, [20, 20, 1], "")),
+        ),
+        (
+            &["logtm", "run", "f", "--seed=0xff", "--mix=1,2,0"],
+            Some((255, [1, 2, 0], "")),
+        ),
+        (
+            &["logtm", "run", "f", "--seed=0", "--mix=0,0,0x10"],
+            Some((0, [0, 0, 16], "")),
+        ),
+        (
+            &["logtm", "run", "f", "--seed=1", "--history", "h"],
+            Some((1, [20, 20, 1], "h")),
+        ),
+        (
+            &["logtm", "run", "f", "--seed=1", "--history=h", "--trace=-"],
+            Some((1, [20, 20, 1], "h")),
+        ),
+        (
+            &[
+                "logtm",
+                "run",
+                "f",
+                "--seed=1",
+                "--stats=csv",
+                "--schedule=l",
+            ],
+            Some((1, [20, 20, 1], "")),
+        ),
+        (&["logtm", "run", "f"], None),
+        (&["logtm", "run", "f", "--threads"], None),
+    ];
+    for (words, expected) in cases {
+        assert_eq!(rt; chance(rt.alloc(), words), expected);
     }
 }
 

@@ -5,7 +5,7 @@ use super::play::{SIZE, WAITS};
 use board::{Board, Code, End, Finished, Lease, Refusal, Unkept, Untraced, serve};
 use elf_samples::program;
 use machine::{Machine, Silent};
-use schedule::{Choice, History, put_history, read};
+use schedule::{Choice, History, Turns, put_history, read};
 use std::alloc::{AllocError, Global};
 use std::process::Abort;
 use std::str;
@@ -48,7 +48,7 @@ fn begun_again(alloc: Global, end: &Finished<'_, 2, 1, History>) -> Result<Machi
 /// Makes the steps that are chosen.
 fn play(machine: &mut Machine<2, 1>, choices: &[Choice]) -> Result<(), AllocError> {
     let steps = choices.len().min(STEPS) as u32;
-    schedule::play(machine, choices, steps, &mut Silent)
+    schedule::play(machine, choices, steps, &mut Turns, &mut Silent)
 }
 
 /// That two machines have the same registers and memory.

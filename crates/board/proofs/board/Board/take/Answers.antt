@@ -1,6 +1,6 @@
 use Rattle.std.proofs.Common.{subst, sym}
 use Rattle.machine.specs.States.{geometry, setting_of}
-use Rattle.board.specs.Histories.{IsChoiceOf, IsWithin}
+use Rattle.schedule.specs.Steps.{IsChoiceOf, IsWithin}
 use Rattle.board.specs.Boards.{Held}
 use Rattle.board.proofs.Courses.{kept_made, kept_segments}
 use Rattle.board.proofs.Turns.{turned}

@@ -1,9 +1,10 @@
 use Rattle.std.proofs.Common.{arith}
 use Rattle.std.proofs.lemmas.Result.{err_from_is_err_and}
 use Rattle.machine.specs.States.{geometry}
+use Rattle.schedule.specs.Courses.{forgotten}
 use Rattle.simulate.specs.Shown.{Sinks}
-use Rattle.simulate.proofs.TurnRuns.{cut_short, given, half_counted, half_reported, readable_then}
-use Rattle.simulate.proofs.turns.run_by_turns.Goals as goal
+use Rattle.simulate.proofs.StepRuns.{cut_short, given, half_counted, half_reported, readable_then}
+use Rattle.simulate.proofs.steps.run_by_steps.Goals as goal
 
 -- the steps were not all made and shown
 pub returns-in_err-counts : goal.returns-in_err-counts
@@ -11,7 +12,7 @@ returns-in_err-counts g c =
     let p = err_from_is_err_and c.from_residual-in_err-counts.result c.from_residual-in_err-counts.ensures.1 in
     let before : Sinks = record { output = g.O.Sink.state c.args.out.now; file = g.T.Sink.state c.args.chart.now.sink } in
     let after : Sinks = record { output = g.O.Sink.state c.play-played.new.out; file = g.T.Sink.state c.play-played.new.chart.sink } in
-    rw (p.1, p.2) (cut_short (geometry g.row.SETS g.row.WAYS) c.args.run.now c.args.show c.args.file.now c.args.schedule.now c.in_ok-begun.begun.machine c.play-played.new.machine c.in_ok-begun.begun.addrs.items c.in_ok-begun.begun.choices.items
+    rw (p.1, p.2) (cut_short (geometry g.row.SETS g.row.WAYS) c.args.run.now (forgotten (g.C.Chooser.behind c.play-played.new.chooser)) c.args.show c.args.file.now c.args.schedule.now c.in_ok-begun.begun.machine c.play-played.new.machine c.in_ok-begun.begun.addrs.items c.in_ok-begun.begun.choices.items
     c.deref.result.now c.in_ok-begun.ensures c.deref.ensures.value before after c.in_err-counts.field-0.0 c.in_err-counts.ensures)
 
 pub conclude-requires : goal.conclude-requires
@@ -19,7 +20,7 @@ conclude-requires g c =
     let before : Sinks = record { output = g.O.Sink.state c.args.out.now; file = g.T.Sink.state c.args.chart.now.sink } in
     let middle : Sinks = record { output = g.O.Sink.state c.play-played.new.out; file = g.T.Sink.state c.play-played.new.chart.sink } in (
       omega arith,
-      readable_then (geometry g.row.SETS g.row.WAYS) c.args.run.now c.args.show c.args.file.now c.args.schedule.now c.in_ok-begun.begun.machine c.play-played.new.machine c.in_ok-begun.begun.addrs.items c.in_ok-begun.begun.choices.items
+      readable_then (geometry g.row.SETS g.row.WAYS) c.args.run.now (g.C.Chooser.behind c.play-played.new.chooser) c.args.show c.args.file.now c.args.schedule.now c.in_ok-begun.begun.machine c.play-played.new.machine c.in_ok-begun.begun.addrs.items c.in_ok-begun.begun.choices.items
           c.deref.result.now c.in_ok-begun.ensures c.deref.ensures.value c.deref-2.result.now c.deref-2.ensures.value c.in_ok-counts.counts before middle c.in_ok-counts.ensures,
     )
 
@@ -29,7 +30,7 @@ returns-in_err-status g c =
     let p = err_from_is_err_and c.from_residual-in_err-status.result c.from_residual-in_err-status.ensures.1 in
     let before : Sinks = record { output = g.O.Sink.state c.args.out.now; file = g.T.Sink.state c.args.chart.now.sink } in
     let middle : Sinks = record { output = g.O.Sink.state c.play-played.new.out; file = g.T.Sink.state c.play-played.new.chart.sink } in
-    rw (p.1, p.2) (half_reported (geometry g.row.SETS g.row.WAYS) c.args.run.now c.args.show c.args.file.now c.args.schedule.now c.in_ok-begun.begun.machine c.play-played.new.machine c.in_ok-begun.begun.addrs.items c.in_ok-begun.begun.choices.items
+    rw (p.1, p.2) (half_reported (geometry g.row.SETS g.row.WAYS) c.args.run.now (g.C.Chooser.behind c.play-played.new.chooser) c.args.show c.args.file.now c.args.schedule.now c.in_ok-begun.begun.machine c.play-played.new.machine c.in_ok-begun.begun.addrs.items c.in_ok-begun.begun.choices.items
     c.deref.result.now c.in_ok-begun.ensures c.deref.ensures.value c.deref-2.result.now c.deref-2.ensures.value c.in_ok-counts.counts before middle c.in_ok-counts.ensures
     (g.O.Sink.state c.conclude.new.sink) c.in_err-status.field-0.0 c.in_err-status.ensures)
 
@@ -39,7 +40,7 @@ returns-in_err-put_counts g c =
     let p = err_from_is_err_and c.from_residual-in_err-put_counts.result c.from_residual-in_err-put_counts.ensures.1 in
     let before : Sinks = record { output = g.O.Sink.state c.args.out.now; file = g.T.Sink.state c.args.chart.now.sink } in
     let middle : Sinks = record { output = g.O.Sink.state c.play-played.new.out; file = g.T.Sink.state c.play-played.new.chart.sink } in
-    rw (p.1, p.2) (half_counted (geometry g.row.SETS g.row.WAYS) c.args.run.now c.args.show c.args.file.now c.args.schedule.now c.in_ok-begun.begun.machine c.play-played.new.machine c.in_ok-begun.begun.addrs.items c.in_ok-begun.begun.choices.items
+    rw (p.1, p.2) (half_counted (geometry g.row.SETS g.row.WAYS) c.args.run.now (g.C.Chooser.behind c.play-played.new.chooser) c.args.show c.args.file.now c.args.schedule.now c.in_ok-begun.begun.machine c.play-played.new.machine c.in_ok-begun.begun.addrs.items c.in_ok-begun.begun.choices.items
     c.deref.result.now c.in_ok-begun.ensures c.deref.ensures.value c.deref-2.result.now c.deref-2.ensures.value c.in_ok-counts.counts before middle c.in_ok-counts.ensures
     (g.O.Sink.state c.conclude.new.sink) c.in_ok-status.status c.in_ok-status.ensures c.harts-harts.result c.harts-harts.ensures.value (g.O.Sink.state c.put_counts.new.sink) c.in_err-put_counts.field-0.0 c.in_err-put_counts.ensures)
 
@@ -48,6 +49,6 @@ pub returns : goal.returns
 returns g c =
     let before : Sinks = record { output = g.O.Sink.state c.args.out.now; file = g.T.Sink.state c.args.chart.now.sink } in
     let middle : Sinks = record { output = g.O.Sink.state c.play-played.new.out; file = g.T.Sink.state c.play-played.new.chart.sink } in
-    given (geometry g.row.SETS g.row.WAYS) c.args.run.now c.args.show c.args.file.now c.args.schedule.now c.in_ok-begun.begun.machine c.play-played.new.machine c.in_ok-begun.begun.addrs.items c.in_ok-begun.begun.choices.items
+    given (geometry g.row.SETS g.row.WAYS) c.args.run.now (g.C.Chooser.behind c.play-played.new.chooser) c.args.show c.args.file.now c.args.schedule.now c.in_ok-begun.begun.machine c.play-played.new.machine c.in_ok-begun.begun.addrs.items c.in_ok-begun.begun.choices.items
     c.deref.result.now c.in_ok-begun.ensures c.deref.ensures.value c.deref-2.result.now c.deref-2.ensures.value c.in_ok-counts.counts before middle c.in_ok-counts.ensures
     (g.O.Sink.state c.conclude.new.sink) c.in_ok-status.status c.in_ok-status.ensures c.harts-harts.result c.harts-harts.ensures.value (g.O.Sink.state c.put_counts.new.sink) c.in_ok-put_counts.ensures

@@ -1,5 +1,5 @@
--- A run by turns, from what its parts came to.
-use Rattle.std.proofs.Common.{◌≡◌, ◌++◌, ℕ, List, Ok, Err, inl, inr, refl, sym, subst, ap, ap₂, ◌∙◌}
+-- A run by turns or by chance, from what its parts came to.
+use Rattle.std.proofs.Common.{◌≡◌, ◌++◌, ℕ, List, Some, None, Ok, Err, inl, inr, refl, sym, subst, ap, ap₂, ◌∙◌}
 use Rattle.words.specs.declared.sink.SinkFault.{SinkFault}
 use Rattle.words.specs.Sinks.{SinkState, TookAll, TookPart}
 use Rattle.command_line.specs.declared.request.Run.{Run}
@@ -8,9 +8,12 @@ use Rattle.command_line.specs.declared.request.Show.TheVariants as shows
 use Rattle.command_line.specs.declared.request.Stats.{Stats}
 use Rattle.command_line.specs.declared.request.Stats.TheVariants.{Table, Csv}
 use Rattle.protocol.specs.Caches.{Geometry}
-use Rattle.flat.specs.State.{Setting}
+use Rattle.flat.specs.State.{Flat, Setting}
+use Rattle.command_line.specs.declared.request.Setup.{Setup}
+use Rattle.simulate.specs.Runs.{ComesBy}
 use Rattle.machine.specs.States.{State, setting_of}
 use Rattle.schedule.specs.declared.choices.Choice.{Choice}
+use Rattle.schedule.specs.Courses.{Behind, Turns, Chance, course, forgotten}
 use Rattle.schedule.specs.Moments.{Moment}
 use Rattle.schedule.specs.Runs.{Plays}
 use Rattle.watch.specs.declared.counting.Tally.{Tally}
@@ -32,8 +35,8 @@ use Rattle.simulate.specs.declared.fault.Fault.TheVariants.{Unwritten}
 use Rattle.simulate.proofs.Performing.{HasEnd, end_of, its_report, same_setting, still_readable}
 
 -- a run that has not begun
-pub not_begun : (g : Geometry) (run : Run) (show : Show) (file list : List ℕ) (sinks : Sinks) (fault : Fault) → IsUnbegun run file list fault → IsNotGiven g run show file list sinks sinks fault
-not_begun g run show file list sinks fault why = inl (why, refl, refl)
+pub not_begun : (g : Geometry) (run : Run) (b : Behind) (show : Show) (file list : List ℕ) (sinks : Sinks) (fault : Fault) → IsUnbegun run file list fault → IsNotGiven g run b show file list sinks sinks fault
+not_begun g run b show file list sinks fault why = inl (why, refl, refl)
 
 text_of : (form : Stats) (ms : List Moment) (t : Tally) (harts : ℕ) → IsTally ms t → counts_text form (count_at t.harts) harts (figure_at t.machine) ≡ counts_text form (λ h k. number_of h k ms) harts (figure_of ms)
 text_of Table ms t harts are =
@@ -48,32 +51,48 @@ put_as (shows.Counts form) ms t n m are same = text_of form ms t n are ∙ ap (�
 put_as shows.Trace ms t n m are same = refl
 put_as (shows.View view path) ms t n m are same = refl
 
-module _ (g : Geometry) (run : Run) (show : Show) (file list : List ℕ) (v w : State) (addrs : List ℕ) (choices followed : List Choice) (begun : IsBegunBy g run file list v addrs choices) (same : followed ≡ choices) where
-  ends : (steps : ℕ) (ms : List Moment) → Plays g followed steps v ms w → HasEnd g run file list steps ms v w
-  ends steps ms plays = end_of g run file list v addrs choices followed begun same steps ms w plays
+-- the choices of chance need not be told
+forget_comes : (g : Geometry) (setup : Setup) (b : Behind) (file list : List ℕ) (steps : ℕ) (ms : List Moment) (f : Flat) → ComesBy g setup b file list steps ms f → ComesBy g setup (forgotten b) file list steps ms f
+forget_comes g setup Turns file list steps ms f comes = comes
+forget_comes g setup (Chance None) file list steps ms f comes = comes
+forget_comes g setup (Chance (Some chosen)) file list steps ms f comes = record {
+  program = comes.program;
+  holds = comes.holds;
+  first = comes.first;
+  begins = comes.begins;
+  choices = comes.choices;
+  chosen = comes.chosen;
+  last = comes.last;
+  made = (chosen, comes.made);
+  run = comes.run;
+}
+
+module _ (g : Geometry) (run : Run) (b : Behind) (show : Show) (file list : List ℕ) (v w : State) (addrs : List ℕ) (choices followed : List Choice) (begun : IsBegunBy g run file list v addrs choices) (same : followed ≡ choices) where
+  ends : (c : Behind) (steps : ℕ) (ms : List Moment) → Plays g (course followed c) steps v ms w → HasEnd g run c file list steps ms v w
+  ends c steps ms plays = end_of g run c file list v addrs choices followed begun same steps ms w plays
 
   -- its steps were not all made and shown
-  pub cut_short : (before after : Sinks) (fault : Fault) → IsCutShort show g followed run.steps v w before after fault → IsNotGiven g run show file list before after fault
+  pub cut_short : (before after : Sinks) (fault : Fault) → IsCutShort show g (course followed b) run.steps v w before after fault → IsNotGiven g run b show file list before after fault
   cut_short before after fault (inl (is, (m, less, (ms, plays, took)))) =
-      let e = ends m ms plays in
+      let e = ends b m ms plays in
       inr (inl (is, (m, less, (ms, e.end, e.comes, subst (λ (s : Setting). TakeAll before after (shown_so_far show g.sets s.count ms)) (sym e.same) took))))
   cut_short before after fault (inr (inl (is, trace, (m, within, (ms, plays, part, kept))))) =
-      let e = ends m ms plays in
+      let e = ends b m ms plays in
       inr (inr (inl (is, trace, (m, within, (ms, e.end, e.comes, subst (λ (s : Setting). TookPart before.output after.output (shown_before show g.sets s.count ms).output) (sym e.same) part, kept)))))
   cut_short before after fault (inr (inr (view, path, of, is, (m, within, (ms, plays, part, kept))))) =
-      let e = ends m ms plays in
+      let e = ends b m ms plays in
       inr (inr (inr (inl (view, path, of, is, (m, within, (ms, e.end, e.comes, subst (λ (s : Setting). TookPart before.file after.file (shown_before show g.sets s.count ms).file) (sym e.same) part, kept))))))
 
-  module _ (words : List ℕ) (as_given : words ≡ addrs) (counts : Tally) (before middle : Sinks) (shown_all : IsShown show g followed run.steps v w counts before middle) where
+  module _ (words : List ℕ) (as_given : words ≡ addrs) (counts : Tally) (before middle : Sinks) (shown_all : IsShown show g (course followed b) run.steps v w counts before middle) where
     abbrev ms : List Moment
     ms = shown_all.0
 
-    e : HasEnd g run file list run.steps ms v w
-    e = ends run.steps ms shown_all.1
+    e : HasEnd g run b file list run.steps ms v w
+    e = ends b run.steps ms shown_all.1
 
     -- the machine at the end can be asked for the words
     pub readable_then : AllReadable (setting_of w) words
-    readable_then = still_readable g run file list v addrs choices followed begun same words as_given ms w e
+    readable_then = still_readable g run b file list v addrs choices followed begun same words as_given ms w e
 
     abbrev pre : Texts
     pre = shown_before show g.sets e.end.setting.count ms
@@ -87,17 +106,20 @@ module _ (g : Geometry) (run : Run) (show : Show) (file list : List ℕ) (v w : 
     abbrev whole : Texts
     whole = shown_texts show g.sets e.end.setting.count ms report
 
-    texts : (status : ℕ) → IsStatusOf e.end status → AreTextsOf g run show file list whole status
-    texts status of = (ms, e.end, e.comes, (report, its_report g run file list v addrs choices followed begun same words as_given ms w e status of, refl))
+    texts : (status : ℕ) → IsStatusOf e.end status → AreTextsOf g run b show file list whole status
+    texts status of = (ms, e.end, e.comes, (report, its_report g run b file list v addrs choices followed begun same words as_given ms w e status of, refl))
+
+    early_texts : (status : ℕ) → AreTextsOf g run b show file list whole status → AreTextsOf g run (forgotten b) show file list whole status
+    early_texts status (ns, f, comes, rest) = (ns, f, forget_comes g run.setup b file list run.steps ns f comes, rest)
 
     -- a put of the report failed
     pub half_reported : (output : SinkState) (fault : Fault) → IsHalfConcluded g w words middle.output output fault
-        → IsNotGiven g run show file list before (record { output = output; file = middle.file }) fault
+        → IsNotGiven g run (forgotten b) show file list before (record { output = output; file = middle.file }) fault
     half_reported output fault (unwritten, of) =
         let half = of e.end e.belongs in
         let behind = behind_report show e.end.setting.count ms in
         let part = took-then-part before.output middle.output output pre.output (report ++ behind) taken.output (took-part-longer middle.output output report behind half.2) in
-        inr (inr (inr (inr (unwritten, (whole, half.0, texts half.0 half.1, part, taken.file)))))
+        inr (inr (inr (inr (unwritten, (whole, half.0, early_texts half.0 (texts half.0 half.1), part, taken.file)))))
 
     module _ (reported : SinkState) (status : ℕ) (concluded : IsConcluded g w words middle.output reported status) (harts : ℕ) (count : harts ≡ (setting_of w).count) where
       abbrev of_end : IsStatusOf e.end status × TookAll middle.output reported report
@@ -108,7 +130,7 @@ module _ (g : Geometry) (run : Run) (show : Show) (file list : List ℕ) (v w : 
 
       -- all was put
       pub given : (output : SinkState) → Puts reported output (counts_part show counts harts) (Ok tt)
-          → IsGiven g run show file list before (record { output = output; file = middle.file }) status
+          → IsGiven g run b show file list before (record { output = output; file = middle.file }) status
       given output puts =
           let behind = behind_report show e.end.setting.count ms in
           let last : TookAll reported output behind = subst (λ (text : List ℕ). TookAll reported output text) behind_as (record { whole = puts.whole; clean = puts.clean }) in
@@ -117,9 +139,9 @@ module _ (g : Geometry) (run : Run) (show : Show) (file list : List ℕ) (v w : 
 
       -- a put of the counts failed
       pub half_counted : (output : SinkState) (e' : SinkFault) → Puts reported output (counts_part show counts harts) (Err e')
-          → IsNotGiven g run show file list before (record { output = output; file = middle.file }) Unwritten
+          → IsNotGiven g run (forgotten b) show file list before (record { output = output; file = middle.file }) Unwritten
       half_counted output e' puts =
           let behind = behind_report show e.end.setting.count ms in
           let last : TookPart reported output behind = subst (λ (text : List ℕ). TookPart reported output text) behind_as (record { part = puts.part; fault = puts.fault }) in
           let part = took-then-part before.output middle.output output pre.output (report ++ behind) taken.output (took-then-part middle.output reported output report behind of_end.1 last) in
-          inr (inr (inr (inr (refl, (whole, status, texts status of_end.0, part, taken.file)))))
+          inr (inr (inr (inr (refl, (whole, status, early_texts status (texts status of_end.0), part, taken.file)))))

@@ -1,6 +1,7 @@
-//! A run by turns: its steps, what is shown of them, and its report.
+//! A run by turns or by chance: its steps, what is shown of them, and its report.
 ghost use Rattle.std.specs.Prelude.{◌≡◌, ◌<◌, ◌*◌, ◌^◌, MatchResult};
 ghost use Rattle.machine.specs.States.{geometry};
+ghost use Rattle.schedule.specs.Courses.{IsUnbegun, course, forgotten};
 ghost use Rattle.command_line.specs.declared.request.Show.TheVariants as shows;
 ghost use Rattle.command_line.specs.declared.request.View.TheVariants.{Trace, Timeline, Picture};
 ghost use Rattle.simulate.specs.Given.{IsGiven, IsNotGiven};
@@ -13,19 +14,28 @@ use crate::fault::Fault;
 use crate::page::Page;
 use command_line::{Run, Show, View};
 use machine::{Machine, Progress, Silent};
-use schedule::{Choice, Halt};
+use schedule::{Choice, Chooser, Halt};
 use std::alloc::Global;
 use timeline::{Chart, put_picture, put_timeline};
 use watch::{Tally, count_run, put_trace};
 use words::Sink;
 
-/// Runs the program in a file, given the bytes of the file and those of its schedule, none where it has none. It puts what is shown of the run while it
-/// goes on, into `out` or into `chart`, whose sink stands for the file of a view; then the report, and the counts behind it. Progress is told on the
+/// Runs the program in a file, given the bytes of the file and those of its schedule, none where it has none; a chooser gives the steps behind the
+/// schedule's. It puts what is shown of the run while it goes on, into `out` or into `chart`, whose sink stands for the file of a view; then the report, and the counts behind it. Progress is told on the
 /// way. It answers the status that the program ends with.
-pub(crate) fn run_by_turns<'a, const SETS: usize, const WAYS: usize, P: Progress, T: Page, O: Sink>(
+pub(crate) fn run_by_steps<
+    'a,
+    const SETS: usize,
+    const WAYS: usize,
+    C: Chooser<SETS, WAYS>,
+    P: Progress,
+    T: Page,
+    O: Sink,
+>(
     alloc: Global,
     run: &Run<'a>,
     show: Show<'a>,
+    chooser: &mut C,
     file: &'a [u8],
     schedule: &[u8],
     progress: &mut P,
@@ -35,10 +45,11 @@ pub(crate) fn run_by_turns<'a, const SETS: usize, const WAYS: usize, P: Progress
     requires sets { 0 < SETS }
     requires ways { 0 < WAYS }
     requires lines { SETS * WAYS < 2 ^ 32 }
+    requires unbegun { IsUnbegun (C.behind chooser.old) }
     ensures { MatchResult result
-        (IsGiven (geometry SETS WAYS) run.now show.entry file.now schedule.now
+        (IsGiven (geometry SETS WAYS) run.now (C.behind chooser.new) show.entry file.now schedule.now
         (record { output = O.state out.old; file = T.state chart.old.sink }) (record { output = O.state out.new; file = T.state chart.new.sink }))
-        (IsNotGiven (geometry SETS WAYS) run.now show.entry file.now schedule.now
+        (IsNotGiven (geometry SETS WAYS) run.now (forgotten (C.behind chooser.new)) show.entry file.now schedule.now
         (record { output = O.state out.old; file = T.state chart.old.sink }) (record { output = O.state out.new; file = T.state chart.new.sink })) }
 {
     let mut begun: Begun<SETS, WAYS> = begin(alloc, run, file, schedule)?;
@@ -48,6 +59,7 @@ pub(crate) fn run_by_turns<'a, const SETS: usize, const WAYS: usize, P: Progress
         &begun.choices,
         run.steps,
         show,
+        chooser,
         progress,
         chart,
         out,
@@ -61,55 +73,71 @@ pub(crate) fn run_by_turns<'a, const SETS: usize, const WAYS: usize, P: Progress
 }
 
 /// Makes the steps of a run, and puts what is shown of them before the report. It answers their counts, where these are shown.
-fn play<'a, const SETS: usize, const WAYS: usize, P: Progress, T: Page, O: Sink>(
+fn play<
+    'a,
+    const SETS: usize,
+    const WAYS: usize,
+    C: Chooser<SETS, WAYS>,
+    P: Progress,
+    T: Page,
+    O: Sink,
+>(
     alloc: Global,
     machine: &mut Machine<SETS, WAYS>,
     choices: &[Choice],
     steps: u32,
     show: Show<'a>,
+    chooser: &mut C,
     progress: &mut P,
     chart: &mut Chart<T>,
     out: &mut O,
 ) -> Result<Tally, Fault<'a>>
+    requires { IsUnbegun (C.behind chooser.old) }
     ensures { MatchResult result
-        (λ counts. IsShown show.entry (geometry SETS WAYS) choices.now steps machine.old machine.new counts
+        (λ counts. IsShown show.entry (geometry SETS WAYS) (course choices.now (C.behind chooser.new)) steps machine.old machine.new counts
         (record { output = O.state out.old; file = T.state chart.old.sink }) (record { output = O.state out.new; file = T.state chart.new.sink }))
-        (IsCutShort show.entry (geometry SETS WAYS) choices.now steps machine.old machine.new
+        (IsCutShort show.entry (geometry SETS WAYS) (course choices.now (forgotten (C.behind chooser.new))) steps machine.old machine.new
         (record { output = O.state out.old; file = T.state chart.old.sink }) (record { output = O.state out.new; file = T.state chart.new.sink })) }
 {
     match show {
         Show::Report => {
-            schedule::play(machine, choices, steps, progress)?;
+            schedule::play(machine, choices, steps, chooser, progress)?;
             Ok(Tally::new())
         }
-        Show::Counts(_) => Ok(count_run(machine, choices, steps, progress)?),
+        Show::Counts(_) => Ok(count_run(machine, choices, steps, chooser, progress)?),
         Show::Trace => {
-            put_trace(machine, choices, steps, out, &mut Silent)?;
+            put_trace(machine, choices, steps, chooser, out, &mut Silent)?;
             Ok(Tally::new())
         }
         Show::View(view, path) => {
-            put_view(alloc, machine, choices, steps, view, path, progress, chart)?;
+            put_view(
+                alloc, machine, choices, steps, view, path, chooser, progress, chart,
+            )?;
             Ok(Tally::new())
         }
     }
 }
 
 /// Makes the steps of a run, puts a view of them, and has it written out. If that fails, the fault names the path of the file.
-fn put_view<'a, const SETS: usize, const WAYS: usize, P: Progress, T: Page>(
+fn put_view<'a, const SETS: usize, const WAYS: usize, C: Chooser<SETS, WAYS>, P: Progress, T: Page>(
     alloc: Global,
     machine: &mut Machine<SETS, WAYS>,
     choices: &[Choice],
     steps: u32,
     view: View,
     path: &'a str,
+    chooser: &mut C,
     progress: &mut P,
     chart: &mut Chart<T>,
 ) -> Result<(), Fault<'a>>
+    requires { IsUnbegun (C.behind chooser.old) }
     ensures { MatchResult result
-        (λ _. IsViewed view (geometry SETS WAYS) choices.now steps machine.old machine.new (T.state chart.old.sink) (T.state chart.new.sink))
-        (IsViewFault view (geometry SETS WAYS) choices.now steps machine.old machine.new (T.state chart.old.sink) (T.state chart.new.sink) path.entry) }
+        (λ _. IsViewed view (geometry SETS WAYS) (course choices.now (C.behind chooser.new)) steps machine.old machine.new (T.state chart.old.sink) (T.state chart.new.sink))
+        (IsViewFault view (geometry SETS WAYS) (course choices.now (forgotten (C.behind chooser.new))) steps machine.old machine.new (T.state chart.old.sink) (T.state chart.new.sink) path.entry) }
 {
-    match put_form(alloc, machine, choices, steps, view, progress, chart) {
+    match put_form(
+        alloc, machine, choices, steps, view, chooser, progress, chart,
+    ) {
         Ok(()) => match chart.sink.flush() {
             Ok(()) => Ok(()),
             Err(_) => Err(Fault::Unmade(path)),
@@ -120,22 +148,24 @@ fn put_view<'a, const SETS: usize, const WAYS: usize, P: Progress, T: Page>(
 }
 
 /// Makes the steps of a run, and puts a view of them.
-fn put_form<const SETS: usize, const WAYS: usize, P: Progress, T: Sink>(
+fn put_form<const SETS: usize, const WAYS: usize, C: Chooser<SETS, WAYS>, P: Progress, T: Sink>(
     alloc: Global,
     machine: &mut Machine<SETS, WAYS>,
     choices: &[Choice],
     steps: u32,
     view: View,
+    chooser: &mut C,
     progress: &mut P,
     chart: &mut Chart<T>,
 ) -> Result<(), Halt>
+    requires { IsUnbegun (C.behind chooser.old) }
     ensures { MatchResult result
-        (λ _. IsViewed view (geometry SETS WAYS) choices.now steps machine.old machine.new (T.state chart.old.sink) (T.state chart.new.sink))
-        (IsViewCut view (geometry SETS WAYS) choices.now steps machine.old machine.new (T.state chart.old.sink) (T.state chart.new.sink)) }
+        (λ _. IsViewed view (geometry SETS WAYS) (course choices.now (C.behind chooser.new)) steps machine.old machine.new (T.state chart.old.sink) (T.state chart.new.sink))
+        (IsViewCut view (geometry SETS WAYS) (course choices.now (forgotten (C.behind chooser.new))) steps machine.old machine.new (T.state chart.old.sink) (T.state chart.new.sink)) }
 {
     match view {
-        View::Trace => put_trace(machine, choices, steps, &mut chart.sink, progress),
-        View::Timeline => put_timeline(machine, choices, steps, chart, progress),
-        View::Picture => put_picture(alloc, machine, choices, steps, &mut chart.sink),
+        View::Trace => put_trace(machine, choices, steps, chooser, &mut chart.sink, progress),
+        View::Timeline => put_timeline(machine, choices, steps, chooser, chart, progress),
+        View::Picture => put_picture(alloc, machine, choices, steps, chooser, &mut chart.sink),
     }
 }

@@ -3,12 +3,12 @@ use Rattle.protocol.specs.Messages.{shown as shown_message}
 use Rattle.isolation.specs.Memory.{LiesInMemory}
 use Rattle.machine.specs.States.{setting_of}
 use Rattle.schedule.specs.declared.choices.Name.{Name}
-use Rattle.board.proofs.Names.{message_within}
-use Rattle.board.proofs.owed.named.Goals as goal
+use Rattle.schedule.proofs.Naming.{message_within}
+use Rattle.schedule.proofs.step.named.Goals as goal
 
 pub returns-clause-within : goal.returns-clause-within
 returns-clause-within g c = (
   omega (arith, c.index-few.ensures.value, c.index-few.ensures.bound),
   subst (λ (n : Name). LiesInMemory (setting_of c.args.machine.now) n.block) (sym c.name_of-name.ensures)
-      (message_within g.row.SETS g.row.WAYS c.args.machine.now c.args.key (shown_message c.in_ok-message.message) c.keeps.ensures (sym c.in_ok-message.ensures.value)),
+      (message_within g.row.SETS g.row.WAYS c.args.machine.now c.keeps.ensures c.args.key (shown_message c.in_ok-message.message) (sym c.in_ok-message.ensures.value)),
 )

@@ -1,0 +1,6 @@
+use Rattle.command_line.specs.Command.{with_rules}
+use Rattle.command_line.proofs.parser.with_choosers.Goals as goal
+
+pub returns : goal.returns
+unfolding with_rules
+returns c = λ app is. c.with_option.ensures _ (c.with_option-command-2.ensures _ (c.with_option-command.ensures app is))

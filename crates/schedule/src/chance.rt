@@ -1,0 +1,237 @@
+//! Steps that are chosen by chance, by a seed.
+ghost use Rattle.std.specs.Prelude.{◌≡◌, ◌<◌, [], ℕ, Some, None, false, IfSome, IfNone};
+ghost use Rattle.words.specs.declared.entry.Step.TheVariants.{Core, Deliver};
+ghost use Rattle.machine.specs.States.{geometry, setting_of, shown};
+ghost use Rattle.machine.specs.Watch.{IsEnabled};
+ghost use Rattle.schedule.specs.Courses.{IsAtRest, IsPicked};
+ghost use Rattle.schedule.specs.Courses.Behind.{Chance as ByChance};
+
+use crate::choices::Choice;
+use crate::chooser::Chooser;
+use crate::enabled::{
+    Picked, arrival, arrivals, can_arrive, find_eviction, is_ready, ready_harts, step_of,
+};
+use crate::history::History;
+use machine::{Machine, Turned};
+use rand_core::SeedableRng;
+use rand_core::utils::NextWord;
+use rand_pcg::Pcg32;
+use std::alloc::{AllocError, Global};
+use std::marker::Model;
+use words::{HARTS, HartId, Step};
+
+/// How often chance draws before it looks which draws would do. All that would do are as likely either way.
+const TRIES: usize = 4;
+
+/// The weights by which chance draws what comes next: a step of a core, the arrival of a message, or an eviction. Where nothing of what it draws is
+/// enabled, it is another's turn.
+#[derive(Clone, Copy, Debug, PartialEq, Eq)]
+pub struct Mix {
+    pub cores: u32,
+    pub arrivals: u32,
+    pub evictions: u32,
+}
+
+/// Chooses steps by chance, each among those that are enabled: of the harts whose cores have a step to make, of the messages in flight that aren't held,
+/// now and then of the lines that can be evicted. It ends where no core has a step to make and no message can arrive. By one seed it chooses the same
+/// steps of the same machine on every host.
+#[derive(Drop)]
+pub struct Chance {
+    generator: Pcg32,
+    mix: Mix,
+}
+
+impl Chance {
+    /// Chance by a seed.
+    pub fn new(seed: u64, mix: Mix) -> Self {
+        Chance {
+            generator: Pcg32::seed_from_u64(seed),
+            mix,
+        }
+    }
+
+    /// A number below a bound, or 0 if that is 0.
+    fn below(&mut self, bound: usize) -> usize
+        ensures { 0 < bound → result < bound }
+    {
+        let word = self.generator.next_word() as usize;
+        if bound == 0 { 0 } else { word % bound }
+    }
+
+    /// A core's step.
+    fn draw_core<const SETS: usize, const WAYS: usize>(
+        &mut self,
+        machine: &Machine<SETS, WAYS>,
+    ) -> Option<Picked>
+        ensures some { IfSome result (λ p. IsPicked (geometry SETS WAYS) machine.now p.choice p.step) }
+        ensures none { IfNone result ((i : ℕ) → i < (setting_of machine.now).count → IsEnabled (geometry SETS WAYS) (shown SETS machine.now) (Core i) false) }
+    {
+        machine.keeps();
+        for _try in 0..TRIES {
+            let hart = HartId::new((self.below(machine.harts()) % HARTS) as u8);
+            if is_ready(machine, hart) {
+                return Some(step_of(machine, hart));
+            }
+        }
+        let ready = ready_harts(machine);
+        let index = self.below(ready.len());
+        let number = *ready.get(index)?;
+        Some(step_of(machine, HartId::new(number as u8)))
+    }
+
+    /// A message's arrival.
+    fn draw_arrival<const SETS: usize, const WAYS: usize>(
+        &mut self,
+        machine: &Machine<SETS, WAYS>,
+    ) -> Option<Picked>
+        ensures some { IfSome result (λ p. IsPicked (geometry SETS WAYS) machine.now p.choice p.step) }
+        ensures none { IfNone result ((key : ℕ) → IsEnabled (geometry SETS WAYS) (shown SETS machine.now) (Deliver key) false) }
+    {
+        for _try in 0..TRIES {
+            let key = self.below(machine.keys());
+            if can_arrive(machine, key) {
+                return Some(arrival(machine, key));
+            }
+        }
+        let keys = arrivals(machine);
+        let index = self.below(keys.len());
+        let key = *keys.get(index)?;
+        Some(arrival(machine, key))
+    }
+
+    /// A core's step, or a message's arrival, which are drawn by their weights. If nothing of what is drawn is enabled, it is the other.
+    fn draw_step<const SETS: usize, const WAYS: usize>(
+        &mut self,
+        machine: &Machine<SETS, WAYS>,
+    ) -> Option<Picked>
+        ensures some { IfSome result (λ p. IsPicked (geometry SETS WAYS) machine.now p.choice p.step) }
+        ensures none { IfNone result (IsAtRest (geometry SETS WAYS) machine.now) }
+    {
+        let (cores, arrivals) = (self.mix.cores as usize, self.mix.arrivals as usize);
+        if self.below(cores + arrivals) < cores {
+            match self.draw_core(machine) {
+                Some(picked) => Some(picked),
+                None => self.draw_arrival(machine),
+            }
+        } else {
+            match self.draw_arrival(machine) {
+                Some(picked) => Some(picked),
+                None => self.draw_core(machine),
+            }
+        }
+    }
+
+    /// An eviction, where one is drawn by its weight, and a line can be given up. It goes through the blocks in use from one on that is drawn, and through
+    /// the harts from one on.
+    fn draw_eviction<const SETS: usize, const WAYS: usize>(
+        &mut self,
+        machine: &Machine<SETS, WAYS>,
+    ) -> Option<Picked>
+        ensures { IfSome result (λ p. IsPicked (geometry SETS WAYS) machine.now p.choice p.step) }
+    {
+        let evictions = self.mix.evictions as usize;
+        if evictions == 0 {
+            return None;
+        }
+        let others = self.mix.cores as usize + self.mix.arrivals as usize;
+        if self.below(evictions + others) >= evictions {
+            return None;
+        }
+        let first = self.below(machine.used());
+        let hart = self.below(machine.harts());
+        find_eviction(machine, first, hart)
+    }
+
+    /// What comes next. `None` where no core has a step to make, and no message can arrive.
+    fn draw<const SETS: usize, const WAYS: usize>(
+        &mut self,
+        machine: &Machine<SETS, WAYS>,
+    ) -> Option<Picked>
+        ensures some { IfSome result (λ p. IsPicked (geometry SETS WAYS) machine.now p.choice p.step) }
+        ensures none { IfNone result (IsAtRest (geometry SETS WAYS) machine.now) }
+    {
+        let step = self.draw_step(machine)?;
+        match self.draw_eviction(machine) {
+            Some(eviction) => Some(eviction),
+            None => Some(step),
+        }
+    }
+}
+
+impl<const SETS: usize, const WAYS: usize> Chooser<SETS, WAYS> for Chance {
+    ghost behind = { λ _. ByChance None };
+
+    #[inline(always)]
+    fn takes_turns(&self) -> bool {
+        false
+    }
+
+    fn next(
+        &mut self,
+        machine: &Machine<SETS, WAYS>,
+        _last: Turned,
+    ) -> Result<Option<Step>, AllocError> {
+        match self.draw(machine) {
+            Some(picked) => Ok(Some(picked.step)),
+            None => Ok(None),
+        }
+    }
+}
+
+/// Chance that keeps what it chooses in a history.
+#[derive(Drop)]
+pub struct KeptChance {
+    chance: Chance,
+    history: History,
+}
+
+impl Model for KeptChance {
+    ghost use Rattle.std.specs.Prelude.{List};
+    ghost use Rattle.schedule.specs.declared.choices.Choice.{Choice as ChoiceValue};
+
+    // The choices so far.
+    ghost Value = { List ChoiceValue };
+
+    ghost view = { λ k. k.history.choices };
+}
+
+impl KeptChance {
+    /// Chance of which nothing was asked yet.
+    pub fn new(alloc: Global, chance: Chance) -> Self
+        ensures { result ≡ [] }
+    {
+        KeptChance {
+            chance,
+            history: History::new(alloc),
+        }
+    }
+
+    /// What was chosen so far.
+    pub fn history(&self) -> &History
+        ensures { result.now.choices ≡ self.now }
+    {
+        &self.history
+    }
+}
+
+impl<const SETS: usize, const WAYS: usize> Chooser<SETS, WAYS> for KeptChance {
+    ghost behind = { λ kept. ByChance (Some kept) };
+
+    #[inline(always)]
+    fn takes_turns(&self) -> bool {
+        false
+    }
+
+    fn next(
+        &mut self,
+        machine: &Machine<SETS, WAYS>,
+        _last: Turned,
+    ) -> Result<Option<Step>, AllocError> {
+        self.history.make_room()?;
+        let Some(picked) = self.chance.draw(machine) else {
+            return Ok(None);
+        };
+        self.history.note(picked.choice, 1);
+        Ok(Some(picked.step))
+    }
+}
