@@ -87,6 +87,9 @@ impl Chance {
         ensures some { IfSome result (λ p. IsPicked (geometry SETS WAYS) machine.now p.choice p.step) }
         ensures none { IfNone result ((key : ℕ) → IsEnabled (geometry SETS WAYS) (shown SETS machine.now) (Deliver key) false) }
     {
+        if machine.in_flight() == 0 {
+            return None;
+        }
         for _try in 0..TRIES {
             let key = self.below(machine.keys());
             if can_arrive(machine, key) {
