@@ -13,6 +13,7 @@ use Rattle.flat.specs.State.{Flat}
 use Rattle.flat.specs.Steps.{IsRun}
 use Rattle.protocol.specs.Caches.{Geometry}
 use Rattle.command_line.specs.declared.request.Setup.{Setup}
+use Rattle.schedule.specs.Courses.{Behind}
 use Rattle.schedule.specs.Moments.{Moment, entries_of}
 use Rattle.simulate.specs.Runs.{ComesBy}
 use Rattle.simulate.specs.Starts.{flat_start}
@@ -41,8 +42,8 @@ pub one_image : (source image other : List ℕ) → IsImageOf source image → I
 one_image source image other one two = two.2 ∙ (ap elf_of (one_program source one.0 two.0 one.1.1 two.1.1) ∙ sym one.2)
 
 -- a run of an assembled file is one of the source's program
-pub one_run : (g : Geometry) (setup : Setup) (source image list : List ℕ) (steps : ℕ) (moments : List Moment) (f : Flat) → IsImageOf source image → is_source setup.file.now ≡ false
-    → ComesBy g setup image list steps moments f → (p : Program) × IsSourceOf source p × IsRun (flat_start p setup) (entries_of moments) f
-one_run g setup source image list steps moments f made elf comes =
+pub one_run : (g : Geometry) (setup : Setup) (behind : Behind) (source image list : List ℕ) (steps : ℕ) (moments : List Moment) (f : Flat) → IsImageOf source image → is_source setup.file.now ≡ false
+    → ComesBy g setup behind image list steps moments f → (p : Program) × IsSourceOf source p × IsRun (flat_start p setup) (entries_of moments) f
+one_run g setup behind source image list steps moments f made elf comes =
     let same = one_in_file setup.file.now image made.0 comes.program (inr (elf, made.3)) comes.holds in
     (made.0, made.1, subst (λ (p : Program). IsRun (flat_start p setup) (entries_of moments) f) same comes.run)

@@ -18,6 +18,7 @@ ghost use Rattle.ends.specs.Ends.{reports_of};
 ghost use Rattle.ends.specs.EndTexts.{ends_text};
 ghost use Rattle.command_line.specs.declared.request.Search.{Search};
 ghost use Rattle.command_line.specs.declared.request.Setup.{Setup};
+ghost use Rattle.schedule.specs.Courses.{Behind};
 ghost use Rattle.schedule.specs.Moments.{Moment, entries_of};
 ghost use Rattle.simulate.specs.Ends.{search_start, AreEndsGiven};
 ghost use Rattle.simulate.specs.Files.{IsListed, IsImageOf};
@@ -72,7 +73,7 @@ pub fn assembled_files_are_one()
 
 /// From a source to a run: what a run of the assembled file comes to, the flat machine comes to from where the source's program begins.
 pub fn assembled_files_run_as_spelled()
-    ensures { (g : Geometry) (setup : Setup) (source image list : List ℕ) (steps : ℕ) (moments : List Moment) (f : Flat) →
-        IsImageOf source image → is_source setup.file.now ≡ false → ComesBy g setup image list steps moments f →
+    ensures { (g : Geometry) (setup : Setup) (behind : Behind) (source image list : List ℕ) (steps : ℕ) (moments : List Moment) (f : Flat) →
+        IsImageOf source image → is_source setup.file.now ≡ false → ComesBy g setup behind image list steps moments f →
         (p : Program) × IsSourceOf source p × IsRun (flat_start p setup) (entries_of moments) f }
 {}
