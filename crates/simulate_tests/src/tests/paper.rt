@@ -79,5 +79,6 @@ impl Page for Paper {
         self.failed = self.failed.saturating_add(1);
         Err(SinkFault)
     }
+
     fn write_at_once(&mut self) {}
 }

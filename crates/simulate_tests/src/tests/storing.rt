@@ -126,7 +126,9 @@ fn exits(rt: &impl AllocGlobal) -> Result<Vec<u8>, Fail> {
 }
 
 const RUN: [&str; 3] = ["logtm", "run", "exits.elf"];
+
 const TRACED: [&str; 5] = ["logtm", "run", "exits.elf", "--trace", "lines"];
+
 const ASM: [&str; 4] = ["logtm", "asm", "exits.s", "exits.elf"];
 
 #[test]
