@@ -9,6 +9,5 @@ mod orders;
 mod paper;
 mod running;
 mod searching;
-mod storing;
 mod threads;
 mod tracing;
