@@ -2,8 +2,8 @@
 use Rattle.std.proofs.Common.{◌≡◌, ◌≢◌, ◌⊎◌, inl, inr, ℕ, List, Result, Ok, Err, MatchResult, refl, ap, subst}
 use Rattle.std.specs.Result.{IsErrAnd}
 use Rattle.loader.specs.Programs.{Program}
-use Rattle.source_operands.specs.declared.fault.AsmFault.{AsmFault}
-use Rattle.source_operands.specs.declared.fault.AsmFault.TheVariants.{Unknown, Operand, Register, Range, Alignment, Label, TwiceDefined, Directive, TooLarge, NoMemory}
+use Rattle.statements.specs.declared.fault.AsmFault.{AsmFault}
+use Rattle.statements.specs.declared.fault.AsmFault.TheVariants.{Unknown, Operand, Register, Range, Alignment, Label, TwiceDefined, Directive, TooLarge, NoMemory}
 use Rattle.assembler.specs.declared.fault.SourceFault.{SourceFault}
 use Rattle.assembler.specs.Passes.{Assembled, assembled}
 use Rattle.assembler.specs.Layouts.{IsSourceOf}

@@ -2,8 +2,8 @@
 use Rattle.std.proofs.Common.{◌≡◌, ℕ, ◌≤◌, false, cond, nat_lt, List, Result, Ok, Err, ap, ◌∙◌, arith}
 use Rattle.std.proofs.lemmas.Bool.Decides.{nat_tests}
 use Rattle.assembler.specs.declared.fault.SourceFault.{SourceFault}
-use Rattle.source_operands.specs.declared.fault.AsmFault.TheVariants.{TooLarge}
-use Rattle.source_operands.specs.Operands.{◌>>=◌}
+use Rattle.statements.specs.declared.fault.AsmFault.TheVariants.{TooLarge}
+use Rattle.statements.specs.Operands.{◌>>=◌}
 use Rattle.assembler.specs.Passes.{Survey, Layout, Assembled, labels_after, survey, lay, assembled}
 
 laid_after : (s : Survey) (source : List ℕ) → Result Assembled SourceFault

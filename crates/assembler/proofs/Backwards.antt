@@ -4,13 +4,13 @@ use mathlib.Core.Path.{fun_ext}
 use Rattle.std.specs.Option.{is_some}
 use Rattle.std.specs.List.{AllByRecursion}
 use Rattle.std.proofs.lemmas.Slice.Eq.{bytes_eq-Decides}
-use Rattle.source_operands.specs.declared.fault.AsmFault.{AsmFault}
-use Rattle.source_operands.specs.declared.fault.AsmFault.TheVariants.{TwiceDefined}
-use Rattle.source_operands.specs.declared.place.Place.{Place}
+use Rattle.statements.specs.declared.fault.AsmFault.{AsmFault}
+use Rattle.statements.specs.declared.fault.AsmFault.TheVariants.{TwiceDefined}
+use Rattle.statements.specs.declared.place.Place.{Place}
 use Rattle.assembler.specs.declared.progress.Progress.{Progress}
-use Rattle.source_operands.specs.Cutting.{parts_of}
-use Rattle.source_operands.specs.Operands.{◌>>=◌, checked}
-use Rattle.source_operands.specs.Places.{Labels}
+use Rattle.statements.specs.Cutting.{parts_of}
+use Rattle.statements.specs.Operands.{◌>>=◌, checked}
+use Rattle.statements.specs.Places.{Labels}
 use Rattle.assembler.specs.Progress.{here, start}
 use Rattle.statements.specs.Statements.{Made, statement_of}
 use Rattle.assembler.specs.Passes.{Survey, Layout, lines, behind, with_label, survey_line, lay_line, at_line, pass, nowhere, survey, lay, labels_after, assembled}

@@ -8,19 +8,19 @@ use Rattle.table.specs.declared.instr.Instr.TheVariants as instr
 use Rattle.table.specs.declared.instr.Row.{Row}
 use Rattle.table.specs.declared.instr.Row.TheVariants as row
 use Rattle.table.specs.declared.instr.BranchOp.{BranchOp}
-use Rattle.source_operands.specs.declared.fault.AsmFault.{AsmFault}
-use Rattle.source_operands.specs.declared.fault.AsmFault.TheVariants.{Alignment}
+use Rattle.statements.specs.declared.fault.AsmFault.{AsmFault}
+use Rattle.statements.specs.declared.fault.AsmFault.TheVariants.{Alignment}
 use Rattle.statements.specs.declared.form.Form.{Form}
 use Rattle.statements.specs.declared.form.Form.TheVariants as form
 use Rattle.statements.specs.declared.form.Directive as directives
 use Rattle.statements.specs.declared.form.Directive.TheVariants as directive
-use Rattle.source_operands.specs.declared.place.Place.{Place}
-use Rattle.source_operands.specs.Cutting.{cut_word, trim}
-use Rattle.source_operands.specs.Numbers.{Number, number_of}
+use Rattle.statements.specs.declared.place.Place.{Place}
+use Rattle.statements.specs.Cutting.{cut_word, trim}
+use Rattle.statements.specs.Numbers.{Number, number_of}
 use Rattle.statements.specs.Forms.{form_named}
-use Rattle.source_operands.specs.Operands.{◌>>=◌, guarded, checked, Find, Named, register, named_of, number_or_named, target, in_range, offset, value}
+use Rattle.statements.specs.Operands.{◌>>=◌, guarded, checked, Find, Named, register, named_of, number_or_named, target, in_range, offset, value}
 use Rattle.statements.specs.Instructions.{two, three, last, branch_of, branch_swapped_of, branch_zero_of, jal_of, tbegin_of, j_of, by_row}
-use Rattle.source_operands.specs.Places.{Labels, find}
+use Rattle.statements.specs.Places.{Labels, find}
 use Rattle.statements.specs.Statements.{Made, in_two, la_of, datum, read_data, operands, at_multiple, data_of, obeyed, directive_of, one, instruction_of, by_form, by_name, pc_of, statement_of}
 use Rattle.statements.specs.Statements.Made.{Nothing, One, Numbers}
 use Rattle.assembler.proofs.Sizes.{bind_ok, guarded_ok, checked_ok}

@@ -6,7 +6,7 @@ use Rattle.words.specs.declared.entry.Width.TheVariants.{Byte, Half, Word}
 use Rattle.words.specs.Bytes.{bytes_in}
 use Rattle.statements.specs.Statements.{Made}
 use Rattle.statements.specs.Statements.Made.{Nothing, Enter, One, Two, Numbers, Zeros}
-use Rattle.source_operands.specs.Places.{Labels}
+use Rattle.statements.specs.Places.{Labels}
 use Rattle.assembler.specs.Passes.{Layout}
 use Rattle.statements.specs.Bytes.{IsWordOf, low_bytes, AreBytesOf}
 use Rattle.assembler.specs.Programs.{AreBytesOfAll, IsProgramOf, segments_of}

@@ -7,10 +7,10 @@ use Rattle.std.specs.Cmp.Lexicographic.{slice_cmp}
 use Rattle.std.specs.Ordering.{nat_cmp}
 use Rattle.std.specs.Option.{is_some}
 use Rattle.std.proofs.lemmas.Map.Text.{btree_map_updates_str}
-use Rattle.source_operands.specs.declared.fault.AsmFault.TheVariants.{TwiceDefined}
-use Rattle.source_operands.specs.declared.place.Place.{Place}
-use Rattle.source_operands.specs.Operands.{checked}
-use Rattle.source_operands.specs.Places.{places_in}
+use Rattle.statements.specs.declared.fault.AsmFault.TheVariants.{TwiceDefined}
+use Rattle.statements.specs.declared.place.Place.{Place}
+use Rattle.statements.specs.Operands.{checked}
+use Rattle.statements.specs.Places.{places_in}
 use Rattle.assembler.specs.Passes.{with_label}
 
 pub label_kept : (name : List ℕ) (at : Place) (m n : BTreeMap (Bor (List ℕ)) Place)

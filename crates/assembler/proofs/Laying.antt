@@ -2,14 +2,14 @@
 use Rattle.std.proofs.Common.{◌≡◌, ℕ, ◌+◌, ◌≤◌, Bool, true, false, cond, nat_le, List, ◌++◌, length, Some, None, Result, Ok, Err, refl, sym, ap, subst, ◌∙◌, arith, length-append}
 use Rattle.std.specs.Option.{ok_or}
 use Rattle.std.proofs.lemmas.Bool.Decides.{nat_tests}
-use Rattle.source_operands.specs.declared.fault.AsmFault.{AsmFault}
-use Rattle.source_operands.specs.declared.fault.AsmFault.TheVariants.{TooLarge}
-use Rattle.source_operands.specs.declared.place.Place.{Place}
+use Rattle.statements.specs.declared.fault.AsmFault.{AsmFault}
+use Rattle.statements.specs.declared.fault.AsmFault.TheVariants.{TooLarge}
+use Rattle.statements.specs.declared.place.Place.{Place}
 use Rattle.assembler.specs.declared.progress.Progress.{Progress}
-use Rattle.source_operands.specs.declared.place.Section.{Section}
-use Rattle.source_operands.specs.declared.place.Section.TheVariants.{Text, Data}
-use Rattle.source_operands.specs.Operands.{◌>>=◌}
-use Rattle.source_operands.specs.Places.{Labels}
+use Rattle.statements.specs.declared.place.Section.{Section}
+use Rattle.statements.specs.declared.place.Section.TheVariants.{Text, Data}
+use Rattle.statements.specs.Operands.{◌>>=◌}
+use Rattle.statements.specs.Places.{Labels}
 use Rattle.assembler.specs.Progress.{here, with_more, grown}
 use Rattle.statements.specs.Statements.{Made}
 use Rattle.statements.specs.Statements.Made.{Nothing, Enter, One, Two, Numbers, Zeros}

@@ -3,12 +3,12 @@ use Rattle.std.proofs.Common.{◌≡◌, ℕ, ◌+◌, Bool, true, false, cond, 
 use Rattle.std.specs.Option.{is_some}
 use Rattle.std.proofs.lemmas.Bool.Decides.{nat_tests}
 use Rattle.std.proofs.lemmas.Slice.Eq.{bytes_eq-Decides}
-use Rattle.source_operands.specs.declared.fault.AsmFault.TheVariants.{TwiceDefined, TooLarge}
+use Rattle.statements.specs.declared.fault.AsmFault.TheVariants.{TwiceDefined, TooLarge}
 use Rattle.assembler.specs.declared.fault.SourceFault.{SourceFault}
-use Rattle.source_operands.specs.declared.place.Place.{Place}
+use Rattle.statements.specs.declared.place.Place.{Place}
 use Rattle.assembler.specs.declared.progress.Progress.{Progress}
-use Rattle.source_operands.specs.Cutting.{parts_of}
-use Rattle.source_operands.specs.Places.{Labels}
+use Rattle.statements.specs.Cutting.{parts_of}
+use Rattle.statements.specs.Places.{Labels}
 use Rattle.assembler.specs.Progress.{here, start}
 use Rattle.assembler.specs.Passes.{Survey, Layout, Assembled, lines, with_label, survey_line, lay_line, at_line, pass, nowhere, survey, lay, labels_after, assembled}
 use Rattle.statements.specs.Lines.{checked_line}

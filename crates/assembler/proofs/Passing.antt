@@ -1,10 +1,10 @@
 -- A pass over lines, by the first of them.
 use Rattle.std.proofs.Common.{◌≡◌, ℕ, ◌+◌, ◌==◌, ◌<◌, ◌≤◌, List, [], ◌∷◌, length, Option, Some, None, IfSome, option_map, Bor, Result, Ok, Err, sym, ap, ◌∙◌, arith}
-use Rattle.source_operands.specs.declared.fault.AsmFault.{AsmFault}
-use Rattle.source_operands.specs.Cutting.{Cut, cut}
-use Rattle.source_operands.specs.Operands.{◌>>=◌}
+use Rattle.statements.specs.declared.fault.AsmFault.{AsmFault}
+use Rattle.statements.specs.Cutting.{Cut, cut}
+use Rattle.statements.specs.Operands.{◌>>=◌}
 use Rattle.assembler.specs.Passes.{lines, at_line, pass}
-use Rattle.source_operands.proofs.Cuts.{parts_cut, other_parts}
+use Rattle.statements.proofs.Cuts.{parts_cut, other_parts}
 
 -- the lines that are left
 abbrev pub left : Option (List ℕ) → List (List ℕ)

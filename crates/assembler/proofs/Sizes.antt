@@ -5,22 +5,22 @@ use Rattle.words.specs.declared.entry.Width.{Width}
 use Rattle.words.specs.declared.entry.Width.TheVariants as width
 use Rattle.words.specs.Bytes.{bytes_in}
 use Rattle.table.specs.declared.instr.Instr.{Instr}
-use Rattle.source_operands.specs.declared.fault.AsmFault.{AsmFault}
-use Rattle.source_operands.specs.declared.fault.AsmFault.TheVariants.{TooLarge}
+use Rattle.statements.specs.declared.fault.AsmFault.{AsmFault}
+use Rattle.statements.specs.declared.fault.AsmFault.TheVariants.{TooLarge}
 use Rattle.assembler.specs.declared.fault.SourceFault.{SourceFault}
 use Rattle.statements.specs.declared.form.Form.{Form}
 use Rattle.statements.specs.declared.form.Form.TheVariants as form
 use Rattle.statements.specs.declared.form.Directive as directives
 use Rattle.statements.specs.declared.form.Directive.TheVariants as directive
-use Rattle.source_operands.specs.declared.place.Place.{Place}
+use Rattle.statements.specs.declared.place.Place.{Place}
 use Rattle.assembler.specs.declared.progress.Progress.{Progress}
-use Rattle.source_operands.specs.declared.place.Section.{Section}
-use Rattle.source_operands.specs.declared.place.Section.TheVariants.{Text, Data}
-use Rattle.source_operands.specs.Cutting.{cut_word, parts_of, trim}
+use Rattle.statements.specs.declared.place.Section.{Section}
+use Rattle.statements.specs.declared.place.Section.TheVariants.{Text, Data}
+use Rattle.statements.specs.Cutting.{cut_word, parts_of, trim}
 use Rattle.statements.specs.Forms.{form_named}
-use Rattle.source_operands.specs.Operands.{◌>>=◌, guarded, checked, Find, register, value}
+use Rattle.statements.specs.Operands.{◌>>=◌, guarded, checked, Find, register, value}
 use Rattle.statements.specs.Instructions.{two}
-use Rattle.source_operands.specs.Places.{Labels, find}
+use Rattle.statements.specs.Places.{Labels, find}
 use Rattle.assembler.specs.Progress.{here, start, grown}
 use Rattle.statements.specs.Statements.{Made, in_two, la_of, datum, read_data, operands, all_found, at_multiple, data_of, obeyed, directive_of, one, by_form, by_name, statement_of}
 use Rattle.statements.specs.Statements.Made.{Nothing, One, Numbers}

@@ -2,10 +2,10 @@
 -- are those of the lines.
 use Rattle.std.specs.Prelude.{◌≡◌, ℕ, ◌≤◌, List, [], ◌∷◌, Option, Some, None, IfSome, Result, Ok, Err}
 use Rattle.std.specs.List.{AllByRecursion}
-use Rattle.source_operands.specs.declared.fault.AsmFault.{AsmFault}
+use Rattle.statements.specs.declared.fault.AsmFault.{AsmFault}
 use Rattle.assembler.specs.declared.progress.Progress.{Progress}
-use Rattle.source_operands.specs.Cutting.{parts_of}
-use Rattle.source_operands.specs.Places.{Labels}
+use Rattle.statements.specs.Cutting.{parts_of}
+use Rattle.statements.specs.Places.{Labels}
 use Rattle.assembler.specs.Progress.{here, start}
 use Rattle.statements.specs.Statements.{Made, statement_of}
 use Rattle.assembler.specs.Programs.{IsProgramOf}

@@ -3,17 +3,17 @@ use Rattle.std.specs.Prelude.{ℕ, ◌+◌, ◌*◌, ◌==◌, not, if◌then◌
 use Rattle.std.specs.List.{slice_split}
 use Rattle.std.specs.Option.{is_some, ok_or}
 use Rattle.words.specs.Bytes.{bytes_in}
-use Rattle.source_operands.specs.declared.fault.AsmFault.{AsmFault}
-use Rattle.source_operands.specs.declared.fault.AsmFault.TheVariants.{TwiceDefined, TooLarge}
+use Rattle.statements.specs.declared.fault.AsmFault.{AsmFault}
+use Rattle.statements.specs.declared.fault.AsmFault.TheVariants.{TwiceDefined, TooLarge}
 use Rattle.assembler.specs.declared.fault.SourceFault.{SourceFault}
-use Rattle.source_operands.specs.declared.place.Place.{Place}
+use Rattle.statements.specs.declared.place.Place.{Place}
 use Rattle.assembler.specs.declared.progress.Progress.{Progress}
-use Rattle.source_operands.specs.declared.place.Section.{Section}
-use Rattle.source_operands.specs.declared.place.Section.TheVariants.{Text, Data}
-use Rattle.source_operands.specs.Cutting.{parts_of}
-use Rattle.source_operands.specs.Places.{Labels}
+use Rattle.statements.specs.declared.place.Section.{Section}
+use Rattle.statements.specs.declared.place.Section.TheVariants.{Text, Data}
+use Rattle.statements.specs.Cutting.{parts_of}
+use Rattle.statements.specs.Places.{Labels}
 use Rattle.assembler.specs.Progress.{here, start, grown}
-use Rattle.source_operands.specs.Operands.{◌>>=◌, checked}
+use Rattle.statements.specs.Operands.{◌>>=◌, checked}
 use Rattle.statements.specs.Lines.{checked_line, line_of}
 use Rattle.statements.specs.Statements.{Made, statement_of}
 use Rattle.statements.specs.Statements.Made.{Nothing, Enter, One, Two, Numbers, Zeros}

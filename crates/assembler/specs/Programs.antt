@@ -2,10 +2,10 @@
 use Rattle.std.specs.Prelude.{◌≡◌, ℕ, ◌+◌, ◌%◌, ◌==◌, ◌&&◌, ◌≤◌, if◌then◌else◌, nat_le, Bool, true, false, List, [], ◌∷◌, ◌++◌, length, codes, Option, Some, None}
 use Rattle.table.specs.Program.{Segment}
 use Rattle.loader.specs.Programs.{Program}
-use Rattle.source_operands.specs.declared.place.Place.{Place}
-use Rattle.source_operands.specs.declared.place.Section.{Section}
-use Rattle.source_operands.specs.declared.place.Section.TheVariants.{Text, Data}
-use Rattle.source_operands.specs.Places.{Labels, data_start}
+use Rattle.statements.specs.declared.place.Place.{Place}
+use Rattle.statements.specs.declared.place.Section.{Section}
+use Rattle.statements.specs.declared.place.Section.TheVariants.{Text, Data}
+use Rattle.statements.specs.Places.{Labels, data_start}
 use Rattle.statements.specs.Statements.{Made}
 use Rattle.statements.specs.Bytes.{AreBytesOf}
 use Rattle.assembler.specs.Passes.{Layout}

@@ -1,8 +1,8 @@
 -- How far a pass has come: the section in which the next line stands, and the bytes of each so far.
 use Rattle.std.specs.Prelude.{ℕ, ◌+◌, nat_le, if◌then◌else◌, Option, Some, None}
-use Rattle.source_operands.specs.declared.place.Place.{Place}
-use Rattle.source_operands.specs.declared.place.Section.{Section}
-use Rattle.source_operands.specs.declared.place.Section.TheVariants.{Text, Data}
+use Rattle.statements.specs.declared.place.Place.{Place}
+use Rattle.statements.specs.declared.place.Section.{Section}
+use Rattle.statements.specs.declared.place.Section.TheVariants.{Text, Data}
 use Rattle.assembler.specs.declared.progress.Progress.{Progress}
 
 -- where the next line stands

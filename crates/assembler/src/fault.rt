@@ -1,10 +1,12 @@
 ghost use Rattle.std.specs.Prelude.{◌≡◌};
 
-use source_operands::AsmFault;
+use statements::AsmFault;
 use std::alloc::{AllocError, AllocFailed};
+use thiserror::Error;
 
 /// Why a source was not assembled, and at which line.
-#[derive(Clone, Copy, Debug, PartialEq, Eq)]
+#[derive(Clone, Copy, Debug, PartialEq, Eq, Error)]
+#[error("line {line}: {fault}")]
 pub struct SourceFault {
     /// The number of the line, from 1; 0 where the source has no text, or memory ran out.
     pub line: usize,
@@ -12,7 +14,7 @@ pub struct SourceFault {
 }
 
 impl From<AllocError> for SourceFault {
-    ghost use Rattle.source_operands.specs.declared.fault.AsmFault.TheVariants.{NoMemory};
+    ghost use Rattle.statements.specs.declared.fault.AsmFault.TheVariants.{NoMemory};
 
     ghost from_gives = { λ _ e. e ≡ record { line = 0; fault = NoMemory } };
 
@@ -25,7 +27,7 @@ impl From<AllocError> for SourceFault {
 }
 
 impl<T: Drop> From<AllocFailed<T>> for SourceFault {
-    ghost use Rattle.source_operands.specs.declared.fault.AsmFault.TheVariants.{NoMemory};
+    ghost use Rattle.statements.specs.declared.fault.AsmFault.TheVariants.{NoMemory};
 
     ghost from_gives = { λ _ e. e ≡ record { line = 0; fault = NoMemory } };
 

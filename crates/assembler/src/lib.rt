@@ -9,5 +9,4 @@ mod progress;
 pub use fault::SourceFault;
 pub use laws::sources_spell_one_program;
 pub use passes::assemble;
-pub use source_operands::{AsmFault, Names, Place, Section, Size};
-pub use statements::{Words, line};
+pub use statements::{AsmFault, Names, Place, Section, Size, Words, line};

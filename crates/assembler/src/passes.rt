@@ -6,7 +6,7 @@ ghost use Rattle.assembler.specs.Passes.{Assembled, Layout};
 ghost use Rattle.assembler.specs.Layouts.{IsSourceOf};
 ghost use Rattle.assembler.specs.declared.progress.Progress.{Progress};
 ghost use Rattle.statements.specs.Statements.{made};
-ghost use Rattle.source_operands.specs.Places as places;
+ghost use Rattle.statements.specs.Places as places;
 ghost use Rattle.std.specs.Result.{IfErr, IsErrAnd};
 ghost use Rattle.loader.specs.Programs.{Program as ProgramValue};
 ghost use Rattle.assembler.specs.Passes as spec;
@@ -15,8 +15,10 @@ ghost use Rattle.assembler.specs.Programs as programs;
 use crate::fault::SourceFault;
 use crate::progress::Progress;
 use loader::Program;
-use source_operands::{AsmFault, Names, Place, Section, Size, cut, cut_line, data_start};
-use statements::{Words, checked_line, line_at, read_statement};
+use statements::{
+    AsmFault, Names, Place, Section, Size, Words, checked_line, cut, cut_line, data_start, line_at,
+    read_statement,
+};
 use std::alloc::{AllocError, Global};
 use std::collections::BTreeMap;
 use table::{Instr, Segment, byte_count, encode};

@@ -2,7 +2,7 @@
 ghost use Rattle.std.specs.Prelude.{◌≡◌, ◌<◌, ◌^◌};
 ghost use Rattle.assembler.specs.Progress as spec;
 
-use source_operands::{Place, Section, Size};
+use statements::{Place, Section, Size};
 
 /// How many bytes text and data may have together.
 pub(crate) const LIMIT: u64 = 1_048_576;

@@ -1,7 +1,7 @@
 //! How fast a program is listed.
 use crate::instructions::WORDS;
 use crate::timing::tell;
-use disassembler::listing;
+use disassembler::{Symbols, listing};
 use loader::{Program, read_elf};
 use std::alloc::{AllocError, Global};
 use std::io;
@@ -68,7 +68,7 @@ fn measure_one(
     };
     let lines = u64::from(segments).saturating_mul(u64::from(words));
     let start = Instant::now(rt);
-    let _ = listing(&program, &mut out);
+    let _ = listing(&program, &Symbols::none(rt.alloc()), &mut out);
     tell(rt, name, out.bytes.len() as u64, start, lines)
 }
 

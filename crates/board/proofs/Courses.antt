@@ -10,9 +10,10 @@ use Rattle.loader.specs.Programs.{Program}
 use Rattle.flat.specs.State.{Setting}
 use Rattle.protocol.specs.Caches.{Geometry}
 use Rattle.protocol.specs.Start.{start}
-use Rattle.protocol.specs.Machine.{Steps, Runs}
-use Rattle.machine.specs.Mail.{NumbersOn}
+use Rattle.protocol.specs.Machine.{Runs}
+use Rattle.machine.specs.Making.{MakesStep}
 use Rattle.machine.specs.States.{State, setting_of, shown}
+use Rattle.machine.proofs.Made.{steps_of}
 use Rattle.schedule.specs.declared.choices.Choice.{Choice}
 use Rattle.schedule.specs.declared.choices.Choice.TheVariants.{Core, Evict, Deliver, Turn}
 use Rattle.schedule.specs.Moments.{Moment, moment, moments}
@@ -45,11 +46,10 @@ pub chosen_then : (told more : Told) → IsChosen told → IsChosen more → IsC
 chosen_then told more (cs, a) (ds, b) = (cs ++ ds, ap₂ both a b)
 
 -- a step that was a choice
-pub chosen_made : {E : Type 0} (g : Geometry) (m next : State) (step : Step) (c : Choice) (r : Result Unit E) → OnOk r ((e : Option Entry) × Steps g (shown g.sets m) step e (shown g.sets next))
-    → NumbersOn m.flights m.sent next.flights next.sent
+pub chosen_made : {E : Type 0} (g : Geometry) (m next : State) (step : Step) (c : Choice) (r : Result Unit E) → OnOk r ((e : Option Entry) × MakesStep g m step e next)
     → OnOk r ((e : Option Entry) × Makes g m (Some step) e next × ((told : Told) → IsChosen told → IsChosen (told_then told (one_step step e (Some c)))))
-chosen_made g m next step c (Ok _) (e, made) numbers = (e, (made, numbers), λ told chosen. chosen_then told (one_step step e (Some c)) chosen (c ∷ [], refl))
-chosen_made g m next step c (Err _) made numbers = tt {0}
+chosen_made g m next step c (Ok _) (e, made) = (e, made, λ told chosen. chosen_then told (one_step step e (Some c)) chosen (c ∷ [], refl))
+chosen_made g m next step c (Err _) made = tt {0}
 
 -- one choice
 leads_one : (g : Geometry) (c : Choice) (step : Step) (e : Option Entry) (v w : State) → IsChoiceOf g.sets v step c → Makes g v (Some step) e w → Leads g (c ∷ []) v (option_to_list e) w
@@ -116,7 +116,7 @@ module _ (g : Geometry) (p : Program) (n size : ℕ) where
 
   -- a step
   runs_one : (m next : State) (step : Step) (e : Option Entry) → Makes g m (Some step) e next → Runs g (shown g.sets m) (step ∷ []) (option_to_list e) (shown g.sets next)
-  runs_one m next step e made = (shown g.sets next, e, [], made.0, (refl, refl), sym (append-nil (option_to_list e)))
+  runs_one m next step e made = (shown g.sets next, e, [], steps_of g m step e next made, (refl, refl), sym (append-nil (option_to_list e)))
 
   kept_turn : (tells later : Told → Type 0) (m next : State) (step : Step) (e : Option Entry) → IsKept g p n size tells m → Makes g m (Some step) e next
       → ((told : Told) → tells told → later (told_then told (one_step step e None))) → IsKept g p n size later next

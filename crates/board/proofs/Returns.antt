@@ -1,11 +1,10 @@
 -- The words that a lent hart has retired are choices of its core.
-use Rattle.std.proofs.Common.{◌≡◌, ◌<◌, ℕ, zero, suc, Some, List, [], ◌∷◌, length, replicate, refl, sym, ap, subst, ◌∙◌, arith, inl}
+use Rattle.std.proofs.Common.{◌≡◌, ◌<◌, ℕ, zero, suc, Some, List, [], ◌∷◌, length, replicate, refl, sym, ap, subst, ◌∙◌, arith}
 use Rattle.std.specs.Prelude.{slice_get, slice_set}
 use Rattle.words.specs.declared.entry.Entry.{Entry}
 use Rattle.words.specs.declared.entry.Step.TheVariants as step
 use Rattle.table.specs.Program.{Segment}
 use Rattle.hart.specs.Parts.{Parts}
-use Rattle.machine.specs.Mail.{NumbersOn}
 use Rattle.protocol.specs.Machine.{Runs}
 use Rattle.machine.specs.States.{Seat, State, geometry, shown, IsSound}
 use Rattle.machine.specs.Lent.{hart_if, with_hart, RunsAlone}
@@ -30,10 +29,6 @@ twice [] i x y = refl
 twice (z ∷ xs) zero x y = refl
 twice (z ∷ xs) (suc i) x y = ap (λ zs. z ∷ zs) (twice xs i x y)
 
--- no message is sent
-unsent : (v : State) → NumbersOn v.flights v.sent v.flights v.sent
-unsent v = record { count = omega arith; numbers = λ key f at. inl at }
-
 module _ (sets ways i : ℕ) where
   leads_alone : (es : List Entry) (v : State) (s : Seat) (new : Parts) → IsSound sets ways v → slice_get v.seats i ≡ Some s → RunsAlone sets v.program.segments s.hart es new
       → Leads (geometry sets ways) (replicate (length es) (Core i)) v es (seated v i (with s new))
@@ -47,7 +42,7 @@ module _ (sets ways i : ℕ) where
       let same : seated (seated v i next) i (with next new) ≡ seated v i (with s new) = ap (λ l. record v { seats = l }) (twice v.seats i next (with s new)) in
       let last : Leads (geometry sets ways) (replicate (length es) (Core i)) (seated v i next) es (seated v i (with s new)) =
       subst (λ (m : State). Leads (geometry sets ways) (replicate (length es) (Core i)) (seated v i next) es m) same rest in
-      (moment v (step.Core i) (Some e) (seated v i next) ∷ last.0, ap (λ (xs : List Entry). e ∷ xs) last.1, λ after. (Some (step.Core i), Some e, seated v i next, last.0, refl, (first.0, unsent v), last.2 i, refl))
+      (moment v (step.Core i) (Some e) (seated v i next) ∷ last.0, ap (λ (xs : List Entry). e ∷ xs) last.1, λ after. (Some (step.Core i), Some e, seated v i next, last.0, refl, first.0, last.2 i, refl))
 
   leads_back : (v : State) (old new : Parts) (es : List Entry) → IsSound sets ways v → hart_if v i ≡ Some old → RunsAlone sets v.program.segments old es new
       → Leads (geometry sets ways) (replicate (length es) (Core i)) v es (with_hart v i new)

@@ -82,7 +82,7 @@ impl<'p, const SETS: usize, const WAYS: usize> Board<'p, SETS, WAYS> {
 }
 
 impl<'p, const SETS: usize, const WAYS: usize, J: Journal<SETS, WAYS>> Board<'p, SETS, WAYS, J> {
-    /// The same with a journal that tells of no step yet.
+    /// A board of a program on a machine that is booted for it, with a journal that tells of no step yet.
     pub fn boot_with(
         alloc: Global,
         code: Code<'p>,

@@ -18,7 +18,7 @@ use Rattle.clap.specs.Walk.{answers_to, finished, nothing_held, rows_after, stop
 use Rattle.command_line.specs.Command.{asm, debug, dis, logtm, outcomes, run}
 use Rattle.command_line.specs.Reading.{AsksFor, IsComplete, IsFaultOf, IsReadingFault, IsReadingOf, IsRefusal, IsRequestOf}
 use Rattle.command_line.specs.declared.fault.OrderFault.{OrderFault}
-use Rattle.command_line.specs.declared.fault.OrderFault.TheVariants.{NoMemory, Refused, ThreadsAlone, MixAlone, TwoFiles, TwoViews, LongPicture, Value}
+use Rattle.command_line.specs.declared.fault.OrderFault.TheVariants.{NoMemory, Refused, ThreadsAlone, MixAlone, TwoFiles, TwoViews, LongPicture, LongPage, Value}
 use Rattle.command_line.specs.declared.request.Request.{Request}
 use Rattle.command_line.proofs.Filled.{is_none}
 use Rattle.command_line.proofs.Levels.{both_there, given_first, lacks_nothing, level_passes, subcommand_checked, value_there}
@@ -196,9 +196,10 @@ pub refused_words : (words : List Text) (a : App) (error : Error) (fault : Order
     → (kind_of error ≡ OutOfMemory → fault ≡ NoMemory) → IsRefusal fault → IsFaultOf words fault
 refused_words words a error (Refused text) is fails memory refusal =
     ⊎_elim (λ out. absurd (true≢false (sym (ap is_no_memory (memory out))))) (λ among e. among_some _ _ among (ap (λ b. fault_of b words) is ∙ e)) (fails (ap is_simple_and_free is))
-refused_words words a error (Value value) is fails memory refusal = absurd refusal
+refused_words words a error (Value argument value) is fails memory refusal = absurd refusal
 refused_words words a error TwoViews is fails memory refusal = absurd refusal
 refused_words words a error LongPicture is fails memory refusal = absurd refusal
+refused_words words a error LongPage is fails memory refusal = absurd refusal
 refused_words words a error ThreadsAlone is fails memory refusal = absurd refusal
 refused_words words a error MixAlone is fails memory refusal = absurd refusal
 refused_words words a error TwoFiles is fails memory refusal = absurd refusal
@@ -212,9 +213,10 @@ read_words words name rows (Ok request) asks read = (name, rows, asks, read)
 read_words words name rows (Err (Refused text)) asks bad =
     ⊎_elim (λ run. ⊎_elim (λ first. absurd first) (λ options. ⊎_elim (λ show. absurd show) (λ threads. absurd threads.2) options.2) run.1)
     (⊎_elim (λ debug. absurd debug.1) (λ outcomes. absurd outcomes.1)) bad
-read_words words name rows (Err (Value value)) asks bad = (name, rows, asks, bad)
+read_words words name rows (Err (Value argument value)) asks bad = (name, rows, asks, bad)
 read_words words name rows (Err TwoViews) asks bad = (name, rows, asks, bad)
 read_words words name rows (Err LongPicture) asks bad = (name, rows, asks, bad)
+read_words words name rows (Err LongPage) asks bad = (name, rows, asks, bad)
 read_words words name rows (Err ThreadsAlone) asks bad = (name, rows, asks, bad)
 read_words words name rows (Err MixAlone) asks bad = (name, rows, asks, bad)
 read_words words name rows (Err TwoFiles) asks bad = (name, rows, asks, bad)

@@ -10,21 +10,23 @@ use Rattle.clap.specs.Words.{Row, Text, all_of, first_of, first_value, matched_o
 use Rattle.clap.specs.declared.parser.matches.Found.{Found}
 use Rattle.clap.proofs.WalkLemmas.{first_value-rows, raw_values-rows}
 use Rattle.texts.specs.Numbers.{number_of}
-use Rattle.command_line.specs.Reading.{AreWordsOf, HasBoth, HasValue, IsWitnessOf, NamesFirstOf, can_write, given, malformed, witness_paths, words_of}
+use Rattle.command_line.specs.Reading.{AreWordsOf, HasBoth, HasValue, IsWitnessOf, NamesFirstOf, can_write, given, malformed, meant_for, witness_paths, words_of}
+use Rattle.command_line.specs.declared.argument.Argument.{Argument}
+use Rattle.command_line.specs.declared.argument.Argument.TheVariants as argument
 use Rattle.command_line.specs.declared.fault.OrderFault.{OrderFault}
-use Rattle.command_line.specs.declared.fault.OrderFault.TheVariants.{Refused, Value, TwoViews, LongPicture, ThreadsAlone, MixAlone, TwoFiles, NoMemory}
+use Rattle.command_line.specs.declared.fault.OrderFault.TheVariants.{Refused, Value, TwoViews, LongPicture, LongPage, ThreadsAlone, MixAlone, TwoFiles, NoMemory}
 use Rattle.command_line.specs.declared.request.Witness.{Witness}
 use Rattle.command_line.specs.declared.request.Word.{Word}
 
-module _ {T : Type 0} (read : Text → Option T) (default : T) where
+module _ {T : Type 0} (argument : Argument) (read : Text → Option T) (default : T) where
   here : (text : Bor Text) (o : Option T) → o ≡ read text.now
-      → MatchResult (ok_or o (Value text)) (λ x. option_map_or read (Some text.now) (Some default) ≡ Some x) (NamesFirstOf (malformed read (text.now ∷ [])))
+      → MatchResult (ok_or o (Value argument text)) (λ x. option_map_or read (Some text.now) (Some default) ≡ Some x) (NamesFirstOf (malformed argument read (text.now ∷ [])))
   here text (Some x) is = sym is
   here text None is = rw (← is) refl
 
   -- the value of an option is read, or is the first malformed one
   pub option_read : (given : Option Text) (text : Bor Text) (o : Option T) (r : Result T OrderFault) → Some text.now ≡ given → o ≡ read text.now
-      → r ≡ ok_or o (Value text) → MatchResult r (λ x. option_map_or read given (Some default) ≡ Some x) (NamesFirstOf (malformed read (option_to_list given)))
+      → r ≡ ok_or o (Value argument text) → MatchResult r (λ x. option_map_or read given (Some default) ≡ Some x) (NamesFirstOf (malformed argument read (option_to_list given)))
   option_read given text o r found is reads = rw (reads, ← found) (here text o is)
 
 -- the WORDs as the getter gives them
@@ -37,29 +39,30 @@ value_is_there f id (Some text) is has = refl
 value_is_there f id None is has = absurd (true≢false (sym has ∙ ap is_some (sym (is ∙ first_value-rows f id))))
 
 -- a value that is read is not malformed
-pub none_malformed : {T : Type 0} (read : Text → Option T) (default x : T) (given : Option Text) → option_map_or read given (Some default) ≡ Some x → malformed read (option_to_list given) ≡ []
-none_malformed read default x None is = refl
-none_malformed read default x (Some text) is = rw is refl
+pub none_malformed : {T : Type 0} (argument : Argument) (read : Text → Option T) (default x : T) (given : Option Text) → option_map_or read given (Some default) ≡ Some x → malformed argument read (option_to_list given) ≡ []
+none_malformed argument read default x None is = refl
+none_malformed argument read default x (Some text) is = rw is refl
 
 -- the first of some texts is the first of more
-pub first_of_more : (xs ys : List Text) (fault : OrderFault) → NamesFirstOf xs fault → NamesFirstOf (xs ++ ys) fault
+pub first_of_more : (xs ys : List (Argument × Text)) (fault : OrderFault) → NamesFirstOf xs fault → NamesFirstOf (xs ++ ys) fault
 first_of_more xs ys (Refused text) first = absurd first
-first_of_more [] ys (Value value) first = absurd (cc)
-first_of_more (x ∷ xs) ys (Value value) first = first
+first_of_more [] ys (Value argument value) first = absurd (cc)
+first_of_more (x ∷ xs) ys (Value argument value) first = first
 first_of_more xs ys TwoViews first = absurd first
 first_of_more xs ys LongPicture first = absurd first
+first_of_more xs ys LongPage first = absurd first
 first_of_more xs ys ThreadsAlone first = absurd first
 first_of_more xs ys MixAlone first = absurd first
 first_of_more xs ys TwoFiles first = absurd first
 first_of_more xs ys NoMemory first = tt
 
 -- a fault in the values behind one that is read is the first of all
-pub first_behind : {T : Type 0} (read : Text → Option T) (default x : T) (given : Option Text) (rest : List Text) (fault : OrderFault)
-    → option_map_or read given (Some default) ≡ Some x → NamesFirstOf rest fault → NamesFirstOf (malformed read (option_to_list given) ++ rest) fault
-first_behind read default x given rest fault is first = rw (none_malformed read default x given is) first
+pub first_behind : {T : Type 0} (argument : Argument) (read : Text → Option T) (default x : T) (given : Option Text) (rest : List (Argument × Text)) (fault : OrderFault)
+    → option_map_or read given (Some default) ≡ Some x → NamesFirstOf rest fault → NamesFirstOf (malformed argument read (option_to_list given) ++ rest) fault
+first_behind argument read default x given rest fault is first = rw (none_malformed argument read default x given is) first
 
 -- words that are read are not malformed
-pub words_well_formed : (texts : List Text) (words : List Word) → map (λ w. Some w.addr) words ≡ map number_of texts → malformed number_of texts ≡ []
+pub words_well_formed : (texts : List Text) (words : List Word) → map (λ w. Some w.addr) words ≡ map number_of texts → malformed argument.Word number_of texts ≡ []
 words_well_formed [] words are = refl
 words_well_formed (text ∷ texts) [] are = absurd (cc)
 words_well_formed (text ∷ texts) (word ∷ words) are =
@@ -97,21 +100,21 @@ both_values f values default is both = sym (is ∙ raw_values-rows f (codes "wit
 -- the first of them is malformed
 pub number_refused : (f : Found) (values : List (Bor Text)) (default : Bor Text) → Some (map (λ s. s.now) values) ≡ option_map raw_values (matched_of f (codes "witness"))
     → HasBoth (codes "witness") (rows_of f) → number_of (slice_index_or values 0 default).now ≡ None
-    → NamesFirstOf (malformed number_of (given (codes "witness") (rows_of f))) (Value (slice_index_or values 0 default))
+    → NamesFirstOf (malformed argument.Witness number_of (given (codes "witness") (rows_of f))) (Value argument.Witness (slice_index_or values 0 default))
 number_refused f values default is both none = rw (first_of_all (codes "witness") (rows_of f), both_values f values default is both, none) refl
 
 -- the outcome's number is read
-number_well_formed : (rows : List Row) (witness : Option Witness) → IsWitnessOf rows witness → malformed number_of (given (codes "witness") rows) ≡ []
+number_well_formed : (rows : List Row) (witness : Option Witness) → IsWitnessOf rows witness → malformed argument.Witness number_of (given (codes "witness") rows) ≡ []
 number_well_formed rows None is = rw (first_of_all (codes "witness") rows, is) refl
 number_well_formed rows (Some witness) is = rw (first_of_all (codes "witness") rows, is.1, is.2) refl
 
 -- a fault behind it is the first of all
-pub behind_witness : (rows : List Row) (witness : Option Witness) (rest : List Text) (fault : OrderFault) → IsWitnessOf rows witness → NamesFirstOf rest fault
-    → NamesFirstOf (malformed number_of (given (codes "witness") rows) ++ rest) fault
+pub behind_witness : (rows : List Row) (witness : Option Witness) (rest : List (Argument × Text)) (fault : OrderFault) → IsWitnessOf rows witness → NamesFirstOf rest fault
+    → NamesFirstOf (malformed argument.Witness number_of (given (codes "witness") rows) ++ rest) fault
 behind_witness rows witness rest fault is first = rw (number_well_formed rows witness is) first
 
 -- the path is the last value that is malformed
 pub path_refused : (rows : List Row) (witness : Witness) (words : List Word) → IsWitnessOf rows (Some witness) → AreWordsOf (words_of rows) words
     → can_write rows witness.path.now ≡ false
-    → NamesFirstOf (malformed number_of (words_of rows) ++ filter (λ path. not (can_write rows path)) (witness_paths rows)) (Value witness.path)
+    → NamesFirstOf (malformed argument.Word number_of (words_of rows) ++ meant_for argument.Witness (filter (λ path. not (can_write rows path)) (witness_paths rows))) (Value argument.Witness witness.path)
 path_refused rows witness words is are bad = rw (words_well_formed (words_of rows) words are.1, is.1, bad) refl

@@ -6,11 +6,13 @@ use Rattle.std.specs.Str.{bytes_eq}
 use Rattle.clap.specs.Words.{Row, Text, all_of, fault_of, first_of, subcommand_of}
 use Rattle.command_line.specs.Command.{logtm}
 use Rattle.texts.specs.Numbers.{number_of}
+use Rattle.command_line.specs.declared.argument.Argument.{Argument}
+use Rattle.command_line.specs.declared.argument.Argument.TheVariants as argument
 use Rattle.command_line.specs.declared.fault.OrderFault.{OrderFault}
 use Rattle.command_line.specs.declared.fault.OrderFault.TheVariants.{Refused, Value, NoMemory}
 use Rattle.command_line.specs.declared.options.Options.{Options}
 use Rattle.command_line.specs.declared.request.Cache.{Cache}
-use Rattle.command_line.specs.declared.request.Cache.TheVariants.{Small, Normal}
+use Rattle.command_line.specs.declared.request.Cache.TheVariants.{Small, Normal, OneByOne, OneByTwo, TwoByTwo, FourByOne, FourByTwo, EightByTwo, EightByFour, SixtyFourByFour, SixtyFourByEight}
 use Rattle.command_line.specs.declared.request.Request.{Request}
 use Rattle.command_line.specs.declared.request.Request.TheVariants.{Run, Debug, Outcomes, Dis, Asm}
 use Rattle.command_line.specs.declared.request.Search.{Search}
@@ -22,11 +24,21 @@ use Rattle.command_line.specs.declared.request.Word.{Word}
 use Rattle.command_line.specs.Mixes.{mix_of}
 use Rattle.command_line.specs.Runs.{IsRunFault, IsRunOf}
 
--- the cache of this name
-abbrev pub cache_of : Text → Option Cache
+-- the cache of this name, or of this size: its sets, and the ways of each
+unfoldable pub cache_of : Text → Option Cache
 cache_of text =
-    if bytes_eq text (codes "small") then Some Small
-    else if bytes_eq text (codes "normal") then Some Normal else None
+    if bytes_eq text (codes "small") || bytes_eq text (codes "2x1") then Some Small
+    else if bytes_eq text (codes "normal") || bytes_eq text (codes "16x4") then Some Normal
+    else if bytes_eq text (codes "1x1") then Some OneByOne
+    else if bytes_eq text (codes "1x2") then Some OneByTwo
+    else if bytes_eq text (codes "2x2") then Some TwoByTwo
+    else if bytes_eq text (codes "4x1") then Some FourByOne
+    else if bytes_eq text (codes "4x2") then Some FourByTwo
+    else if bytes_eq text (codes "8x2") then Some EightByTwo
+    else if bytes_eq text (codes "8x4") then Some EightByFour
+    else if bytes_eq text (codes "64x4") then Some SixtyFourByFour
+    else if bytes_eq text (codes "64x8") then Some SixtyFourByEight
+    else None
 
 -- the form of this name, in which counts are shown
 abbrev pub stats_of : Text → Option (Option Stats)
@@ -54,26 +66,30 @@ is_given id rows = option_map_or (λ text. bytes_eq text (codes "true")) (first_
 abbrev pub read_or : {T : Type 0} → (Text → Option T) → T → Text → List Row → Option T
 read_or read default id rows = option_map_or read (first_of id rows) (Some default)
 
--- those of the texts that are not read as anything
-abbrev pub malformed : {T : Type 0} → (Text → Option T) → List Text → List Text
-malformed read texts = filter (λ text. not (is_some (read text))) texts
+-- the texts, each with what it is for
+abbrev pub meant_for : Argument → List Text → List (Argument × Text)
+meant_for argument texts = map (λ text. (argument, text)) texts
+
+-- those of the texts for an argument that are not read as anything
+abbrev pub malformed : {T : Type 0} → Argument → (Text → Option T) → List Text → List (Argument × Text)
+malformed argument read texts = meant_for argument (filter (λ text. not (is_some (read text))) texts)
 
 -- the malformed values of a run, in the order in which its values are read
-abbrev pub malformed_of_run : List Row → List Text
-malformed_of_run rows = malformed number_of (given (codes "harts") rows)
-    ++ (malformed number_of (given (codes "memory") rows)
-    ++ (malformed number_of (given (codes "steps") rows)
-    ++ (malformed cache_of (given (codes "cache") rows)
-    ++ (malformed stats_of (given (codes "stats") rows)
-    ++ (malformed seed_of (given (codes "seed") rows)
-    ++ (malformed mix_of (given (codes "mix") rows)
-    ++ malformed number_of (words_of rows)))))))
+abbrev pub malformed_of_run : List Row → List (Argument × Text)
+malformed_of_run rows = malformed argument.Harts number_of (given (codes "harts") rows)
+    ++ (malformed argument.Memory number_of (given (codes "memory") rows)
+    ++ (malformed argument.Steps number_of (given (codes "steps") rows)
+    ++ (malformed argument.Cache cache_of (given (codes "cache") rows)
+    ++ (malformed argument.Stats stats_of (given (codes "stats") rows)
+    ++ (malformed argument.Seed seed_of (given (codes "seed") rows)
+    ++ (malformed argument.Mix mix_of (given (codes "mix") rows)
+    ++ malformed argument.Word number_of (words_of rows)))))))
 
 -- the same of a machine that is to be played by hand
-abbrev pub malformed_of_setup : List Row → List Text
-malformed_of_setup rows = malformed number_of (given (codes "harts") rows)
-    ++ (malformed number_of (given (codes "memory") rows)
-    ++ malformed cache_of (given (codes "cache") rows))
+abbrev pub malformed_of_setup : List Row → List (Argument × Text)
+malformed_of_setup rows = malformed argument.Harts number_of (given (codes "harts") rows)
+    ++ (malformed argument.Memory number_of (given (codes "memory") rows)
+    ++ malformed argument.Cache cache_of (given (codes "cache") rows))
 
 -- what --witness is given behind the outcome's number: the path
 abbrev pub witness_paths : List Row → List Text
@@ -84,13 +100,13 @@ abbrev pub can_write : List Row → Text → Bool
 can_write rows path = not (bytes_eq path (codes "-") || option_map_or (λ file. bytes_eq path file) (first_of (codes "file") rows) false)
 
 -- the malformed values of a search, in the order in which its values are read: last a path that can't be written to
-abbrev pub malformed_of_search : List Row → List Text
-malformed_of_search rows = malformed number_of (given (codes "harts") rows)
-    ++ (malformed number_of (given (codes "memory") rows)
-    ++ (malformed number_of (given (codes "states") rows)
-    ++ (malformed number_of (given (codes "witness") rows)
-    ++ (malformed number_of (words_of rows)
-    ++ filter (λ path. not (can_write rows path)) (witness_paths rows)))))
+abbrev pub malformed_of_search : List Row → List (Argument × Text)
+malformed_of_search rows = malformed argument.Harts number_of (given (codes "harts") rows)
+    ++ (malformed argument.Memory number_of (given (codes "memory") rows)
+    ++ (malformed argument.States number_of (given (codes "states") rows)
+    ++ (malformed argument.Witness number_of (given (codes "witness") rows)
+    ++ (malformed argument.Word number_of (words_of rows)
+    ++ meant_for argument.Witness (filter (λ path. not (can_write rows path)) (witness_paths rows))))))
 
 -- the words are these texts with their numbers
 abbrev pub AreWordsOf : List Text → List Word → Type 0
@@ -151,11 +167,11 @@ IsReadingOf name rows (Asm source target) = (name ≡ codes "asm")
     × (first_of (codes "source") rows ≡ Some source.now)
     × (first_of (codes "target") rows ≡ Some target.now)
 
--- the fault names the first of these texts, or memory ran out
-abbrev pub NamesFirstOf : List Text → OrderFault → Type 0
-NamesFirstOf texts (Value value) = slice_get texts 0 ≡ Some value.now
-NamesFirstOf texts NoMemory = ⊤
-NamesFirstOf texts other = ⊥
+-- the fault names the first of these values and what it is for, or memory ran out
+abbrev pub NamesFirstOf : List (Argument × Text) → OrderFault → Type 0
+NamesFirstOf values (Value argument value) = slice_get values 0 ≡ Some (argument, value.now)
+NamesFirstOf values NoMemory = ⊤
+NamesFirstOf values other = ⊥
 
 -- why a run's values stand for nothing: one is malformed; or none is, and what they ask for doesn't go together
 abbrev pub IsOptionsFault : List Row → OrderFault → Type 0

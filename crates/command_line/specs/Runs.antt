@@ -5,8 +5,10 @@ use Rattle.std.specs.List.{ends_with}
 use Rattle.std.specs.Option.{option_map_or}
 use Rattle.std.specs.Str.{bytes_eq}
 use Rattle.clap.specs.Words.{Text}
+use Rattle.command_line.specs.declared.argument.Argument.{Argument}
+use Rattle.command_line.specs.declared.argument.Argument.TheVariants as argument
 use Rattle.command_line.specs.declared.fault.OrderFault.{OrderFault}
-use Rattle.command_line.specs.declared.fault.OrderFault.TheVariants.{Value, TwoViews, LongPicture, ThreadsAlone, MixAlone, TwoFiles}
+use Rattle.command_line.specs.declared.fault.OrderFault.TheVariants.{Value, TwoViews, LongPicture, LongPage, ThreadsAlone, MixAlone, TwoFiles}
 use Rattle.command_line.specs.declared.options.Options.{Options}
 use Rattle.command_line.specs.declared.request.Run.{Run}
 use Rattle.command_line.specs.declared.request.Show.{Show}
@@ -38,21 +40,27 @@ IsTimelineAlone options path = (options.trace ≡ None) × (options.timeline ≡
 abbrev pub are_several : Options → Bool
 are_several options = (is_some options.trace && is_some options.timeline) || ((is_some options.trace || is_some options.timeline) && is_some options.stats)
 
--- the form that the path's ending names of a timeline: events, or a picture
+-- the form that the path's ending names of a timeline: events, a picture, or a page
 abbrev pub drawing_at : Text → Option View
 drawing_at path =
     if ends_with nat_eq path (codes ".json") then Some view.Timeline
-    else if ends_with nat_eq path (codes ".svg") then Some view.Picture else None
+    else if ends_with nat_eq path (codes ".svg") then Some view.Picture
+    else if ends_with nat_eq path (codes ".html") then Some view.Page else None
 
 -- the most steps that a picture shows
 abbrev pub most_drawn : ℕ
 most_drawn = 2000
+
+-- the most steps that a page shows
+abbrev pub most_paged : ℕ
+most_paged = 20000
 
 -- this goes to the file with this path
 abbrev pub IsViewAt : Options → View → Bor Text → Type 0
 IsViewAt options view.Trace path = IsTraceAlone options path × (path.now ≢ codes "-")
 IsViewAt options view.Timeline path = IsTimelineAlone options path × (drawing_at path.now ≡ Some view.Timeline)
 IsViewAt options view.Picture path = IsTimelineAlone options path × (drawing_at path.now ≡ Some view.Picture) × (options.steps ≤ most_drawn)
+IsViewAt options view.Page path = IsTimelineAlone options path × (drawing_at path.now ≡ Some view.Page) × (options.steps ≤ most_paged)
 
 -- this is shown of the run; a trace goes to standard output for a dash
 abbrev pub IsShowOf : Options → Show → Type 0
@@ -62,16 +70,19 @@ IsShowOf options show.Trace = (path : Bor Text) × IsTraceAlone options path × 
 IsShowOf options (show.View view path) = IsViewAt options view path × (reads options path.now ≡ false)
 
 -- what is to be shown can't go to this path: the run reads it, or no form of a timeline has its ending
-abbrev pub IsUnusable : Options → Bor Text → Type 0
-IsUnusable options path = (IsTraceAlone options path × (path.now ≢ codes "-") × (reads options path.now ≡ true))
-    ⊎ (IsTimelineAlone options path × ((reads options path.now ≡ true) ⊎ (drawing_at path.now ≡ None)))
+abbrev pub IsUnusable : Options → Argument → Bor Text → Type 0
+IsUnusable options argument.Trace path = IsTraceAlone options path × (path.now ≢ codes "-") × (reads options path.now ≡ true)
+IsUnusable options argument.Timeline path = IsTimelineAlone options path × ((reads options path.now ≡ true) ⊎ (drawing_at path.now ≡ None))
+IsUnusable options other path = ⊥
 
 -- why nothing can be shown
 abbrev pub IsShowFault : Options → OrderFault → Type 0
 IsShowFault options TwoViews = are_several options ≡ true
-IsShowFault options (Value path) = IsUnusable options path
+IsShowFault options (Value what path) = IsUnusable options what path
 IsShowFault options LongPicture = (path : Bor Text) × IsTimelineAlone options path × (reads options path.now ≡ false)
     × (drawing_at path.now ≡ Some view.Picture) × (most_drawn < options.steps)
+IsShowFault options LongPage = (path : Bor Text) × IsTimelineAlone options path × (reads options path.now ≡ false)
+    × (drawing_at path.now ≡ Some view.Page) × (most_paged < options.steps)
 IsShowFault options other = ⊥
 
 -- ---- how it is made
@@ -120,7 +131,7 @@ abbrev pub IsWayFault : Options → Show → OrderFault → Type 0
 IsWayFault options show ThreadsAlone =
     ((options.threads ≡ true) × (stands_alone options show ≡ false)) ⊎ ((options.threads ≡ false) × (options.seed ≡ None) × IsSome options.history)
 IsWayFault options show MixAlone = (options.threads ≡ false) × (options.seed ≡ None) × (options.history ≡ None) × IsSome options.mix
-IsWayFault options show (Value path) = ((options.threads ≡ true) × (stands_alone options show ≡ true) ⊎ (options.threads ≡ false) × IsSome options.seed)
+IsWayFault options show (Value what path) = (what ≡ argument.History) × ((options.threads ≡ true) × (stands_alone options show ≡ true) ⊎ (options.threads ≡ false) × IsSome options.seed)
     × (options.history ≡ Some path) × (can_keep options path.now ≡ false)
 IsWayFault options show TwoFiles = (options.threads ≡ false) × IsSome options.seed × ((path : Bor Text) × (options.history ≡ Some path) × (can_keep options path.now ≡ true)) × IsInFile show
 IsWayFault options show other = ⊥

@@ -1,6 +1,7 @@
 ghost use Rattle.std.specs.Prelude.{◌≡◌};
 ghost use Rattle.command_line.specs.declared.fault.OrderFault.TheVariants.{NoMemory};
 
+use crate::argument::Argument;
 use std::alloc::{AllocError, AllocFailed};
 
 /// Why a command line gives no order.
@@ -9,14 +10,16 @@ pub enum OrderFault<'a> {
     /// clap refused the words, or was asked for help: the text that it has for the user. clap has no contract on its
     /// texts, so none says which text this is.
     Refused(String),
-    /// The first malformed value, as the user wrote it: no number below 2^32, for `--cache` and `--stats` the
+    /// The first malformed value: what it is for, and how the user wrote it. It is no number below 2^32, for `--cache` and `--stats` the
     /// name of no cache and no form, for `--mix` no three numbers that aren't all 0, or for `--trace`, `--timeline`, `--history` and `--witness` a path where nothing
-    /// can be written, and for `--timeline` too one that ends neither in `.json` nor in `.svg`.
-    Value(&'a str),
+    /// can be written, and for `--timeline` too one that ends in none of `.json`, `.svg` and `.html`.
+    Value(Argument, &'a str),
     /// More than one is asked for of a trace, a timeline and counts.
     TwoViews,
     /// A picture is asked for of a run that may take more steps than a picture shows.
     LongPicture,
+    /// A page is asked for of a run that may take more steps than a page shows.
+    LongPage,
     /// A run in threads is given a schedule or chance, or more is to be shown of it, or it is to be counted; or the history is asked for of a run that is
     /// made neither in threads nor by chance.
     ThreadsAlone,

@@ -2,8 +2,11 @@ ghost use Rattle.std.specs.Prelude.{◌≡◌, MatchOption, MatchResult, None, S
 ghost use Rattle.command_line.specs.Runs.{IsRunFault, IsRunOf, IsShowFault, IsShowOf, IsTimelineAlone, IsTraceAlone};
 ghost use Rattle.command_line.specs.Runs.{IsInFile, IsWayFault, IsWayOf, can_keep, drawing_at, reads, shown, stands_alone};
 
+use crate::argument::Argument;
 use crate::fault::OrderFault;
-use crate::request::{Chance, MOST_DRAWN, Mix, Print, Run, Setup, Show, Stats, View, Way, Word};
+use crate::request::{
+    Chance, MOST_DRAWN, MOST_PAGED, Mix, Print, Run, Setup, Show, Stats, View, Way, Word,
+};
 
 /// The weights where none are given.
 const DEFAULT_MIX: Mix = Mix {
@@ -65,7 +68,7 @@ impl<'a> Options<'a> {
             return Ok(Show::Trace);
         }
         if self.reads(path) {
-            return Err(OrderFault::Value(path));
+            return Err(OrderFault::Value(Argument::Trace, path));
         }
         Ok(Show::View(View::Trace, path))
     }
@@ -76,12 +79,13 @@ impl<'a> Options<'a> {
         ensures { MatchResult result (IsShowOf self.now) (IsShowFault self.now) }
     {
         if self.reads(path) {
-            return Err(OrderFault::Value(path));
+            return Err(OrderFault::Value(Argument::Timeline, path));
         }
         match drawing_at(path) {
             Some(View::Picture) if self.steps > MOST_DRAWN => Err(OrderFault::LongPicture),
+            Some(View::Page) if self.steps > MOST_PAGED => Err(OrderFault::LongPage),
             Some(view) => Ok(Show::View(view, path)),
-            None => Err(OrderFault::Value(path)),
+            None => Err(OrderFault::Value(Argument::Timeline, path)),
         }
     }
 
@@ -107,7 +111,7 @@ impl<'a> Options<'a> {
             return Err(OrderFault::ThreadsAlone);
         }
         match self.history {
-            Some(path) if !self.can_keep(path) => Err(OrderFault::Value(path)),
+            Some(path) if !self.can_keep(path) => Err(OrderFault::Value(Argument::History, path)),
             history => Ok(Way::Threads { history }),
         }
     }
@@ -146,7 +150,7 @@ impl<'a> Options<'a> {
             });
         };
         if !self.can_keep(history) {
-            return Err(OrderFault::Value(history));
+            return Err(OrderFault::Value(Argument::History, history));
         }
         match print_of(show) {
             Some(print) => Ok(Way::Kept {
@@ -195,6 +199,8 @@ fn drawing_at(path: &str) -> Option<View>
         Some(View::Timeline)
     } else if path.as_bytes().ends_with(b".svg") {
         Some(View::Picture)
+    } else if path.as_bytes().ends_with(b".html") {
+        Some(View::Page)
     } else {
         None
     }

@@ -20,7 +20,8 @@ const HARTS_HELP: &str = "How many harts run it, 1 if not given";
 
 const MEMORY_HELP: &str = "How many bytes of memory there are, 1048576 if not given";
 
-const CACHE_HELP: &str = "The cache of each hart, small or normal, normal if not given";
+const CACHE_HELP: &str =
+    "The cache of each hart: small, normal or SETSxWAYS, as 4x2, normal if not given";
 
 // What help calls the values of `--witness`.
 const WITNESS_VALUES: &[&str] = &["K", "LIST"];
@@ -35,7 +36,7 @@ const VERSION: &str = "1.0.0\nProved in the logic dac8208d650f15bf";
 /// run, the values of `--harts`, `--memory`, `--steps`, `--cache`, `--stats`, `--seed` and `--mix` and then the WORDs are read, in
 /// this order, up to the first malformed one; those of `debug` likewise. Then more than one of `--trace`, `--timeline` and `--stats`
 /// is refused; then the value of `--trace` or `--timeline` is malformed where it is the path of a file that the run reads, and that of
-/// `--timeline` where it ends neither in `.json` nor in `.svg`; and a picture is refused where `--steps` is above what it shows. Then
+/// `--timeline` where it ends in none of `.json`, `.svg` and `.html`; and a picture or a page is refused where `--steps` is above what it shows. Then
 /// `--threads` is refused beside `--schedule`, `--seed`, `--mix`, `--trace`, `--timeline` and `--stats`, `--history` without it and without
 /// `--seed`, and `--mix` without `--seed`; then the value of `--history` is malformed where it is a dash or the path of a file that the run
 /// reads; and last `--history` is refused beside `--timeline`, and beside a trace in a file.
@@ -201,7 +202,7 @@ fn with_views<'a>(
 {
     let trace = "A file for the trace, a line for each entry; - for standard output";
     let timeline =
-        "A file for the timeline: FILE.json, as trace events, or FILE.svg, a picture of 2000 steps at most";
+        "A file for the timeline: FILE.json, as trace events, FILE.svg, a picture of 2000 steps at most, or FILE.html, a page of 20000 at most";
     let stats = "Counts behind the report, as a table or as csv; not with a trace or a timeline";
     let command = with_option(alloc, command, "trace", "FILE", trace);
     let command = with_option(alloc, command, "timeline", "FILE", timeline);

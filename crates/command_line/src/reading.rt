@@ -5,7 +5,9 @@ ghost use Rattle.command_line.specs.Reading.{AreOptionsOf, AreWordsOf, HasBoth, 
 ghost use Rattle.command_line.specs.Reading.{IsWitnessOf, NamesFirstOf, cache_of, can_write, given, is_given, malformed, malformed_of_run, malformed_of_search};
 ghost use Rattle.command_line.specs.Reading.{malformed_of_setup, read_or, seed_of, stats_of, words_of};
 ghost use Rattle.command_line.specs.Mixes.{mix_of};
+ghost use Rattle.command_line.specs.declared.argument.Argument.TheVariants as argument;
 
+use crate::argument::Argument;
 use crate::fault::OrderFault;
 use crate::mix::mix_named;
 use crate::options::Options;
@@ -58,9 +60,9 @@ fn read_options<'a>(alloc: Global, matches: &ArgMatches<'a>) -> Result<Options<'
         (NamesFirstOf (malformed_of_run (rows_of (found_of matches.now)))) }
 {
     let file = argument(matches, "file");
-    let harts = number_given(matches, "harts", DEFAULT_HARTS)?;
-    let memory = number_given(matches, "memory", DEFAULT_MEMORY)?;
-    let steps = number_given(matches, "steps", DEFAULT_STEPS)?;
+    let harts = number_given(matches, Argument::Harts, "harts", DEFAULT_HARTS)?;
+    let memory = number_given(matches, Argument::Memory, "memory", DEFAULT_MEMORY)?;
+    let steps = number_given(matches, Argument::Steps, "steps", DEFAULT_STEPS)?;
     let cache = cache_given(matches, "cache", DEFAULT_CACHE)?;
     let stats = stats_given(matches, "stats")?;
     let seed = seed_given(matches, "seed")?;
@@ -93,8 +95,8 @@ fn read_setup<'a>(matches: &ArgMatches<'a>) -> Result<Setup<'a>, OrderFault<'a>>
         (NamesFirstOf (malformed_of_setup (rows_of (found_of matches.now)))) }
 {
     let file = argument(matches, "file");
-    let harts = number_given(matches, "harts", DEFAULT_HARTS)?;
-    let memory = number_given(matches, "memory", DEFAULT_MEMORY)?;
+    let harts = number_given(matches, Argument::Harts, "harts", DEFAULT_HARTS)?;
+    let memory = number_given(matches, Argument::Memory, "memory", DEFAULT_MEMORY)?;
     let cache = cache_given(matches, "cache", DEFAULT_CACHE)?;
     Ok(Setup {
         file,
@@ -112,13 +114,16 @@ fn read_search<'a>(alloc: Global, matches: &ArgMatches<'a>) -> Result<Search<'a>
         (NamesFirstOf (malformed_of_search (rows_of (found_of matches.now)))) }
 {
     let file = argument(matches, "file");
-    let harts = number_given(matches, "harts", DEFAULT_HARTS)?;
-    let memory = number_given(matches, "memory", DEFAULT_MEMORY)?;
-    let states = number_given(matches, "states", DEFAULT_STATES)?;
+    let harts = number_given(matches, Argument::Harts, "harts", DEFAULT_HARTS)?;
+    let memory = number_given(matches, Argument::Memory, "memory", DEFAULT_MEMORY)?;
+    let states = number_given(matches, Argument::States, "states", DEFAULT_STATES)?;
     let witness = witness_given(matches)?;
     let words = words_given(alloc, matches)?;
     match witness {
-        Some(Witness { path, .. }) if !can_write(matches, path) => Err(OrderFault::Value(path)),
+        Some(Witness { path, .. }) if !can_write(matches, path) => Err(OrderFault::Value(
+            Argument::Witness,
+            path,
+        )),
         witness => Ok(Search {
             file,
             harts,
@@ -138,13 +143,18 @@ fn argument<'a>(matches: &ArgMatches<'a>, id: &str) -> &'a str
     matches.get_str(id).unwrap()
 }
 
-fn number_given<'a>(matches: &ArgMatches<'a>, id: &str, default: u32) -> Result<u32, OrderFault<'a>>
+fn number_given<'a>(
+    matches: &ArgMatches<'a>,
+    argument: Argument,
+    id: &str,
+    default: u32,
+) -> Result<u32, OrderFault<'a>>
     ensures { MatchResult result
         (λ n. read_or number_of default id.now (rows_of (found_of matches.now)) ≡ Some n)
-        (NamesFirstOf (malformed number_of (given id.now (rows_of (found_of matches.now))))) }
+        (NamesFirstOf (malformed argument number_of (given id.now (rows_of (found_of matches.now))))) }
 {
     match matches.get_str(id) {
-        Some(text) => number(text).ok_or(OrderFault::Value(text)),
+        Some(text) => number(text).ok_or(OrderFault::Value(argument, text)),
         None => Ok(default),
     }
 }
@@ -156,10 +166,10 @@ fn cache_given<'a>(
 ) -> Result<Cache, OrderFault<'a>>
     ensures { MatchResult result
         (λ cache. read_or cache_of default id.now (rows_of (found_of matches.now)) ≡ Some cache)
-        (NamesFirstOf (malformed cache_of (given id.now (rows_of (found_of matches.now))))) }
+        (NamesFirstOf (malformed argument.Cache cache_of (given id.now (rows_of (found_of matches.now))))) }
 {
     match matches.get_str(id) {
-        Some(text) => cache_named(text).ok_or(OrderFault::Value(text)),
+        Some(text) => cache_named(text).ok_or(OrderFault::Value(Argument::Cache, text)),
         None => Ok(default),
     }
 }
@@ -168,10 +178,10 @@ fn cache_given<'a>(
 fn stats_given<'a>(matches: &ArgMatches<'a>, id: &str) -> Result<Option<Stats>, OrderFault<'a>>
     ensures { MatchResult result
         (λ stats. read_or stats_of None id.now (rows_of (found_of matches.now)) ≡ Some stats)
-        (NamesFirstOf (malformed stats_of (given id.now (rows_of (found_of matches.now))))) }
+        (NamesFirstOf (malformed argument.Stats stats_of (given id.now (rows_of (found_of matches.now))))) }
 {
     match matches.get_str(id) {
-        Some(text) => stats_named(text).ok_or(OrderFault::Value(text)),
+        Some(text) => stats_named(text).ok_or(OrderFault::Value(Argument::Stats, text)),
         None => Ok(None),
     }
 }
@@ -180,10 +190,10 @@ fn stats_given<'a>(matches: &ArgMatches<'a>, id: &str) -> Result<Option<Stats>, 
 fn seed_given<'a>(matches: &ArgMatches<'a>, id: &str) -> Result<Option<u32>, OrderFault<'a>>
     ensures { MatchResult result
         (λ seed. read_or seed_of None id.now (rows_of (found_of matches.now)) ≡ Some seed)
-        (NamesFirstOf (malformed seed_of (given id.now (rows_of (found_of matches.now))))) }
+        (NamesFirstOf (malformed argument.Seed seed_of (given id.now (rows_of (found_of matches.now))))) }
 {
     match matches.get_str(id) {
-        Some(text) => seed_named(text).ok_or(OrderFault::Value(text)),
+        Some(text) => seed_named(text).ok_or(OrderFault::Value(Argument::Seed, text)),
         None => Ok(None),
     }
 }
@@ -192,10 +202,10 @@ fn seed_given<'a>(matches: &ArgMatches<'a>, id: &str) -> Result<Option<u32>, Ord
 fn mix_given<'a>(matches: &ArgMatches<'a>, id: &str) -> Result<Option<Mix>, OrderFault<'a>>
     ensures { MatchResult result
         (λ mix. read_or mix_of None id.now (rows_of (found_of matches.now)) ≡ Some mix)
-        (NamesFirstOf (malformed mix_of (given id.now (rows_of (found_of matches.now))))) }
+        (NamesFirstOf (malformed argument.Mix mix_of (given id.now (rows_of (found_of matches.now))))) }
 {
     match matches.get_str(id) {
-        Some(text) => mix_named(text).ok_or(OrderFault::Value(text)),
+        Some(text) => mix_named(text).ok_or(OrderFault::Value(Argument::Mix, text)),
         None => Ok(None),
     }
 }
@@ -220,14 +230,14 @@ fn flag_given(matches: &ArgMatches<'_>, id: &str) -> bool
 fn witness_given<'a>(matches: &ArgMatches<'a>) -> Result<Option<Witness<'a>>, OrderFault<'a>>
     requires { HasBoth (codes "witness") (rows_of (found_of matches.now)) }
     ensures { MatchResult result (IsWitnessOf (rows_of (found_of matches.now)))
-        (NamesFirstOf (malformed number_of (given (codes "witness") (rows_of (found_of matches.now))))) }
+        (NamesFirstOf (malformed argument.Witness number_of (given (codes "witness") (rows_of (found_of matches.now))))) }
 {
     match matches.get_strs("witness") {
         Some(values) => {
             let (text, path) = (values[0], values[1]);
             match number(text) {
                 Some(outcome) => Ok(Some(Witness { outcome, path })),
-                None => Err(OrderFault::Value(text)),
+                None => Err(OrderFault::Value(Argument::Witness, text)),
             }
         }
         None => Ok(None),
@@ -242,12 +252,22 @@ fn can_write(matches: &ArgMatches<'_>, path: &str) -> bool
     !(path == "-" || path == argument(matches, "file"))
 }
 
+#[tactic(auto, unfolding(crate::specs::Reading::cache_of))]
 fn cache_named(name: &str) -> Option<Cache>
     ensures { result ≡ cache_of name.now }
 {
     match name {
-        "small" => Some(Cache::Small),
-        "normal" => Some(Cache::Normal),
+        "1x1" => Some(Cache::OneByOne),
+        "1x2" => Some(Cache::OneByTwo),
+        "small" | "2x1" => Some(Cache::Small),
+        "2x2" => Some(Cache::TwoByTwo),
+        "4x1" => Some(Cache::FourByOne),
+        "4x2" => Some(Cache::FourByTwo),
+        "8x2" => Some(Cache::EightByTwo),
+        "8x4" => Some(Cache::EightByFour),
+        "normal" | "16x4" => Some(Cache::Normal),
+        "64x4" => Some(Cache::SixtyFourByFour),
+        "64x8" => Some(Cache::SixtyFourByEight),
         _ => None,
     }
 }
@@ -271,7 +291,7 @@ fn seed_named(text: &str) -> Option<Option<u32>>
 fn words_given<'a>(alloc: Global, matches: &ArgMatches<'a>) -> Result<Vec<Word<'a>>, OrderFault<'a>>
     ensures { MatchResult result
         (λ words. AreWordsOf (words_of (rows_of (found_of matches.now))) words.items)
-        (NamesFirstOf (malformed number_of (words_of (rows_of (found_of matches.now))))) }
+        (NamesFirstOf (malformed argument.Word number_of (words_of (rows_of (found_of matches.now))))) }
 {
     match matches.get_strs("words") {
         Some(texts) => read_words(alloc, texts),
@@ -281,7 +301,7 @@ fn words_given<'a>(alloc: Global, matches: &ArgMatches<'a>) -> Result<Vec<Word<'
 
 fn read_words<'a>(alloc: Global, texts: &[&'a str]) -> Result<Vec<Word<'a>>, OrderFault<'a>>
     ensures { MatchResult result (λ words. AreWordsOf (map (λ t. t.now) texts.now) words.items)
-        (NamesFirstOf (malformed number_of (map (λ t. t.now) texts.now))) }
+        (NamesFirstOf (malformed argument.Word number_of (map (λ t. t.now) texts.now))) }
 {
     let mut words = Vec::new(alloc);
     for &text in texts {
@@ -290,7 +310,7 @@ fn read_words<'a>(alloc: Global, texts: &[&'a str]) -> Result<Vec<Word<'a>>, Ord
                 text,
                 addr: address,
             })?,
-            None => return Err(OrderFault::Value(text)),
+            None => return Err(OrderFault::Value(Argument::Word, text)),
         }
     }
     Ok(words)

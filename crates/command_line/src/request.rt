@@ -155,18 +155,41 @@ pub enum View {
     Timeline,
     /// Its timeline as a picture, in SVG. Such a run takes at most [`MOST_DRAWN`] steps.
     Picture,
+    /// Its page, for a browser. Such a run takes at most [`MOST_PAGED`] steps.
+    Page,
 }
 
 /// The most steps of a run that a picture shows.
 pub const MOST_DRAWN: u32 = 2000;
 
-/// How large a hart's cache is.
+/// The most steps of a run that a page shows.
+pub const MOST_PAGED: u32 = 20_000;
+
+/// How large a hart's cache is: so many sets, of so many ways each.
 #[derive(Clone, Copy, Debug, PartialEq, Eq)]
 pub enum Cache {
+    /// 1 set of 1 way.
+    OneByOne,
+    /// 1 set of 2 ways.
+    OneByTwo,
     /// 2 sets of 1 way.
     Small,
+    /// 2 sets of 2 ways.
+    TwoByTwo,
+    /// 4 sets of 1 way.
+    FourByOne,
+    /// 4 sets of 2 ways.
+    FourByTwo,
+    /// 8 sets of 2 ways.
+    EightByTwo,
+    /// 8 sets of 4 ways.
+    EightByFour,
     /// 16 sets of 4 ways.
     Normal,
+    /// 64 sets of 4 ways.
+    SixtyFourByFour,
+    /// 64 sets of 8 ways.
+    SixtyFourByEight,
 }
 
 /// A form in which the counts of a run are shown.

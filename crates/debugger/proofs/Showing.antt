@@ -5,8 +5,9 @@ use Rattle.words.specs.declared.sink.SinkFault.{SinkFault}
 use Rattle.words.specs.Sinks.{SinkState}
 use Rattle.flat.specs.Reads.{is_readable, word_if}
 use Rattle.protocol.specs.Network.{LiesBelow}
+use Rattle.disassembler.specs.Tables.{Table}
 use Rattle.texts.specs.Puts.{Puts}
-use Rattle.lines.specs.Blocks.{word_line}
+use Rattle.render.specs.Blocks.{word_line}
 use Rattle.machine.specs.Reads.{log_word}
 use Rattle.machine.specs.States.{State, shown, setting_of}
 use Rattle.debugger.specs.declared.commands.command.Look.{Look}
@@ -17,9 +18,9 @@ use Rattle.debugger.specs.Looks.{Shows, IsTextOf, word_text}
 use Rattle.debugger.proofs.Readable.{lies_below, read, read-same, unless-same}
 
 -- the same look by another name
-pub shows-same : {sets : ℕ} {m : State} {look seen : Look} {a b : SinkState} {put : Result Unit SinkFault}
-    → look ≡ seen → Shows sets m seen a b put → Shows sets m look a b put
-shows-same {sets} {m} {look} {seen} {a} {b} {put} is shows = subst (λ (l : Look). Shows sets m l a b put) (sym is) shows
+pub shows-same : {names : Table} {sets : ℕ} {m : State} {look seen : Look} {a b : SinkState} {put : Result Unit SinkFault}
+    → look ≡ seen → Shows names sets m seen a b put → Shows names sets m look a b put
+shows-same {names} {sets} {m} {look} {seen} {a} {b} {put} is shows = subst (λ (l : Look). Shows names sets m l a b put) (sym is) shows
 
 -- a look at what was found
 pub look-one : (f : ℕ → Look) (fault : Option DebugFault) (n h : ℕ) (look : Look) (r : Result ℕ DebugFault) → look ≡ f n → r ≡ Ok h → r ≡ unless fault n → look ≡ f h
@@ -33,7 +34,7 @@ look-two f fault wrong n h a b look r s is found tested at placed =
 not_none : IsSome {T = ℕ} None → ⊥
 not_none there = cc
 
-module _ (sets : ℕ) (m : State) (bytes : ℕ → ℕ → ℕ) (at : ℕ) (readable : is_readable (setting_of m) at ≡ true) where
+module _ (names : Table) (sets : ℕ) (m : State) (bytes : ℕ → ℕ → ℕ) (at : ℕ) (readable : is_readable (setting_of m) at ≡ true) where
   -- what was found at an address is the number of these bytes there
   abbrev IsFound : Option ℕ → Type 0
   IsFound found = (keys : ℕ) → LiesBelow keys (shown sets m).net → found ≡ word_if (setting_of m) (bytes keys) at
@@ -44,8 +45,8 @@ module _ (sets : ℕ) (m : State) (bytes : ℕ → ℕ → ℕ) (at : ℕ) (read
 
   -- a look at it
   pub shows_found : {look : Look} {a b : SinkState} {put : Result Unit SinkFault} (found : Option ℕ) → IsFound found
-      → ((t : List ℕ) → ((keys : ℕ) → LiesBelow keys (shown sets m).net → t ≡ word_text at (bytes keys)) → IsTextOf sets m look t)
-      → IfSome found (λ v. Puts a b (word_line at v) put) → Shows sets m look a b put
+      → ((t : List ℕ) → ((keys : ℕ) → LiesBelow keys (shown sets m).net → t ≡ word_text at (bytes keys)) → IsTextOf names sets m look t)
+      → IfSome found (λ v. Puts a b (word_line at v) put) → Shows names sets m look a b put
   shows_found None is text puts = absurd (not_none (found_there None is))
   shows_found (Some v) is text puts = record {
     text = word_line at v;
@@ -54,10 +55,10 @@ module _ (sets : ℕ) (m : State) (bytes : ℕ → ℕ → ℕ) (at : ℕ) (read
   }
 
 -- a look at a word of the logs
-pub shows_logged : {sets : ℕ} {m : State} {at : ℕ} {a b : SinkState} {put : Result Unit SinkFault} (found : Option ℕ) → found ≡ log_word m at → IsSome (log_word m at)
-    → IfSome found (λ v. Puts a b (word_line at v) put) → Shows sets m (Log at) a b put
+pub shows_logged : {names : Table} {sets : ℕ} {m : State} {at : ℕ} {a b : SinkState} {put : Result Unit SinkFault} (found : Option ℕ) → found ≡ log_word m at → IsSome (log_word m at)
+    → IfSome found (λ v. Puts a b (word_line at v) put) → Shows names sets m (Log at) a b put
 shows_logged None is there puts = absurd (not_none (subst (λ (o : Option ℕ). IsSome o) (sym is) there))
-shows_logged {sets} {m} {at} (Some v) is there puts = record {
+shows_logged {names} {sets} {m} {at} (Some v) is there puts = record {
   text = word_line at v;
   is = rw (← is) refl;
   puts = puts;

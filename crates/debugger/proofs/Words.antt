@@ -2,6 +2,7 @@
 use Rattle.std.proofs.Common.{◌≡◌, ◌≤◌, ℕ, false, List, [], ◌∷◌, length, Option, Some, None, Bor, eqb, refl, arith}
 use Rattle.std.specs.Option.{option_map}
 use Rattle.std.proofs.lemmas.List.Splits.{length-slice_split}
+use Rattle.disassembler.specs.Tables.{Table}
 use Rattle.schedule.specs.Spelling.{words_of}
 use Rattle.debugger.specs.declared.commands.command.Command.TheVariants as command
 use Rattle.debugger.specs.Spelling.{words_in, alone, one, run_of, is_comment, spelled, command_of}
@@ -26,5 +27,5 @@ pub run_told : (words : Option (Bor (List ℕ))) (text : Bor (List ℕ)) → wor
 run_told words text is = rw is (run_number (words_of text.now) (some_word text.now))
 
 -- a line of these words that is no comment
-pub told : (line : List ℕ) (words : List (List ℕ)) → is_comment line ≡ false → words_of line ≡ words → spelled words ≡ command_of line
-told line words not is = rw (not, is) refl
+pub told : (names : Table) (line : List ℕ) (words : List (List ℕ)) → is_comment line ≡ false → words_of line ≡ words → spelled names words ≡ command_of names line
+told names line words not is = rw (not, is) refl

@@ -1,6 +1,7 @@
 -- A machine that is debugged.
 use Rattle.std.specs.Prelude.{ℕ, ◌≡◌, ◌-◌, Bool, true, false, List, [], Option, Result, Ok, Err}
 use Rattle.words.specs.Sinks.{SinkState}
+use Rattle.disassembler.specs.Tables.{Table}
 use Rattle.protocol.specs.Caches.{Geometry}
 use Rattle.machine.specs.States.{State, setting_of}
 use Rattle.debugger.specs.declared.commands.fault.DebugFault.{DebugFault}
@@ -22,17 +23,17 @@ said (Ok flow) = Ok (goes_on flow)
 said (Err fault) = Err fault
 
 -- a debugger's session answers
-abbrev pub answers : Geometry → Answering Session
-answers g s command t before after answer =
-    (told : Result Flow DebugFault) × Answers g s command t before after told × (answer ≡ said told)
+abbrev pub answers : Geometry → Table → Answering Session
+answers g names s command t before after answer =
+    (told : Result Flow DebugFault) × Answers g names s command t before after told × (answer ≡ said told)
 
 -- the session that a machine begins with
 abbrev pub begun : State → Session
 begun m = record { machine = m; last = (setting_of m).count - 1; breakpoints = [] }
 
--- a session of the machine answers the lines of an input, up to the end that this result tells
-abbrev pub IsDebugged : {I : Type 0} → Geometry → Giving I → State → List ℕ → I → I → SinkState → SinkState → SinkState → SinkState → Result Unit ConsoleFault → Type 0
-IsDebugged g gives m prompt i j told_before told_after asked_before asked_after r =
-    (last : Session) × IsPlayed (answers g) gives prompt
+-- with these names a session of the machine answers the lines of an input, up to the end that this result tells
+abbrev pub IsDebugged : {I : Type 0} → Geometry → Table → Giving I → State → List ℕ → I → I → SinkState → SinkState → SinkState → SinkState → Result Unit ConsoleFault → Type 0
+IsDebugged g names gives m prompt i j told_before told_after asked_before asked_after r =
+    (last : Session) × IsPlayed names (answers g names) gives prompt
     (record { session = begun m; input = i; told = told_before; asked = asked_before })
     (record { session = last; input = j; told = told_after; asked = asked_after }) r

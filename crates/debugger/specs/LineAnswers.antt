@@ -3,6 +3,7 @@ use Rattle.std.specs.Prelude.{ℕ, ◌≡◌, ◌≤◌, Bool, true, List, [], �
 use Rattle.std.specs.List.{concat}
 use Rattle.words.specs.declared.sink.SinkFault.{SinkFault}
 use Rattle.words.specs.Sinks.{SinkState}
+use Rattle.disassembler.specs.Tables.{Table}
 use Rattle.texts.specs.Puts.{Puts}
 use Rattle.debugger.specs.declared.commands.command.Command.{Command}
 use Rattle.debugger.specs.declared.commands.fault.DebugFault.{DebugFault}
@@ -18,8 +19,8 @@ abbrev pub IsShortText : List ℕ → Type 0
 IsShortText line = (length line ≤ 255) × IsUtf8 line
 
 -- a line asks for the command that it spells, the carriage return at its end passed over; a long one, and one that is no text, asks for none
-pub record Asks (line : List ℕ) (asked : Option Command) : Type 0 where
-  pub spelled : IsShortText (without_return line) → asked ≡ command_of (without_return line)
+pub record Asks (names : Table) (line : List ℕ) (asked : Option Command) : Type 0 where
+  pub spelled : IsShortText (without_return line) → asked ≡ command_of names (without_return line)
   pub passed : (IsShortText (without_return line) → ⊥) → asked ≡ None
 
 -- the number and the name of a fault that is told. A put that failed is not
@@ -54,6 +55,6 @@ IsCarriedOut answers (Some command) s t before after r =
     × Closes answer between after r
 
 -- a line is answered: what it asks for is carried out
-abbrev pub IsAnswered : {D : Type 0} → Answering D → List ℕ → D → D → SinkState → SinkState → Result Bool ConsoleFault → Type 0
-IsAnswered answers line s t before after r =
-    (asked : Option Command) × Asks line asked × IsCarriedOut answers asked s t before after r
+abbrev pub IsAnswered : {D : Type 0} → Table → Answering D → List ℕ → D → D → SinkState → SinkState → Result Bool ConsoleFault → Type 0
+IsAnswered names answers line s t before after r =
+    (asked : Option Command) × Asks names line asked × IsCarriedOut answers asked s t before after r

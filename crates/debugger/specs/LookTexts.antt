@@ -5,9 +5,11 @@ use Rattle.words.specs.declared.message.Message.{Message}
 use Rattle.texts.specs.Numerals.{hexadecimal}
 use Rattle.protocol.specs.Lines.{Line}
 use Rattle.protocol.specs.Directory.{DirEntry}
-use Rattle.lines.specs.Parts.{block_text, stamp_text}
-use Rattle.lines.specs.Blocks.{cached_text, directory_text}
-use Rattle.lines.specs.Messages.{message_text}
+use Rattle.disassembler.specs.Labels.{label}
+use Rattle.disassembler.specs.Tables.{Table}
+use Rattle.render.specs.Parts.{block_text, stamp_text}
+use Rattle.render.specs.Blocks.{cached_text, directory_text}
+use Rattle.render.specs.Messages.{message_text}
 use Rattle.machine.specs.declared.info.TxInfo.{TxInfo}
 
 -- a word that stands only where something holds
@@ -44,6 +46,10 @@ abbrev pub waits_part : Option ℕ → List ℕ
 waits_part None = []
 waits_part (Some b) = codes " waits " ++ block_text b
 
--- how far hart i has come: its pc and status, how deep it is in transactions, and the block that it waits for
-abbrev pub hart_line : ℕ → ℕ → List ℕ → Option TxInfo → Option ℕ → List ℕ
-hart_line i pc status tx block = concat (decimal i ∷ codes " pc=0x" ∷ hexadecimal pc ∷ codes " " ∷ status ∷ depth_part tx ∷ waits_part block ∷ codes "\n" ∷ [])
+-- a hart's pc, with its name
+abbrev pub pc_part : Table → ℕ → List ℕ
+pc_part names pc = codes " pc=0x" ++ hexadecimal pc ++ label names pc
+
+-- how far hart i has come: its pc with its name and its status, how deep it is in transactions, and the block that it waits for
+abbrev pub hart_line : Table → ℕ → ℕ → List ℕ → Option TxInfo → Option ℕ → List ℕ
+hart_line names i pc status tx block = concat (decimal i ∷ pc_part names pc ∷ codes " " ∷ status ∷ depth_part tx ∷ waits_part block ∷ codes "\n" ∷ [])

@@ -16,9 +16,10 @@ use Rattle.protocol.specs.Machine.{Machine}
 use Rattle.protocol.specs.Network.{LiesBelow}
 use Rattle.protocol.specs.Values.{peek, raw, view}
 use Rattle.texts.specs.Puts.{Puts}
+use Rattle.disassembler.specs.Tables.{Table}
 use Rattle.disassembler.specs.Listing.{line}
-use Rattle.lines.specs.Blocks.{directory_text, word_line}
-use Rattle.lines.specs.Registers.{registers_lines, status_text}
+use Rattle.render.specs.Blocks.{directory_text, word_line}
+use Rattle.render.specs.Registers.{registers_lines, status_text}
 use Rattle.machine.specs.States.{State, setting_of, shown}
 use Rattle.machine.specs.Reads.{info_of, log_word}
 use Rattle.machine.specs.Turns.{is_held}
@@ -61,33 +62,33 @@ flight_line sets m key = message_line (option_map (λ f. f.message) (slice_index
     (option_map_or (is_held (shown sets m)) ((shown sets m).net key) false)
 
 -- the line of hart i
-abbrev pub line_of_hart : Machine → ℕ → List ℕ
-line_of_hart w i = hart_line i (w.harts i).pc (status_text (w.harts i).status) (option_map info_of (w.harts i).tx) (option_map (λ r. r.block) (w.harts i).request)
+abbrev pub line_of_hart : Table → Machine → ℕ → List ℕ
+line_of_hart names w i = hart_line names i (w.harts i).pc (status_text (w.harts i).status) (option_map info_of (w.harts i).tx) (option_map (λ r. r.block) (w.harts i).request)
 
 -- the line of a word at an address, where bytes are read so
 abbrev pub word_text : ℕ → (ℕ → ℕ) → List ℕ
 word_text a bytes = word_line a (number_at bytes a word_wide)
 
--- the text that a look shows. The keys are any number below which all messages in flight lie
-abbrev pub IsTextOf : ℕ → State → Look → List ℕ → Type 0
-IsTextOf sets m (Regs h) t = t ≡ registers_lines ((shown sets m).harts h).regs ((shown sets m).harts h).pc ((shown sets m).harts h).status
-IsTextOf sets m (Word a) t = (keys : ℕ) → LiesBelow keys (shown sets m).net → t ≡ word_text a (peek keys (shown sets m))
-IsTextOf sets m (Raw a) t = (keys : ℕ) → LiesBelow keys (shown sets m).net → t ≡ word_text a (raw keys (shown sets m))
-IsTextOf sets m (View h a) t = (keys : ℕ) → LiesBelow keys (shown sets m).net → t ≡ word_text a (view keys (shown sets m) h)
-IsTextOf sets m (Line h a) t = t ≡ cached_line (((shown sets m).harts h).lines (a / block_bytes))
-IsTextOf sets m (Dir a) t = t ≡ directory_text ((shown sets m).entries (a / block_bytes)) ++ codes "\n"
-IsTextOf sets m Dirs t = t ≡ flat_map kept_line m.directory.kept
-IsTextOf sets m (Tx h) t = t ≡ tx_line (option_map info_of ((shown sets m).harts h).tx)
-IsTextOf sets m (Log a) t = IfSome (log_word m a) (λ v. t ≡ word_line a v)
-IsTextOf sets m (Dis b) t = IfSome (word_at (setting_of m).segments b) (λ w. t ≡ line b w)
-IsTextOf sets m Messages t = (keys : List ℕ) × AreSentAfter m.flights None keys × (t ≡ flat_map (flight_line sets m) keys)
-IsTextOf sets m Harts t = t ≡ flat_map (line_of_hart (shown sets m)) (range_with_len 0 (setting_of m).count)
-IsTextOf sets m Help t = t ≡ help_text
+-- the text that a look shows, with names. The keys are any number below which all messages in flight lie
+abbrev pub IsTextOf : Table → ℕ → State → Look → List ℕ → Type 0
+IsTextOf names sets m (Regs h) t = t ≡ registers_lines names ((shown sets m).harts h).regs ((shown sets m).harts h).pc ((shown sets m).harts h).status
+IsTextOf names sets m (Word a) t = (keys : ℕ) → LiesBelow keys (shown sets m).net → t ≡ word_text a (peek keys (shown sets m))
+IsTextOf names sets m (Raw a) t = (keys : ℕ) → LiesBelow keys (shown sets m).net → t ≡ word_text a (raw keys (shown sets m))
+IsTextOf names sets m (View h a) t = (keys : ℕ) → LiesBelow keys (shown sets m).net → t ≡ word_text a (view keys (shown sets m) h)
+IsTextOf names sets m (Line h a) t = t ≡ cached_line (((shown sets m).harts h).lines (a / block_bytes))
+IsTextOf names sets m (Dir a) t = t ≡ directory_text ((shown sets m).entries (a / block_bytes)) ++ codes "\n"
+IsTextOf names sets m Dirs t = t ≡ flat_map kept_line m.directory.kept
+IsTextOf names sets m (Tx h) t = t ≡ tx_line (option_map info_of ((shown sets m).harts h).tx)
+IsTextOf names sets m (Log a) t = IfSome (log_word m a) (λ v. t ≡ word_line a v)
+IsTextOf names sets m (Dis b) t = IfSome (word_at (setting_of m).segments b) (λ w. t ≡ line names b w)
+IsTextOf names sets m Messages t = (keys : List ℕ) × AreSentAfter m.flights None keys × (t ≡ flat_map (flight_line sets m) keys)
+IsTextOf names sets m Harts t = t ≡ flat_map (line_of_hart names (shown sets m)) (range_with_len 0 (setting_of m).count)
+IsTextOf names sets m Help t = t ≡ help_text
 
 -- what a look shows was put, and that came out so
-pub record Shows (sets : ℕ) (m : State) (look : Look) (before after : SinkState) (put : Result Unit SinkFault) : Type 0 where
+pub record Shows (names : Table) (sets : ℕ) (m : State) (look : Look) (before after : SinkState) (put : Result Unit SinkFault) : Type 0 where
   pub text : List ℕ
-  pub is : IsTextOf sets m look text
+  pub is : IsTextOf names sets m look text
   pub puts : Puts before after text put
 
 -- a put that failed is told as Device

@@ -8,8 +8,8 @@ use Rattle.words.specs.declared.entry.Entry.TheVariants.{Retire, Abort, Trap, Re
 use Rattle.words.specs.declared.entry.Step.{Step as MachineStep}
 use Rattle.flat.specs.State.{Setting}
 use Rattle.protocol.specs.Caches.{Geometry}
-use Rattle.protocol.specs.Machine.{Machine, Steps}
-use Rattle.machine.specs.Mail.{NumbersOn}
+use Rattle.protocol.specs.Machine.{Machine}
+use Rattle.machine.specs.Making.{MakesStep}
 use Rattle.machine.specs.Reads.{regs_if}
 use Rattle.machine.specs.States.{State, shown, setting_of}
 use Rattle.machine.specs.Turns.{TakesTurn, hart_after}
@@ -116,8 +116,7 @@ IsDisabled g s (Some step) = IsEnabled g (shown g.sets s.machine) step false
 abbrev pub Makes : Geometry → Session → Option MachineStep → Option Entry → Session → Type 0
 Makes g s None e t = ⊥
 Makes g s (Some step) e t =
-    IsEnabled g (shown g.sets s.machine) step true × Steps g (shown g.sets s.machine) step e (shown g.sets t.machine)
-    × NumbersOn s.machine.flights s.machine.sent t.machine.flights t.machine.sent × (t.last ≡ hart_after step s.last) × (t.breakpoints ≡ s.breakpoints)
+    IsEnabled g (shown g.sets s.machine) step true × MakesStep g s.machine step e t.machine × (t.last ≡ hart_after step s.last) × (t.breakpoints ≡ s.breakpoints)
 
 -- what is told of a choice: the entry of its step; or the messages that it sent, from the number that the first of them got; or that there was nothing to do
 abbrev pub Chooses : Geometry → Session → Choice → Report → Session → Type 0

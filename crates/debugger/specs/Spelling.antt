@@ -2,9 +2,11 @@
 use Rattle.std.specs.Prelude.{ℕ, Bool, if◌then◌else◌, nat_eq, codes, List, [], ◌∷◌, Option, Some, None, option_map}
 use Rattle.std.specs.Borrow.{Bor}
 use Rattle.std.specs.List.{starts_with}
-use Rattle.std.specs.Option.{option_and_then}
+use Rattle.std.specs.Option.{option_and_then, option_or}
 use Rattle.std.specs.Str.{bytes_eq}
 use Rattle.texts.specs.Numbers.{number_of}
+use Rattle.disassembler.specs.Names.{address_of}
+use Rattle.disassembler.specs.Tables.{Table}
 use Rattle.schedule.specs.Spelling.{words_of, sort_of}
 use Rattle.debugger.specs.declared.commands.command.Command.{Command}
 use Rattle.debugger.specs.declared.commands.command.Command.TheVariants as command
@@ -25,6 +27,11 @@ alone words meant = None
 abbrev pub one : List (List ℕ) → Option ℕ
 one (n ∷ []) = number_of n
 one words = None
+
+-- an address of text: a number, or the name of a symbol
+abbrev pub place : Table → List (List ℕ) → Option ℕ
+place names (word ∷ []) = option_or (number_of word) (address_of names word)
+place names words = None
 
 -- two numbers
 abbrev pub two : List (List ℕ) → Option (ℕ × ℕ)
@@ -50,8 +57,8 @@ view_of words = option_map (λ (hart, addr). look.View hart addr) (two words)
 abbrev pub line_of : List (List ℕ) → Option Look
 line_of words = option_map (λ (hart, addr). look.Line hart addr) (two words)
 
-abbrev pub look_of : List ℕ → List (List ℕ) → Option Look
-look_of verb words =
+abbrev pub look_of : Table → List ℕ → List (List ℕ) → Option Look
+look_of names verb words =
     if bytes_eq verb (codes "regs") then option_map look.Regs (one words)
     else if bytes_eq verb (codes "word") then option_map look.Word (one words)
     else if bytes_eq verb (codes "raw") then option_map look.Raw (one words)
@@ -61,27 +68,27 @@ look_of verb words =
     else if bytes_eq verb (codes "dirs") then alone words look.Dirs
     else if bytes_eq verb (codes "tx") then option_map look.Tx (one words)
     else if bytes_eq verb (codes "log") then option_map look.Log (one words)
-    else if bytes_eq verb (codes "dis") then option_map look.Dis (one words)
+    else if bytes_eq verb (codes "dis") then option_map look.Dis (place names words)
     else if bytes_eq verb (codes "messages") then alone words look.Messages
     else if bytes_eq verb (codes "harts") then alone words look.Harts
     else if bytes_eq verb (codes "help") then alone words look.Help else None
 
 -- the first word says what is asked for
-abbrev pub spelled : List (List ℕ) → Option Command
-spelled [] = None
-spelled (verb ∷ words) =
+abbrev pub spelled : Table → List (List ℕ) → Option Command
+spelled names [] = None
+spelled names (verb ∷ words) =
     if bytes_eq verb (codes "step") then alone words command.Step
     else if bytes_eq verb (codes "run") then run_of words
-    else if bytes_eq verb (codes "break") then option_map command.Break (one words)
+    else if bytes_eq verb (codes "break") then option_map command.Break (place names words)
     else if bytes_eq verb (codes "core") then option_map command.Core (one words)
     else if bytes_eq verb (codes "evict") then evict_of words
     else if bytes_eq verb (codes "deliver") then deliver_of words
     else if bytes_eq verb (codes "quit") then alone words command.Quit
-    else option_map command.Look (look_of verb words)
+    else option_map command.Look (look_of names verb words)
 
 abbrev pub is_comment : List ℕ → Bool
 is_comment line = starts_with nat_eq line (codes "#")
 
 -- a line that begins with # is a comment
-abbrev pub command_of : List ℕ → Option Command
-command_of line = if is_comment line then Some command.Comment else spelled (words_of line)
+abbrev pub command_of : Table → List ℕ → Option Command
+command_of names line = if is_comment line then Some command.Comment else spelled names (words_of line)

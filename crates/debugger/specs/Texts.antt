@@ -3,8 +3,10 @@ use Rattle.std.specs.Prelude.{ℕ, ◌≡◌, ◌+◌, ◌-◌, ◌≤◌, ◌==
 use Rattle.std.specs.List.{concat, flat_map, range_with_len, slice_index_or}
 use Rattle.network.specs.declared.net.Flight.{Flight}
 use Rattle.texts.specs.Numerals.{hexadecimal}
-use Rattle.lines.specs.Entries.{entry_line}
-use Rattle.lines.specs.Messages.{message_text}
+use Rattle.disassembler.specs.Labels.{label}
+use Rattle.disassembler.specs.Tables.{Table}
+use Rattle.render.specs.Entries.{entry_line}
+use Rattle.render.specs.Messages.{message_text}
 use Rattle.machine.specs.States.{State}
 use Rattle.debugger.specs.declared.report.Report.{Report}
 use Rattle.debugger.specs.declared.report.Report.TheVariants.{Entry, Stopped, Broke, Set, Cleared, Nothing, Made, Silence}
@@ -31,20 +33,20 @@ abbrev pub made_text : State → ℕ → ℕ → List ℕ
 made_text m keys from = cond (m.sent == from) (codes "done\n") (sent_lines m.flights keys from m.sent)
 
 -- a hart has come to a breakpoint
-abbrev pub broke_line : ℕ → ℕ → List ℕ
-broke_line i pc = concat (codes "break hart " ∷ decimal i ∷ codes " at 0x" ∷ hexadecimal pc ∷ codes "\n" ∷ [])
+abbrev pub broke_line : Table → ℕ → ℕ → List ℕ
+broke_line names i pc = concat (codes "break hart " ∷ decimal i ∷ codes " at 0x" ∷ hexadecimal pc ∷ label names pc ∷ codes "\n" ∷ [])
 
 -- what became of a breakpoint
-abbrev pub place_line : List ℕ → ℕ → List ℕ
-place_line words place = concat (words ∷ hexadecimal place ∷ codes "\n" ∷ [])
+abbrev pub place_line : Table → List ℕ → ℕ → List ℕ
+place_line names words place = concat (words ∷ hexadecimal place ∷ label names place ∷ codes "\n" ∷ [])
 
--- the text of a report on a machine. All its messages have keys below some number
-abbrev pub IsTextOf : State → Report → List ℕ → Type 0
-IsTextOf m (Entry e) text = text ≡ entry_line e
-IsTextOf m (Stopped) text = text ≡ codes "stopped\n"
-IsTextOf m (Broke i pc) text = text ≡ broke_line i pc
-IsTextOf m (Set b) text = text ≡ place_line (codes "break set 0x") b
-IsTextOf m (Cleared b) text = text ≡ place_line (codes "break cleared 0x") b
-IsTextOf m (Nothing) text = text ≡ codes "nothing\n"
-IsTextOf m (Made from) text = (keys : ℕ) × ((key : ℕ) → keys ≤ key → slice_index_or m.flights key None ≡ None) × (text ≡ made_text m keys from)
-IsTextOf m (Silence) text = text ≡ []
+-- the text of a report on a machine, with names. All its messages have keys below some number
+abbrev pub IsTextOf : Table → State → Report → List ℕ → Type 0
+IsTextOf names m (Entry e) text = text ≡ entry_line names e
+IsTextOf names m (Stopped) text = text ≡ codes "stopped\n"
+IsTextOf names m (Broke i pc) text = text ≡ broke_line names i pc
+IsTextOf names m (Set b) text = text ≡ place_line names (codes "break set 0x") b
+IsTextOf names m (Cleared b) text = text ≡ place_line names (codes "break cleared 0x") b
+IsTextOf names m (Nothing) text = text ≡ codes "nothing\n"
+IsTextOf names m (Made from) text = (keys : ℕ) × ((key : ℕ) → keys ≤ key → slice_index_or m.flights key None ≡ None) × (text ≡ made_text m keys from)
+IsTextOf names m (Silence) text = text ≡ []

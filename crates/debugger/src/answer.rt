@@ -8,6 +8,7 @@ use crate::commands::{Command, DebugFault};
 use crate::report::Report;
 use crate::session::{Flow, Session};
 use crate::tell::put_report;
+use disassembler::Symbols;
 use words::Sink;
 
 /// Whether a session goes on after a command.
@@ -41,14 +42,15 @@ impl<const SETS: usize, const WAYS: usize> Session<SETS, WAYS> {
     /// Carries a command out, and puts what it has to tell. A look is passed over: nothing is put for it.
     pub(crate) fn answer<S: Sink>(
         &mut self,
+        names: &Symbols<'_>,
         command: Command,
         sink: &mut S,
     ) -> Result<Flow, DebugFault>
-        ensures carries { Carries (geometry SETS WAYS) self.old command self.new (S.state sink.old) (S.state sink.new) result }
+        ensures carries { Carries (geometry SETS WAYS) names.now self.old command self.new (S.state sink.old) (S.state sink.new) result }
         ensures refused { (fault : Fault) → IsDeedRefused SETS self.old command fault → result ≡ Err fault }
     {
         let report = self.carry_out(command)?;
-        match put_report(&self.machine, &report, sink) {
+        match put_report(names, &self.machine, &report, sink) {
             Ok(()) => Ok(flow_of(&command)),
             Err(_) => Err(DebugFault::Device),
         }

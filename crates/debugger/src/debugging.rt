@@ -8,6 +8,7 @@ use crate::input::LineInput;
 use crate::line_answers::Debugged;
 use crate::playing::play;
 use crate::session::{Flow, Session};
+use disassembler::Symbols;
 use machine::Machine;
 use words::Sink;
 
@@ -17,8 +18,13 @@ impl<const SETS: usize, const WAYS: usize> Debugged for Session<SETS, WAYS> {
 
     ghost answers = { answers (geometry SETS WAYS) };
 
-    fn command<S: Sink>(&mut self, command: Command, sink: &mut S) -> Result<bool, DebugFault> {
-        match Session::command(self, command, sink) {
+    fn command<S: Sink>(
+        &mut self,
+        names: &Symbols<'_>,
+        command: Command,
+        sink: &mut S,
+    ) -> Result<bool, DebugFault> {
+        match Session::command(self, names, command, sink) {
             Ok(flow) => Ok(goes_on(flow)),
             Err(fault) => Err(fault),
         }
@@ -35,17 +41,18 @@ fn goes_on(flow: Flow) -> bool
     }
 }
 
-/// Debugs a machine: a session of it, without breakpoints at first, answers the lines of an input.
+/// Debugs a machine, with names: a session of it, without breakpoints at first, answers the lines of an input.
 pub fn debug<const SETS: usize, const WAYS: usize, I: LineInput, P: Sink, S: Sink>(
+    names: &Symbols<'_>,
     machine: Machine<SETS, WAYS>,
     input: &mut I,
     prompt: &str,
     prompts: &mut P,
     out: &mut S,
 ) -> Result<(), ConsoleFault>
-    ensures { IsDebugged (geometry SETS WAYS) I.gives machine.entry prompt.now input.old input.new (S.state out.old) (S.state out.new)
+    ensures { IsDebugged (geometry SETS WAYS) names.now I.gives machine.entry prompt.now input.old input.new (S.state out.old) (S.state out.new)
         (P.state prompts.old) (P.state prompts.new) result }
 {
     let mut session = Session::new(machine);
-    play(&mut session, input, prompt, prompts, out)
+    play(names, &mut session, input, prompt, prompts, out)
 }

@@ -4,23 +4,30 @@ ghost use Rattle.words.specs.Sinks.{SinkState};
 ghost use Rattle.texts.specs.Puts.{Puts};
 ghost use Rattle.debugger.specs.declared.commands.command.Command.{Command as CommandValue};
 ghost use Rattle.debugger.specs.declared.commands.fault.DebugFault.{DebugFault as Fault};
+ghost use Rattle.disassembler.specs.Tables.{Table};
 ghost use Rattle.debugger.specs.Lines.{without_return};
 ghost use Rattle.debugger.specs.LineAnswers.{Asks, IsAnswered, Refuses, told_name, refused};
 
 use crate::commands::{Command, DebugFault, command_of};
 use crate::fault::ConsoleFault;
+use disassembler::Symbols;
 use texts::put_all;
 use words::{Sink, SinkFault};
 
 /// What answers commands.
 pub trait Debugged {
-    /// What a command may come to: the state before it and after it, what the sink had taken before and after, how many puts had failed before
+    /// What a command may come to, with these names: the state before it and after it, what the sink had taken before and after, how many puts had failed before
     /// and after, and the answer.
-    ghost answers: { Self → CommandValue → Self → SinkState → SinkState → Result Bool Fault → Type 0 };
+    ghost answers: { Table → Self → CommandValue → Self → SinkState → SinkState → Result Bool Fault → Type 0 };
 
     /// Carries out a command, and puts what it has to tell. It answers whether more commands are wanted.
-    fn command<S: Sink>(&mut self, command: Command, sink: &mut S) -> Result<bool, DebugFault>
-        ensures { answers self.old command self.new (S.state sink.old) (S.state sink.new) result };
+    fn command<S: Sink>(
+        &mut self,
+        names: &Symbols<'_>,
+        command: Command,
+        sink: &mut S,
+    ) -> Result<bool, DebugFault>
+        ensures { answers names.now self.old command self.new (S.state sink.old) (S.state sink.new) result };
 }
 
 /// A line without the carriage return at its end.
@@ -34,15 +41,15 @@ fn without_return(line: &[u8]) -> &[u8]
 }
 
 /// The command that a line spells, if it is a text of at most 255 bytes.
-fn asked(line: &[u8]) -> Option<Command>
-    ensures { Asks line.now result }
+fn asked(names: &Symbols<'_>, line: &[u8]) -> Option<Command>
+    ensures { Asks names.now line.now result }
 {
     let text = without_return(line);
     if text.len() > 255 {
         return None;
     }
     match str::from_utf8(text) {
-        Ok(text) => command_of(text),
+        Ok(text) => command_of(names, text),
         Err(_) => None,
     }
 }
@@ -86,16 +93,17 @@ fn refuse<S: Sink>(fault: DebugFault, out: &mut S) -> Result<bool, ConsoleFault>
 
 /// Answers a line, and says whether more are wanted.
 pub(crate) fn answer_line<D: Debugged, S: Sink>(
+    names: &Symbols<'_>,
     session: &mut D,
     line: &[u8],
     out: &mut S,
 ) -> Result<bool, ConsoleFault>
-    ensures { IsAnswered D.answers line.now session.old session.new (S.state out.old) (S.state out.new) result }
+    ensures { IsAnswered names.now (D.answers names.now) line.now session.old session.new (S.state out.old) (S.state out.new) result }
 {
-    let Some(command) = asked(line) else {
+    let Some(command) = asked(names, line) else {
         return refuse(DebugFault::Unknown, out);
     };
-    match session.command(command, out) {
+    match session.command(names, command, out) {
         Ok(goes_on) => Ok(goes_on),
         Err(fault) => refuse(fault, out),
     }

@@ -5,9 +5,10 @@ ghost use Rattle.debugger.specs.Texts as spec;
 ghost use Rattle.debugger.specs.Texts.{IsTextOf};
 
 use crate::report::Report;
-use lines::{hart_text, message_text, put_entry};
+use disassembler::Symbols;
 use machine::Machine;
 use network::Flight;
+use render::{hart_text, message_text, put_entry};
 use texts::{hexadecimal, put_all};
 use words::{Addr, HartId, Sink, SinkFault};
 
@@ -83,8 +84,13 @@ fn put_made<const SETS: usize, const WAYS: usize, S: Sink>(
 }
 
 /// Puts that a hart has come to a breakpoint.
-fn put_broke<S: Sink>(hart: HartId, pc: Addr, sink: &mut S) -> Result<(), SinkFault>
-    ensures { Puts (S.state sink.old) (S.state sink.new) (spec.broke_line hart pc) result }
+fn put_broke<S: Sink>(
+    names: &Symbols<'_>,
+    hart: HartId,
+    pc: Addr,
+    sink: &mut S,
+) -> Result<(), SinkFault>
+    ensures { Puts (S.state sink.old) (S.state sink.new) (spec.broke_line names.now hart pc) result }
 {
     put_all(
         sink,
@@ -93,32 +99,47 @@ fn put_broke<S: Sink>(hart: HartId, pc: Addr, sink: &mut S) -> Result<(), SinkFa
             hart_text(hart).as_str().as_bytes(),
             b" at 0x",
             &hexadecimal(pc.value()),
+            names.label(pc).as_bytes(),
             b"\n",
         ],
     )
 }
 
 /// Puts a breakpoint, after the words for what became of it.
-fn put_place<S: Sink>(words: &[u8], place: Addr, sink: &mut S) -> Result<(), SinkFault>
-    ensures { Puts (S.state sink.old) (S.state sink.new) (spec.place_line words.now place) result }
+fn put_place<S: Sink>(
+    names: &Symbols<'_>,
+    words: &[u8],
+    place: Addr,
+    sink: &mut S,
+) -> Result<(), SinkFault>
+    ensures { Puts (S.state sink.old) (S.state sink.new) (spec.place_line names.now words.now place) result }
 {
-    put_all(sink, &[words, &hexadecimal(place.value()), b"\n"])
+    put_all(
+        sink,
+        &[
+            words,
+            &hexadecimal(place.value()),
+            names.label(place).as_bytes(),
+            b"\n",
+        ],
+    )
 }
 
-/// Puts a report on a machine.
+/// Puts a report on a machine, with names.
 pub(crate) fn put_report<const SETS: usize, const WAYS: usize, S: Sink>(
+    names: &Symbols<'_>,
     machine: &Machine<SETS, WAYS>,
     report: &Report,
     sink: &mut S,
 ) -> Result<(), SinkFault>
-    ensures { (text : List ℕ) × IsTextOf machine.now report.now text × Puts (S.state sink.old) (S.state sink.new) text result }
+    ensures { (text : List ℕ) × IsTextOf names.now machine.now report.now text × Puts (S.state sink.old) (S.state sink.new) text result }
 {
     match *report {
-        Report::Entry(entry) => put_entry(&entry, sink),
+        Report::Entry(entry) => put_entry(names, &entry, sink),
         Report::Stopped => sink.put(b"stopped\n"),
-        Report::Broke(hart, pc) => put_broke(hart, pc, sink),
-        Report::Set(place) => put_place(b"break set 0x", place, sink),
-        Report::Cleared(place) => put_place(b"break cleared 0x", place, sink),
+        Report::Broke(hart, pc) => put_broke(names, hart, pc, sink),
+        Report::Set(place) => put_place(names, b"break set 0x", place, sink),
+        Report::Cleared(place) => put_place(names, b"break cleared 0x", place, sink),
         Report::Nothing => sink.put(b"nothing\n"),
         Report::Made(number) => put_made(machine, machine.keys(), number, sink),
         Report::Silence => Ok(()),

@@ -7,3 +7,7 @@ pub mod Rows
 pub mod Operands
 pub mod Apart
 pub mod Differing
+pub mod Nearest
+pub mod Ordered
+pub mod Runs
+pub mod Fronts

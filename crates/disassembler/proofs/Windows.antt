@@ -7,6 +7,7 @@ use Rattle.std.proofs.lemmas.List.{get_or-replicate, length-replicate, take_more
 use Rattle.std.proofs.lemmas.Bool.Decides.{nat_tests}
 use Rattle.table.specs.Program.{Segment, holds, word_in, word_at}
 use Rattle.texts.proofs.Pieces.{one-more_number}
+use Rattle.disassembler.specs.Tables.{Table}
 use Rattle.disassembler.specs.Listing.{AddsWords, line_at, line_if, lines_from}
 use Rattle.disassembler.proofs.Words.{no-word}
 
@@ -66,14 +67,14 @@ same-texts f g (suc m) same =
     ∙ sym (one-more_number g m) ∙ ap (λ k. flat_map g (range_with_len 0 k)) one
 
 -- where there was no word, the words of a window give its lines
-pub window-lines : (ss : List Segment) (start n : ℕ) (words : List (Option ℕ)) → AddsWords ss start (replicate n None) words
-    → flat_map (λ i. line_if (4 * (start + i)) (slice_index_or words i None)) (range_with_len 0 (length words)) ≡ lines_from ss start n
+pub window-lines : (names : Table) (ss : List Segment) (start n : ℕ) (words : List (Option ℕ)) → AddsWords ss start (replicate n None) words
+    → flat_map (λ i. line_if names (4 * (start + i)) (slice_index_or words i None)) (range_with_len 0 (length words)) ≡ lines_from names ss start n
 unfolding lines_from
-window-lines ss start n words adds =
+window-lines names ss start n words adds =
     let long : length (replicate {A = Option ℕ} n None) ≡ n = length-replicate n None in
-    ap (λ k. flat_map (λ i. line_if (4 * (start + i)) (slice_index_or words i None)) (range_with_len 0 k)) (adds.0 ∙ long)
-    ∙ same-texts (λ i. line_if (4 * (start + i)) (slice_index_or words i None)) (λ i. line_at ss (4 * (start + i))) n (λ i less.
-    ap (line_if (4 * (start + i)))
+    ap (λ k. flat_map (λ i. line_if names (4 * (start + i)) (slice_index_or words i None)) (range_with_len 0 k)) (adds.0 ∙ long)
+    ∙ same-texts (λ i. line_if names (4 * (start + i)) (slice_index_or words i None)) (λ i. line_at names ss (4 * (start + i))) n (λ i less.
+    ap (line_if names (4 * (start + i)))
     (adds.1 i (omega (arith, long)) ∙ ap (λ o. option_or o (word_at ss (4 * (start + i)))) (get_or-replicate n i None None less)))
 
 -- ---- all windows

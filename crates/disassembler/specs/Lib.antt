@@ -1,3 +1,9 @@
 pub mod Mnemonics
 pub mod Canonical
 pub mod Listing
+pub mod Labels
+pub mod Names
+pub mod Nearest
+pub mod Orders
+pub mod Sections
+pub mod Tables

@@ -6,6 +6,7 @@ ghost use Rattle.texts.specs.Puts.{Puts};
 ghost use Rattle.disassembler.specs.Listing.{line, line_if, lines_from, listing_of};
 
 use crate::printer::text;
+use crate::symbol_table::Symbols;
 use crate::window::add_words;
 use loader::Program;
 use table::Segment;
@@ -17,13 +18,17 @@ use words::{Addr, Sink, SinkFault};
 const WINDOW: usize = 4096;
 
 /// Puts a line for each word of the program's text that stands at a multiple of 4, by rising address: the address, the word, and its
-/// canonical text. The only error is that a put failed; then a beginning of the listing was taken.
-pub fn listing<S: Sink>(program: &Program, out: &mut S) -> Result<(), SinkFault>
-    ensures { Puts (S.state out.old) (S.state out.new) (listing_of program.now) result }
+/// canonical text. By the side of an address its name stands, if it has one. The only error is that a put failed; then a beginning of the listing was taken.
+pub fn listing<S: Sink>(
+    program: &Program,
+    names: &Symbols<'_>,
+    out: &mut S,
+) -> Result<(), SinkFault>
+    ensures { Puts (S.state out.old) (S.state out.new) (listing_of names.now program.now) result }
 {
     let segments = program.segments();
     for window in 0..windows(segments) {
-        put_window(segments, WINDOW * window, out)?;
+        put_window(segments, names, WINDOW * window, out)?;
     }
     Ok(())
 }
@@ -44,39 +49,59 @@ fn windows(segments: &[Segment]) -> usize
 }
 
 /// Puts the lines of the words of text in the window that begins with a word of memory.
-fn put_window<S: Sink>(segments: &[Segment], start: usize, out: &mut S) -> Result<(), SinkFault>
+fn put_window<S: Sink>(
+    segments: &[Segment],
+    names: &Symbols<'_>,
+    start: usize,
+    out: &mut S,
+) -> Result<(), SinkFault>
     requires { start + WINDOW ≤ 1048576 }
-    ensures { Puts (S.state out.old) (S.state out.new) (lines_from segments.now start WINDOW) result }
+    ensures { Puts (S.state out.old) (S.state out.new) (lines_from names.now segments.now start WINDOW) result }
 {
     let mut words = [None; WINDOW];
     add_words(segments, start, &mut words);
-    put_words(&words, start, out)
+    put_words(&words, names, start, out)
 }
 
 /// Puts the lines of words, of which the first would stand at 4 times `start`.
-fn put_words<S: Sink>(words: &[Option<u32>], start: usize, out: &mut S) -> Result<(), SinkFault>
+fn put_words<S: Sink>(
+    words: &[Option<u32>],
+    names: &Symbols<'_>,
+    start: usize,
+    out: &mut S,
+) -> Result<(), SinkFault>
     requires { start + length words.now ≤ 1048576 }
-    ensures { Puts (S.state out.old) (S.state out.new) (flat_map (λ i. line_if (4 * (start + i)) (slice_index_or words.now i None)) (range_with_len 0 (length words.now))) result }
+    ensures { Puts (S.state out.old) (S.state out.new) (flat_map (λ i. line_if names.now (4 * (start + i)) (slice_index_or words.now i None)) (range_with_len 0 (length words.now))) result }
 {
     for i in 0..words.len() {
-        put_word(Addr::new(4 * (start + i) as u32), words[i], out)?;
+        put_word(Addr::new(4 * (start + i) as u32), names, words[i], out)?;
     }
     Ok(())
 }
 
 /// Puts the line of the word at an address, if there is one.
-fn put_word<S: Sink>(addr: Addr, word: Option<u32>, out: &mut S) -> Result<(), SinkFault>
-    ensures { Puts (S.state out.old) (S.state out.new) (line_if addr word) result }
+fn put_word<S: Sink>(
+    addr: Addr,
+    names: &Symbols<'_>,
+    word: Option<u32>,
+    out: &mut S,
+) -> Result<(), SinkFault>
+    ensures { Puts (S.state out.old) (S.state out.new) (line_if names.now addr word) result }
 {
     match word {
-        Some(word) => put_line(addr, word, out),
+        Some(word) => put_line(addr, names, word, out),
         None => Ok(()),
     }
 }
 
-/// Puts the line of a word at an address.
-pub fn put_line<S: Sink>(addr: Addr, word: u32, out: &mut S) -> Result<(), SinkFault>
-    ensures { Puts (S.state out.old) (S.state out.new) (line addr word) result }
+/// Puts the line of a word at an address, by whose side its name stands, if it has one.
+pub fn put_line<S: Sink>(
+    addr: Addr,
+    names: &Symbols<'_>,
+    word: u32,
+    out: &mut S,
+) -> Result<(), SinkFault>
+    ensures { Puts (S.state out.old) (S.state out.new) (line names.now addr word) result }
 {
     let text = text(word);
     put_all(
@@ -84,6 +109,7 @@ pub fn put_line<S: Sink>(addr: Addr, word: u32, out: &mut S) -> Result<(), SinkF
         &[
             b"0x",
             &hexadecimal(addr.value()),
+            names.label(addr).as_bytes(),
             b": ",
             &hexadecimal(word),
             b"  ",

@@ -7,7 +7,7 @@ use Rattle.std.specs.Ordering.{nat_cmp}
 use Rattle.std.specs.Cmp.Lexicographic.{slice_cmp}
 use Rattle.std.proofs.lemmas.Bool.{cases_lt}
 use Rattle.std.proofs.lemmas.Option.{slice_get_within, slice_get_cases}
-use Rattle.reports.specs.Reports.{report_of}
+use Rattle.render.specs.Reports.{report_of}
 use Rattle.outcomes.specs.declared.pool.State.{State}
 use Rattle.outcomes.specs.declared.breadth_first.Outcomes.{Outcomes}
 use Rattle.outcomes.specs.Searches.{flat_at, Stands, IsEnd}

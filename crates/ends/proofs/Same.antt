@@ -10,7 +10,7 @@ use Rattle.protocol.specs.Machine.{Machine}
 use Rattle.isolation.specs.Belongs.{Belongs}
 use Rattle.isolation.proofs.Belongs.Belonging.{inv_of, answers_after}
 use Rattle.isolation.proofs.Rooms.StepsExist.{keys_of}
-use Rattle.reports.specs.Reports.{line_end, output_text, status_text, report_of}
+use Rattle.render.specs.Reports.{line_end, output_text, status_text, report_of}
 
 -- a report says no more than the number of harts, their outputs and statuses, and memory
 pub same_told : (f h : Flat) (words : List ℕ) → f.setting.count ≡ h.setting.count → ((i : ℕ) → (f.hart i).output ≡ (h.hart i).output) → ((i : ℕ) → (f.hart i).status ≡ (h.hart i).status)

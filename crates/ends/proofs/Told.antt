@@ -14,9 +14,9 @@ use Rattle.protocol.specs.Caches.{Geometry}
 use Rattle.protocol.specs.Machine.{Machine, Runs}
 use Rattle.protocol.specs.Start.{start}
 use Rattle.isolation.specs.Belongs.{Belongs}
-use Rattle.endings.specs.Walks.{IsEnded, WalksInOrder}
-use Rattle.endings.proofs.Reached.{end_reached}
-use Rattle.reports.specs.Reports.{report_of}
+use Rattle.isolation.specs.Walks.{IsEnded, WalksInOrder}
+use Rattle.isolation.proofs.Reached.{end_reached}
+use Rattle.render.specs.Reports.{report_of}
 use Rattle.outcomes.specs.declared.breadth_first.Outcomes.{Outcomes}
 use Rattle.outcomes.specs.Searches.{flat_at, Finds}
 use Rattle.ends.specs.declared.gathering.End.{End}

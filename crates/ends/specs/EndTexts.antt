@@ -1,7 +1,7 @@
 -- The ends as text.
 use Rattle.std.specs.Prelude.{ℕ, ◌++◌, Bool, true, false, List, [], ◌∷◌, codes, decimal, length}
 use Rattle.std.specs.List.{concat, flat_map, enumerate_from}
-use Rattle.reports.specs.Reports.{line_end}
+use Rattle.render.specs.Reports.{line_end}
 use Rattle.ends.specs.declared.gathering.End.{End}
 
 -- a report behind a number

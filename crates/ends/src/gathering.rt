@@ -3,13 +3,13 @@ ghost use Rattle.std.specs.Prelude.{◌≡◌, ◌<◌, ◌+◌, IfOk, OnOk, len
 ghost use Rattle.std.specs.List.Sorted.{IsStrictlySortedBy};
 ghost use Rattle.std.specs.Ordering.{nat_cmp};
 ghost use Rattle.std.specs.Cmp.Lexicographic.{slice_cmp};
-ghost use Rattle.reports.specs.Reports.{AllReadable, report_of};
+ghost use Rattle.render.specs.Reports.{AllReadable, report_of};
 ghost use Rattle.outcomes.specs.Searches.{IsSearch, setting_at};
 ghost use Rattle.outcomes.specs.Standings.{setting_of, flat_of};
 ghost use Rattle.ends.specs.Ends.{AreEndsOf, reports_of};
 
 use outcomes::{Outcomes, Standing};
-use reports::report;
+use render::report;
 use std::alloc::{AllocError, Global};
 use std::collections::BTreeMap;
 use words::{Addr, Taken};

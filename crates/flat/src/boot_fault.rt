@@ -3,11 +3,11 @@ ghost use Rattle.flat.specs.BootFaults.{boot_fault_number, boot_fault_name, boot
 ghost use Rattle.flat.specs.declared.boot_fault.BootFault.TheVariants.{NoMemory};
 
 use std::alloc::AllocError;
-use std::error::Error;
 use std::fmt;
+use thiserror::Error;
 
 /// Why a program isn't booted.
-#[derive(Clone, Copy, Debug, PartialEq, Eq)]
+#[derive(Clone, Copy, Debug, PartialEq, Eq, Error)]
 pub enum BootFault {
     /// The size of memory isn't a multiple of 4,096 from 65,536 to 4,194,304.
     BadSize,
@@ -51,8 +51,6 @@ impl fmt::Display for BootFault {
         write!(f, "{} {}", self.number(), self.name())
     }
 }
-
-impl Error for BootFault {}
 
 impl From<AllocError> for BootFault {
     ghost from_gives = { λ _ e. e ≡ NoMemory };

@@ -11,3 +11,5 @@ pub mod Plain
 pub mod Quick
 pub mod Answering
 pub mod Keeping
+pub mod Places
+pub mod Layouts

@@ -16,6 +16,7 @@ use words::{AbortCause, Cause, Entry, LineState, Status};
 /// Traps and aborts.
 impl<const SETS: usize, const WAYS: usize> Hart<SETS, WAYS> {
     ghost use Rattle.hart.specs.Parts.{StaysPut};
+    ghost use Rattle.hart.specs.Places.{KeepsWays};
     ghost use Rattle.hart.specs.Shown.{shown_line, shown_record, shown_tx, shown_log, shown_hart};
     ghost use Rattle.hart.specs.Rows.{stepped};
 
@@ -24,6 +25,7 @@ impl<const SETS: usize, const WAYS: usize> Hart<SETS, WAYS> {
     pub(crate) fn start_abort(&mut self, cause: AbortCause) -> CoreStep
         ensures row { (output : List ℕ) (t : Transaction) → shown_tx self.old.tx ≡ Some t →
             start_abort_row cause t (shown_hart SETS output self.old) ≡ stepped SETS output self.new result }
+        ensures cache { self.new.cache ≡ self.old.cache }
         ensures stays { StaysPut self.old self.new }
     {
         start_abort(&mut self.tx, cause);
@@ -35,6 +37,7 @@ impl<const SETS: usize, const WAYS: usize> Hart<SETS, WAYS> {
     pub(crate) fn ask_abort(&mut self) -> CoreStep
         ensures row { (output : List ℕ) → tabort_row (shown_tx self.old.tx) (shown_hart SETS output self.old)
             ≡ stepped SETS output self.new result }
+        ensures cache { self.new.cache ≡ self.old.cache }
         ensures stays { StaysPut self.old self.new }
     {
         if self.tx.depth() == 0 {
@@ -48,6 +51,7 @@ impl<const SETS: usize, const WAYS: usize> Hart<SETS, WAYS> {
     pub(crate) fn trap(&mut self, cause: Cause) -> CoreStep
         ensures row { (output : List ℕ) → trap_row self.old.index cause (shown_tx self.old.tx) (shown_hart SETS output self.old)
             ≡ stepped SETS output self.new result }
+        ensures cache { self.new.cache ≡ self.old.cache }
         ensures stays { StaysPut self.old self.new }
     {
         if self.tx.depth() > 0 {
@@ -70,6 +74,7 @@ impl<const SETS: usize, const WAYS: usize> Hart<SETS, WAYS> {
         ensures row { (output : List ℕ) (t : Transaction) (cause : AbortCause) → shown_tx self.old.tx ≡ Some t →
             self.old.tx.aborting ≡ Some cause →
             end_abort_row self.old.index cause t (shown_hart SETS output self.old) ≡ stepped SETS output self.new result }
+        ensures ways { KeepsWays SETS self.old.cache self.new.cache }
         ensures stays { StaysPut self.old self.new }
     {
         let restart = end_abort(&mut self.tx);
@@ -96,6 +101,7 @@ impl<const SETS: usize, const WAYS: usize> Hart<SETS, WAYS> {
             t.log ≡ shown_record newest.now ∷ rest →
             undo_row t (shown_record newest.now) rest (shown_line line.now)
             (shown_hart SETS output self.old) ≡ stepped SETS output self.new result }
+        ensures ways { KeepsWays SETS self.old.cache self.new.cache }
         ensures stays { StaysPut self.old self.new }
     {
         self.cache.replace(Line {

@@ -12,6 +12,7 @@ use words::{BlockNo, Entry, Message};
 
 impl<const SETS: usize, const WAYS: usize> Hart<SETS, WAYS> {
     ghost use Rattle.hart.specs.Parts.{StaysPut};
+    ghost use Rattle.hart.specs.Places.{KeepsWays};
     ghost use Rattle.hart.specs.Shown.{shown_line, shown_hart};
     ghost use Rattle.hart.specs.Rows.{replied};
 
@@ -21,6 +22,7 @@ impl<const SETS: usize, const WAYS: usize> Hart<SETS, WAYS> {
         ensures row { (output : List ℕ) → evict_row self.old.index block (shown_hart SETS output self.old)
             ≡ option_map (replied SETS output self.new) result }
         ensures none { IfNone result (self.new ≡ self.old) }
+        ensures ways { KeepsWays SETS self.old.cache self.new.cache }
         ensures stays { StaysPut self.old self.new }
     {
         let line = self.line(block)?;
@@ -52,6 +54,7 @@ impl<const SETS: usize, const WAYS: usize> Hart<SETS, WAYS> {
         requires { line_at SETS self.old.cache line.now.block ≡ Some line.now }
         ensures hart { (output : List ℕ) → shown_hart SETS output self.new
             ≡ without_line line.now.block (shown_line line.now) (shown_hart SETS output self.old) }
+        ensures ways { KeepsWays SETS self.old.cache self.new.cache }
         ensures stays { StaysPut self.old self.new }
     {
         self.cache.invalidate(line.block);
@@ -63,6 +66,7 @@ impl<const SETS: usize, const WAYS: usize> Hart<SETS, WAYS> {
         ensures row { (output : List ℕ) →
             drop_row self.old.index line.now.block (shown_line line.now) (shown_hart SETS output self.old)
             ≡ replied SETS output self.new result }
+        ensures ways { KeepsWays SETS self.old.cache self.new.cache }
         ensures stays { StaysPut self.old self.new }
     {
         self.remove(line);
@@ -77,6 +81,7 @@ impl<const SETS: usize, const WAYS: usize> Hart<SETS, WAYS> {
         ensures row { (output : List ℕ) →
             write_back_row self.old.index line.now.block (shown_line line.now) (shown_hart SETS output self.old)
             ≡ replied SETS output self.new result }
+        ensures ways { KeepsWays SETS self.old.cache self.new.cache }
         ensures stays { StaysPut self.old self.new }
     {
         let marked = line.marks.is_marked();

@@ -17,6 +17,7 @@ use words::{Block, BlockNo, Entry, HartId, Kind, LineState, Message, Stamp};
 
 impl<const SETS: usize, const WAYS: usize> Hart<SETS, WAYS> {
     ghost use Rattle.hart.specs.Parts.{StaysPut};
+    ghost use Rattle.hart.specs.Places.{KeepsWays};
     ghost use Rattle.hart.specs.Shown.{shown_line, shown_tx, shown_hart, shown_granted};
     ghost use Rattle.hart.specs.Rows.{replied};
 
@@ -27,6 +28,7 @@ impl<const SETS: usize, const WAYS: usize> Hart<SETS, WAYS> {
         ensures row { (output : List ℕ) →
             message_row self.old.harts self.old.index (shown message.now) (shown_hart SETS output self.old)
             ≡ replied SETS output self.new result }
+        ensures ways { KeepsWays SETS self.old.cache self.new.cache }
         ensures stays { StaysPut self.old self.new }
     {
         match message {
@@ -82,6 +84,7 @@ impl<const SETS: usize, const WAYS: usize> Hart<SETS, WAYS> {
     ) -> Reply
         ensures row { (output : List ℕ) → forward_row self.old.index block kind requester stamp (shown_hart SETS output self.old)
             ≡ replied SETS output self.new result }
+        ensures ways { KeepsWays SETS self.old.cache self.new.cache }
         ensures stays { StaysPut self.old self.new }
     {
         let line = self.line(block);
@@ -117,6 +120,7 @@ impl<const SETS: usize, const WAYS: usize> Hart<SETS, WAYS> {
     fn refuse(&mut self, block: BlockNo, requester: HartId, stamp: Option<Stamp>) -> Reply
         ensures row { (output : List ℕ) → refuse_row self.old.index block requester stamp (shown_hart SETS output self.old)
             ≡ replied SETS output self.new result }
+        ensures cache { self.new.cache ≡ self.old.cache }
         ensures stays { StaysPut self.old self.new }
     {
         let own = self.stamp();
@@ -156,6 +160,7 @@ impl<const SETS: usize, const WAYS: usize> Hart<SETS, WAYS> {
         requires meets { refuses (option_map shown_line line.now) (overflow_of (shown_tx self.old.tx)) kind ≡ false }
         ensures hart { (output : List ℕ) → let h = shown_hart SETS output self.old in
             shown_hart SETS output self.new ≡ with_line block (line_given kind (h.lines block)) h }
+        ensures ways { KeepsWays SETS self.old.cache self.new.cache }
         ensures stays { StaysPut self.old self.new }
     {
         let Some(line) = line else {
@@ -175,6 +180,7 @@ impl<const SETS: usize, const WAYS: usize> Hart<SETS, WAYS> {
     fn on_put_ack(&mut self, block: BlockNo)
         ensures row { (output : List ℕ) → put_ack_row block (shown_hart SETS output self.old)
             ≡ quiet (shown_hart SETS output self.new) }
+        ensures cache { self.new.cache ≡ self.old.cache }
         ensures stays { StaysPut self.old self.new }
     {
         if let Some(put) = &self.put {
@@ -189,6 +195,7 @@ impl<const SETS: usize, const WAYS: usize> Hart<SETS, WAYS> {
         ensures row { (output : List ℕ) →
             grant_row self.old.harts self.old.index block (shown_granted granted.now) (shown_hart SETS output self.old)
             ≡ replied SETS output self.new result }
+        ensures ways { KeepsWays SETS self.old.cache self.new.cache }
         ensures stays { StaysPut self.old self.new }
     {
         if !keep_grant(&mut self.request, block, granted) {
@@ -202,6 +209,7 @@ impl<const SETS: usize, const WAYS: usize> Hart<SETS, WAYS> {
         ensures row { (output : List ℕ) →
             ack_row self.old.harts self.old.index block from content.now (shown_hart SETS output self.old)
             ≡ replied SETS output self.new result }
+        ensures ways { KeepsWays SETS self.old.cache self.new.cache }
         ensures stays { StaysPut self.old self.new }
     {
         if !keep_ack(&mut self.request, block, from, content) {
@@ -215,6 +223,7 @@ impl<const SETS: usize, const WAYS: usize> Hart<SETS, WAYS> {
         ensures row { (output : List ℕ) →
             nack_row self.old.harts self.old.index block from stamp (shown_hart SETS output self.old)
             ≡ replied SETS output self.new result }
+        ensures ways { KeepsWays SETS self.old.cache self.new.cache }
         ensures stays { StaysPut self.old self.new }
     {
         let is_earlier = earlier(stamp, self.stamp());
@@ -229,6 +238,7 @@ impl<const SETS: usize, const WAYS: usize> Hart<SETS, WAYS> {
     fn settle(&mut self) -> Reply
         ensures row { (output : List ℕ) (r : ProtocolRequest) → let h = shown_hart SETS output self.old in
             h.request ≡ Some r → granted_so_far self.old.harts self.old.index r r.grant h ≡ replied SETS output self.new result }
+        ensures ways { KeepsWays SETS self.old.cache self.new.cache }
         ensures stays { StaysPut self.old self.new }
     {
         let Some(request) = &self.request else {
@@ -256,6 +266,7 @@ impl<const SETS: usize, const WAYS: usize> Hart<SETS, WAYS> {
         ensures row { (output : List ℕ) → let h = shown_hart SETS output self.old in
             sends (Done self.old.index block false None) (record h { request = None; tx = option_map (gives_way earlier) h.tx })
             ≡ replied SETS output self.new result }
+        ensures cache { self.new.cache ≡ self.old.cache }
         ensures stays { StaysPut self.old self.new }
     {
         self.request = None;
@@ -280,6 +291,7 @@ impl<const SETS: usize, const WAYS: usize> Hart<SETS, WAYS> {
             sends (Done self.old.index block true back)
             (with_line block (Some (line_filled give (overflow_of h.tx) content.now (h.lines block))) (record h { request = None; fresh = true }))
             ≡ replied SETS output self.new result }
+        ensures ways { KeepsWays SETS self.old.cache self.new.cache }
         ensures stays { StaysPut self.old self.new }
     {
         self.receive(block, give, *content);
@@ -311,6 +323,7 @@ impl<const SETS: usize, const WAYS: usize> Hart<SETS, WAYS> {
         ensures hart { (output : List ℕ) → let h = shown_hart SETS output self.old in
             shown_hart SETS output self.new ≡ with_line block
             (Some (line_filled give (overflow_of h.tx) content (h.lines block))) h }
+        ensures ways { KeepsWays SETS self.old.cache self.new.cache }
         ensures stays { StaysPut self.old self.new }
     {
         match self.line(block) {

@@ -99,7 +99,7 @@ pub(crate) fn keep_grant(out: &mut Option<Request>, block: BlockNo, granted: &Gr
     }
 }
 
-/// The same of a hart's acknowledgement.
+/// Keeps a hart's acknowledgement with the request for a block, if one is out, and answers whether one is.
 #[inline(always)]
 pub(crate) fn keep_ack(
     out: &mut Option<Request>,
@@ -119,7 +119,7 @@ pub(crate) fn keep_ack(
     }
 }
 
-/// The same of a hart's refusal, by a transaction that is earlier or not.
+/// Keeps a hart's refusal, by a transaction that is earlier or not, with the request for a block, if one is out, and answers whether one is.
 #[inline(always)]
 pub(crate) fn keep_nack(
     out: &mut Option<Request>,

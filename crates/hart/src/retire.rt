@@ -51,6 +51,7 @@ fn output_by(regs: &Regs, act: &Act) -> Option<u8>
 /// Instructions that are retired.
 impl<const SETS: usize, const WAYS: usize> Hart<SETS, WAYS> {
     ghost use Rattle.hart.specs.Parts.{StaysPut};
+    ghost use Rattle.hart.specs.Places.{KeepsWays};
     ghost use Rattle.hart.specs.Shown.{shown_line, shown_tx, running, shown_hart};
     ghost use Rattle.hart.specs.Rows.{stepped, is_access};
 
@@ -60,6 +61,7 @@ impl<const SETS: usize, const WAYS: usize> Hart<SETS, WAYS> {
         requires { is_access effect.now.act ≡ false }
         ensures row { (output : List ℕ) → retire_row self.old.index no_memory word effect.now (shown_hart SETS output self.old)
             ≡ stepped SETS output self.new result }
+        ensures cache { self.new.cache ≡ self.old.cache }
         ensures stays { StaysPut self.old self.new }
     {
         let entry = Entry::Retire {
@@ -127,6 +129,7 @@ impl<const SETS: usize, const WAYS: usize> Hart<SETS, WAYS> {
         ensures row { (output : List ℕ) →
             retire_row self.old.index (byte_in content.now) word effect.now (shown_hart SETS output self.old)
             ≡ stepped SETS output self.new result }
+        ensures cache { self.new.cache ≡ self.old.cache }
         ensures stays { StaysPut self.old self.new }
     {
         let entry = self.access_entry(word, m, content);
@@ -153,6 +156,7 @@ impl<const SETS: usize, const WAYS: usize> Hart<SETS, WAYS> {
         ensures row { (output : List ℕ) →
             begin_row self.old.index taken word effect.now abort_pc (shown_tx self.old.tx) (shown_hart SETS output self.old)
             ≡ stepped SETS output self.new result }
+        ensures cache { self.new.cache ≡ self.old.cache }
         ensures stays { StaysPut self.old self.new }
     {
         let stamp = Stamp {
@@ -174,6 +178,7 @@ impl<const SETS: usize, const WAYS: usize> Hart<SETS, WAYS> {
         ensures row { (output : List ℕ) →
             commit_row self.old.index word effect.now (shown_tx self.old.tx) (shown_hart SETS output self.old)
             ≡ stepped SETS output self.new result }
+        ensures ways { KeepsWays SETS self.old.cache self.new.cache }
         ensures stays { StaysPut self.old self.new }
     {
         if commit(&mut self.tx) {
@@ -202,6 +207,7 @@ impl<const SETS: usize, const WAYS: usize> Hart<SETS, WAYS> {
             access_row self.old.index word effect.now m.now (shown_line line.now) (shown_tx self.old.tx)
             (shown_hart SETS output self.old)
             ≡ stepped SETS output self.new result }
+        ensures ways { KeepsWays SETS self.old.cache self.new.cache }
         ensures stays { StaysPut self.old self.new }
     {
         if self.tx.depth() == 0 {
@@ -230,6 +236,7 @@ impl<const SETS: usize, const WAYS: usize> Hart<SETS, WAYS> {
             let used = with_line (m.now.addr / 32) (Some (line_used in_transaction m.now (shown_line line.now))) (shown_hart SETS output self.old) in
             retire_row self.old.index (byte_in line.now.content) word effect.now used
             ≡ stepped SETS output self.new result }
+        ensures ways { KeepsWays SETS self.old.cache self.new.cache }
         ensures stays { StaysPut self.old self.new }
     {
         self.use_line(m, line, in_transaction);
@@ -255,6 +262,7 @@ impl<const SETS: usize, const WAYS: usize> Hart<SETS, WAYS> {
         ensures row { (output : List ℕ) → let h = shown_hart SETS output self.old in
             access_row self.old.index word effect.now m.now (shown_line line.now) (Some (running self.old.tx)) h
             ≡ stepped SETS output self.new result }
+        ensures ways { KeepsWays SETS self.old.cache self.new.cache }
         ensures stays { StaysPut self.old self.new }
     {
         if !self.log_line(m, line) {
@@ -294,6 +302,7 @@ impl<const SETS: usize, const WAYS: usize> Hart<SETS, WAYS> {
         ensures hart { (output : List ℕ) → shown_hart SETS output self.new
             ≡ with_line (m.now.addr / 32) (Some (line_used in_transaction m.now (shown_line line.now)))
             (shown_hart SETS output self.old) }
+        ensures ways { KeepsWays SETS self.old.cache self.new.cache }
         ensures stays { StaysPut self.old self.new }
     {
         let marks = marks_after(in_transaction, m, line.marks);

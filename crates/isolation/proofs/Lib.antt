@@ -8,3 +8,14 @@ pub mod Consequences
 pub mod Belongs
 pub mod Rooms
 pub mod Within
+pub mod OneBlock
+pub mod Walked
+pub mod Unseen
+pub mod Lowest
+pub mod LocalWords
+pub mod InOrder
+pub mod Pasts
+pub mod Waits
+pub mod Together
+pub mod Beside
+pub mod Reached

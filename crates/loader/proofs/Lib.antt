@@ -11,3 +11,4 @@ pub mod Room
 pub mod RoundTrip
 pub mod Table
 pub mod Written
+pub mod Segments

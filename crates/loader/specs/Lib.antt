@@ -4,3 +4,4 @@ pub mod Faults
 pub mod Headers
 pub mod Programs
 pub mod Writing
+pub mod Memory

@@ -3,11 +3,11 @@ ghost use Rattle.loader.specs.Faults.{fault_number, fault_name, fault_text};
 ghost use Rattle.loader.specs.declared.fault.LoadFault.TheVariants.{NoMemory};
 
 use std::alloc::{AllocError, AllocFailed};
-use std::error::Error;
 use std::fmt;
+use thiserror::Error;
 
 /// Why a file was not read as a program.
-#[derive(Clone, Copy, Debug, PartialEq, Eq)]
+#[derive(Clone, Copy, Debug, PartialEq, Eq, Error)]
 pub enum LoadFault {
     /// A header, the header table or a segment's bytes pass the end of the file.
     Truncated,
@@ -80,8 +80,6 @@ impl fmt::Display for LoadFault {
         write!(f, "{} {}", self.number(), self.name())
     }
 }
-
-impl Error for LoadFault {}
 
 impl From<AllocError> for LoadFault {
     ghost from_gives = { λ _ fault. fault ≡ NoMemory };

@@ -12,7 +12,7 @@ use Rattle.loader.specs.Programs.{Program}
 use Rattle.flat.specs.State.{Setting, idle}
 use Rattle.flat.specs.declared.boot_fault.BootFault.TheVariants.{BadSize, BadHarts, DoesNotFit}
 use Rattle.flat.specs.Boots.{is_size, is_count, fits_below, ends_by, boot_fault}
-use Rattle.boot.proofs.Segments.{all_end_by}
+use Rattle.loader.proofs.Segments.{all_end_by}
 use Rattle.std.specs.List.{list_all}
 use Rattle.std.proofs.Math.Path.{fun_ext}
 use Rattle.protocol.specs.Lines.{words_at}

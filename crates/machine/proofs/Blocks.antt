@@ -5,7 +5,7 @@ use Rattle.std.specs.List.{range_with_len}
 use Rattle.std.proofs.lemmas.Bool.{cases_lt}
 use Rattle.std.proofs.lemmas.List.FromFn.{length-map-range_with_len, get_or-map-range_with_len}
 use Rattle.words.specs.Limits.{block_bytes, block_words}
-use Rattle.boot.specs.Memory.{mem_of}
+use Rattle.loader.specs.Memory.{mem_of}
 use Rattle.protocol.specs.Messages.{Block}
 use Rattle.protocol.specs.Lines.{words_at}
 use Rattle.isolation.proofs.Words.Bytes.{words_same}

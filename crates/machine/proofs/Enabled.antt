@@ -14,6 +14,7 @@ use Rattle.protocol.specs.Machine.{MayLack, MayNameIn}
 use Rattle.hart.specs.Shown.{shown_hart}
 use Rattle.hart.specs.Rows.{setting_of as hart_setting, victim_of}
 use Rattle.machine.specs.Mail.{in_flight}
+use Rattle.machine.specs.Making.{victims}
 use Rattle.machine.specs.States.{Seat, State, shown, geometry, hart_at, setting_of, IsSeated, IsSound}
 use Rattle.machine.specs.Watch.{arrives, IsEnabled}
 use Rattle.machine.proofs.Cores.{Names, may_lack, core_of_none}
@@ -72,8 +73,8 @@ module _ (sets ways i : ℕ) (v : State) (s : Seat) (sound : IsSound sets ways v
 -- a number that is no hart's has none
 pub no_core : (sets ways i : ℕ) (v : State) → IsSound sets ways v → length v.seats ≤ i → IsEnabled (geometry sets ways) (shown sets v) (Core i) false
 no_core sets ways i v sound past =
-    let steps = core_of_none sets ways i v sound past in
-    (steps.0, steps.1, sym (ap (λ b. b && is_some (core_row (setting_of v) i v.stamps steps.0 (hart_at sets v.seats i))) (is_past i (length v.seats) past)))
+    let step = core_of_none sets ways i v sound past in
+    (victims sets v (Core i), step.may, sym (ap (λ b. b && is_some (core_row (setting_of v) i v.stamps (victims sets v (Core i)) (hart_at sets v.seats i))) (is_past i (length v.seats) past)))
 
 pub no_evict : (sets ways i b : ℕ) (v : State) → length v.seats ≤ i → IsEnabled (geometry sets ways) (shown sets v) (Evict i b) false
 no_evict sets ways i b v past = (λ c. None, tt {0}, sym (ap (λ t. t && is_some (evict_row i b (hart_at sets v.seats i))) (is_past i (length v.seats) past)))

@@ -1,8 +1,10 @@
 mod Places
 mod Changed
 mod Sending
-mod Numbering
+pub mod Made
+mod Alike
 mod Acting
+mod Staying
 mod Sound
 mod Steps
 mod Deliveries

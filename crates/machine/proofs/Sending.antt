@@ -1,14 +1,14 @@
--- Messages sent one after another.
-use Rattle.std.proofs.Common.{◌≡◌, ◌≢◌, ◌<◌, ◌+◌, ℕ, Option, Some, None, List, [], ◌∷◌, ◌++◌, length, take, get_or, sym, ap, subst, ◌∙◌}
-use Rattle.std.proofs.lemmas.List.{map_more}
+-- Messages sent one after another, each with the next number.
+use Rattle.std.proofs.Common.{◌≡◌, ◌≢◌, ◌∙◌, ℕ, Bool, true, false, cond, Option, Some, None, List, [], ◌∷◌, ◌++◌, refl, ap, subst}
+use Rattle.std.specs.Prelude.{◌==◌}
 use Rattle.std.specs.List.{slice_index_or}
 use Rattle.std.specs.Option.{option_map}
+use Rattle.std.proofs.Math.Path.{fun_ext}
 use Rattle.flat.specs.Bytes.{put_at}
 use Rattle.network.specs.declared.net.Flight.{Flight}
 use Rattle.protocol.specs.Messages.{Message, shown}
-use Rattle.protocol.specs.Network.{Network, Sends}
-use Rattle.directory.specs.declared.received.Outgoing.{Outgoing}
-use Rattle.machine.specs.Mail.{in_flight, messages_of}
+use Rattle.protocol.specs.Network.{Sends, taken}
+use Rattle.machine.specs.Mail.{Mail, SendsOn, IsLeft, in_flight, mail_of, number_after, without_numbers}
 use Rattle.machine.proofs.Changed.{changed_at}
 
 -- a flight under a key that was free
@@ -17,33 +17,46 @@ pub record IsSent (old new : List (Option Flight)) (key : ℕ) (f : Flight) : Ty
   pub sent : slice_index_or new key None ≡ Some f
   pub others : (other : ℕ) → other ≢ key → slice_index_or new other None ≡ slice_index_or old other None
 
--- its message is in flight under the key
-pub sent_under : (old new : List (Option Flight)) (key : ℕ) (f : Flight) → IsSent old new key f → in_flight new ≡ put_at key (Some (shown f.message)) (in_flight old)
-sent_under old new key f s = changed_at key (Some (shown f.message)) (in_flight old) (in_flight new) (ap show s.sent) (λ j ne. ap show (s.others j ne))
-  where
-    show : Option Flight → Option Message
-    show o = option_map shown (option_map (λ g. g.message) o)
-
--- one message more
-pub one_more : (ms : List Message) (old mid new : Network) (m : Message) (key : ℕ) → Sends old ms mid → mid key ≡ None → new ≡ put_at key (Some m) mid → Sends old (ms ++ m ∷ []) new
-one_more [] old mid new m key sent free is = (key, subst (λ net. net key ≡ None) sent free, is ∙ ap (put_at key (Some m)) sent)
-one_more (x ∷ ms) old mid new m key (k, unused, sent) free is = (k, unused, one_more ms (put_at k (Some x) old) mid new m key sent free is)
-
--- the first so many messages of a list and the next are sent
-pub sent_more : (sends : List Outgoing) (k : ℕ) (o : Outgoing) (first : Network) (old new : List (Option Flight)) (key : ℕ) (f : Flight)
-    → k < length sends → o ≡ get_or sends k o → f.message ≡ o.message → IsSent old new key f
-    → Sends first (messages_of (take k sends)) (in_flight old) → Sends first (messages_of (take (k + 1) sends)) (in_flight new)
-sent_more sends k o first old new key f lt is same s before =
-    let more : messages_of (take (k + 1) sends) ≡ messages_of (take k sends) ++ shown f.message ∷ [] =
-    map_more (λ s. shown s.message) sends k o lt ∙ ap (λ x. messages_of (take k sends) ++ x ∷ []) (ap (λ x. shown x.message) (sym is) ∙ ap shown (sym same)) in
-    subst (λ ms. Sends first ms (in_flight new)) (sym more)
-    (one_more (messages_of (take k sends)) first (in_flight old) (in_flight new) (shown f.message) key before (ap (λ o. option_map shown (option_map (λ g. g.message) o)) s.free) (sent_under old new key f s))
+-- a message under a key that was free
+pub sends_one : (old new : List (Option Flight)) (key : ℕ) (f : Flight) (n next : ℕ) → IsSent old new key f → f.number ≡ n → next ≡ number_after n
+    → SendsOn (mail_of old) n (shown f.message ∷ []) (mail_of new) next
+sends_one old new key f n next s is after = (key, f, s.free, refl, is, (changed_at key (Some f) (mail_of old) (mail_of new) s.sent s.others, after))
 
 -- messages, and then others
-pub sends_on : (ms others : List Message) (old mid new : Network) → Sends old ms mid → Sends mid others new → Sends old (ms ++ others) new
-sends_on [] others old mid new first then = subst (λ net. Sends net others new) first then
-sends_on (x ∷ ms) others old mid new (key, unused, first) then = (key, unused, sends_on ms others (put_at key (Some x) old) mid new first then)
+pub sends_on : (ms others : List Message) (old mid new : Mail) (l m n : ℕ) → SendsOn old l ms mid m → SendsOn mid m others new n → SendsOn old l (ms ++ others) new n
+sends_on [] others old mid new l m n (same, is) then = subst (λ k. SendsOn old k others new n) is (subst (λ mail. SendsOn mail m others new n) same then)
+sends_on (x ∷ ms) others old mid new l m n (key, f, free, is, number, first) then =
+    (key, f, free, is, number, sends_on ms others (put_at key (Some f) old) mid new (number_after l) m n first then)
 
--- a message under a key that was free
-pub sends_one : (old new : List (Option Flight)) (key : ℕ) (f : Flight) → IsSent old new key f → Sends (in_flight old) (shown f.message ∷ []) (in_flight new)
-sends_one old new key f s = (key, ap (λ o. option_map shown (option_map (λ g. g.message) o)) s.free, sent_under old new key f s)
+-- of a mail that is changed at a key the messages are changed there
+pub without_at : (key : ℕ) (o : Option Flight) (mail : Mail) → without_numbers (put_at key o mail) ≡ put_at key (option_map shown (option_map (λ (f : Flight). f.message) o)) (without_numbers mail)
+without_at key o mail = fun_ext (λ j. by (j == key) j)
+  where
+    message : Option Flight → Option Message
+    message x = option_map shown (option_map (λ (f : Flight). f.message) x)
+
+    by : (b : Bool) (j : ℕ) → message (cond b o (mail j)) ≡ cond b (message o) (message (mail j))
+    by true j = refl
+    by false j = refl
+
+-- messages that are numbered are messages
+pub sends_of : (ms : List Message) (old new : Mail) (n next : ℕ) → SendsOn old n ms new next → Sends (without_numbers old) ms (without_numbers new)
+sends_of [] old new n next (same, is) = ap without_numbers same
+sends_of (x ∷ ms) old new n next (key, f, free, is, number, rest) =
+    let later : Sends (without_numbers (put_at key (Some f) old)) ms (without_numbers new) = sends_of ms (put_at key (Some f) old) new (number_after n) next rest in (
+      key,
+      ap (λ o. option_map shown (option_map (λ (g : Flight). g.message) o)) free,
+      subst (λ net. Sends net ms (without_numbers new)) (without_at key (Some f) old ∙ ap (λ m. put_at key (Some m) (without_numbers old)) is) later,
+    )
+
+-- all are left
+pub all_left : (slots : List (Option Flight)) → IsLeft (mail_of slots) (in_flight slots) (mail_of slots)
+all_left slots = record { stays = λ key f at. at; messages = refl }
+
+-- all but one
+pub left_without : (key : ℕ) (slots : List (Option Flight)) → IsLeft (mail_of slots) (taken key (in_flight slots)) (put_at key None (mail_of slots))
+left_without key slots = record { stays = λ j f at. was (j == key) j f at; messages = without_at key None (mail_of slots) }
+  where
+    was : (b : Bool) (j : ℕ) (f : Flight) → cond b None (mail_of slots j) ≡ Some f → mail_of slots j ≡ Some f
+    was true j f at = absurd (cc)
+    was false j f at = at

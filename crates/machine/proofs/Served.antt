@@ -1,4 +1,4 @@
--- A message that arrives at the directory is a step of the protocol's machine.
+-- A message that arrives at the directory is a step of the machine.
 use Rattle.std.proofs.Common.{◌≡◌, ◌<◌, ◌≤◌, ◌*◌, ℕ, arith, Option, Some, None, List, [], length, replicate, inl, inr, refl, sym, ap, subst, ◌∙◌}
 use Rattle.std.specs.Prelude.{IfSome, ◌⊎◌, slice_get}
 use Rattle.std.specs.List.{slice_index_or}
@@ -8,9 +8,9 @@ use Rattle.words.specs.declared.message.Message.{Message}
 use Rattle.words.specs.declared.entry.Step.TheVariants.{Deliver}
 use Rattle.flat.specs.Bytes.{put_at}
 use Rattle.protocol.specs.Messages.{Block, Message as Told, Get, Put, Done, Grant, Forward, PutAck, Ack, Nack, shown as shown_message, receiver_of, block_of}
-use Rattle.protocol.specs.Network.{Sends, taken}
+use Rattle.protocol.specs.Network.{taken}
 use Rattle.protocol.specs.Directory.{Served, directory_row}
-use Rattle.protocol.specs.Machine.{Steps, ComesAbout, served_change, directory_change}
+use Rattle.protocol.specs.Machine.{served_change, directory_change}
 use Rattle.directory.specs.Blocks.{Blocks, entry_at, row_of, sender_of, SetsBlock, Answers}
 use Rattle.directory.specs.Sends.{messages_in}
 use Rattle.directory.specs.declared.received.Answer.{Answer}
@@ -19,11 +19,14 @@ use Rattle.isolation.proofs.Within.Machines.{run_within}
 use Rattle.isolation.specs.Facts.{whose, IsAwaited}
 use Rattle.isolation.proofs.Consequences.RequestLaws.{awaited}
 use Rattle.isolation.proofs.Belongs.Belonging.{world, inv_of, belongs_next}
-use Rattle.machine.specs.Mail.{in_flight}
+use Rattle.machine.specs.Mail.{SendsOn, in_flight, mail_of}
+use Rattle.machine.specs.Making.{BringsAbout, MakesStep}
 use Rattle.machine.specs.States.{State, shown, geometry, hart_at, words_of, setting_of, IsSeated, IsSound}
 use Rattle.machine.proofs.Places.{within, beyond}
 use Rattle.machine.proofs.Changed.{changed_at}
-use Rattle.machine.proofs.Steps.{nothing}
+use Rattle.machine.proofs.Made.{nothing, steps_of}
+use Rattle.machine.proofs.Sending.{left_without}
+use Rattle.machine.proofs.Staying.{seats_stay}
 use Rattle.machine.proofs.Deliveries.{arrives}
 
 -- What a message to the directory is about
@@ -72,7 +75,7 @@ pub record Serves (key : ℕ) (v w : State) (m : Message) (s : Served) : Type 0 
   pub stamps : w.stamps ≡ v.stamps
   pub row : row_of v.directory (shown_message m) ≡ Some s
   pub block : SetsBlock v.directory w.directory (block_of (shown_message m)) s.entry s.memory
-  pub sends : Sends (taken key (in_flight v.flights)) s.sent (in_flight w.flights)
+  pub sends : SendsOn (put_at key None (mail_of v.flights)) v.sent s.sent (mail_of w.flights) w.sent
 
 -- the row, as the protocol's machine has it
 row_is : (sets ways key : ℕ) (v : State) (m : Message) → IsSound sets ways v → in_flight v.flights key ≡ Some (shown_message m)
@@ -83,14 +86,14 @@ row_is sets ways key v m sound here =
 
 -- a message that is held stays in flight
 pub holds : (sets ways key : ℕ) (v : State) (m : Message) → IsSound sets ways v → in_flight v.flights key ≡ Some (shown_message m) → receiver_of (shown_message m) ≡ None
-    → row_of v.directory (shown_message m) ≡ None → Steps (geometry sets ways) (shown sets v) (Deliver key) None (shown sets v)
-holds sets ways key v m sound here goes held = arrives sets ways key v m None None v here goes
-    (subst (λ o. ComesAbout (served_change key (block_of (shown_message m)) o (shown sets v)) None (shown sets v)) (sym (row_is sets ways key v m sound here ∙ held)) (nothing (shown sets v)))
+    → row_of v.directory (shown_message m) ≡ None → MakesStep (geometry sets ways) v (Deliver key) None v
+holds sets ways key v m sound here goes held = arrives sets ways key v m None None v here goes (seats_stay sets v v refl)
+    (subst (λ o. BringsAbout sets v (served_change key (block_of (shown_message m)) o (shown sets v)) None v) (sym (row_is sets ways key v m sound here ∙ held)) (nothing sets v))
 
 -- and one that is served is taken, and the answers are sent
 pub serves : (sets ways key : ℕ) (v w : State) (m : Message) (s : Served) → IsSound sets ways v → in_flight v.flights key ≡ Some (shown_message m) → receiver_of (shown_message m) ≡ None
-    → Serves key v w m s → Steps (geometry sets ways) (shown sets v) (Deliver key) None (shown sets w) × IsSound sets ways w
-serves sets ways key v w m s sound here goes d = (steps, kept)
+    → Serves key v w m s → MakesStep (geometry sets ways) v (Deliver key) None w × IsSound sets ways w
+serves sets ways key v w m s sound here goes d = (made, kept)
   where
     b : ℕ
     b = block_of (shown_message m)
@@ -113,16 +116,16 @@ serves sets ways key v w m s sound here goes d = (steps, kept)
       stamps = d.stamps k;
     }
 
-    about : ComesAbout (directory_change b s (record (shown sets v) { net = taken key (in_flight v.flights) })) None (shown sets w)
-    about = (refl, in_flight w.flights, d.sends, same)
+    about : BringsAbout sets v (directory_change b s (record (shown sets v) { net = taken key (in_flight v.flights) })) None w
+    about = record { entry = refl; machine = same; left = put_at key None (mail_of v.flights); leaves = left_without key v.flights; sends = d.sends }
 
-    steps : Steps (geometry sets ways) (shown sets v) (Deliver key) None (shown sets w)
-    steps = arrives sets ways key v m None None w here goes
-        (subst (λ o. ComesAbout (served_change key b o (shown sets v)) None (shown sets w)) (sym (row_is sets ways key v m sound here ∙ d.row)) about)
+    made : MakesStep (geometry sets ways) v (Deliver key) None w
+    made = arrives sets ways key v m None None w here goes (seats_stay sets v w d.seats)
+        (subst (λ o. BringsAbout sets v (served_change key b o (shown sets v)) None w) (sym (row_is sets ways key v m sound here ∙ d.row)) about)
 
     kept : IsSound sets ways w
     kept =
-        let next = belongs_next (geometry sets ways) sound.flat (shown sets v) (shown sets w) (Deliver key) None sound.belongs steps in
+        let next = belongs_next (geometry sets ways) sound.flat (shown sets v) (shown sets w) (Deliver key) None sound.belongs (steps_of (geometry sets ways) v (Deliver key) None w made) in
         record {
           some_way = sound.some_way;
           fits = sound.fits;
@@ -135,16 +138,16 @@ serves sets ways key v w m s sound here goes d = (steps, kept)
 -- the same, of what the directory has answered
 pub follows : (sets ways key : ℕ) (v w : State) (m : Message) (answer : Answer) → IsSound sets ways v → in_flight v.flights key ≡ Some (shown_message m) → receiver_of (shown_message m) ≡ None
     → Answers (Some answer) (row_of v.directory (shown_message m)) (block_of (shown_message m)) v.directory w.directory
-    → w.program ≡ v.program → w.seats ≡ v.seats → w.stamps ≡ v.stamps → Sends (taken key (in_flight v.flights)) (messages_in v.directory.harts answer) (in_flight w.flights)
-    → Steps (geometry sets ways) (shown sets v) (Deliver key) None (shown sets w) × IsSound sets ways w
+    → w.program ≡ v.program → w.seats ≡ v.seats → w.stamps ≡ v.stamps → SendsOn (put_at key None (mail_of v.flights)) v.sent (messages_in v.directory.harts answer) (mail_of w.flights) w.sent
+    → MakesStep (geometry sets ways) v (Deliver key) None w × IsSound sets ways w
 follows sets ways key v w m answer sound here goes f program seats stamps sends = at (row_of v.directory (shown_message m)) refl f
   where
     at : (row : Option Served) → row_of v.directory (shown_message m) ≡ row → Answers (Some answer) row (block_of (shown_message m)) v.directory w.directory
-        → Steps (geometry sets ways) (shown sets v) (Deliver key) None (shown sets w) × IsSound sets ways w
+        → MakesStep (geometry sets ways) v (Deliver key) None w × IsSound sets ways w
     at None is none = absurd none
-    at (Some s) is (told, block) = serves sets ways key v w m s sound here goes (record { program = program; seats = seats; stamps = stamps; row = is; block = block; sends = subst (λ ms. Sends (taken key (in_flight v.flights)) ms (in_flight w.flights)) told sends })
+    at (Some s) is (told, block) = serves sets ways key v w m s sound here goes (record { program = program; seats = seats; stamps = stamps; row = is; block = block; sends = subst (λ ms. SendsOn (put_at key None (mail_of v.flights)) v.sent ms (mail_of w.flights) w.sent) told sends })
 
 -- or has held
 pub held : (sets ways key : ℕ) (v : State) (m : Message) (new : Blocks) → IsSound sets ways v → in_flight v.flights key ≡ Some (shown_message m) → receiver_of (shown_message m) ≡ None
-    → Answers None (row_of v.directory (shown_message m)) (block_of (shown_message m)) v.directory new → Steps (geometry sets ways) (shown sets v) (Deliver key) None (shown sets v)
+    → Answers None (row_of v.directory (shown_message m)) (block_of (shown_message m)) v.directory new → MakesStep (geometry sets ways) v (Deliver key) None v
 held sets ways key v m new sound here goes f = holds sets ways key v m sound here goes f.0

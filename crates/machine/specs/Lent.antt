@@ -5,6 +5,7 @@ use Rattle.words.specs.declared.entry.Entry.{Entry}
 use Rattle.table.specs.Program.{Segment}
 use Rattle.hart.specs.declared.reply.Local.TheVariants.{Retired}
 use Rattle.hart.specs.Parts.{Parts, StaysPut}
+use Rattle.hart.specs.Places.{KeepsWays}
 use Rattle.hart.specs.Rows.{setting_of}
 use Rattle.hart.specs.Locals.{FollowsAlone}
 use Rattle.machine.specs.States.{State}
@@ -21,6 +22,7 @@ with_hart m i h = record m { seats = option_map_or (λ s. slice_set m.seats i (r
 pub record RetiresAlone (sets : ℕ) (segments : List Segment) (old : Parts) (e : Entry) (new : Parts) : Type 0 where
   pub alone : FollowsAlone sets (setting_of segments old) old new (Retired e)
   pub stays : StaysPut old new
+  pub ways : KeepsWays sets old.cache new.cache
 
 -- a hart retires words by itself, one after another, with these entries, and is then the other
 abbrev pub RunsAlone : ℕ → List Segment → Parts → List Entry → Parts → Type 0

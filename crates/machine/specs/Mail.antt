@@ -1,9 +1,9 @@
--- The messages in flight, as the rows of the protocol speak of them.
-use Rattle.std.specs.Prelude.{ℕ, ◌≡◌, ◌≤◌, ◌+◌, ◌⊎◌, min, List, map, Option, Some, None}
+-- The messages in flight, each with its number, and as the rows of the protocol speak of them.
+use Rattle.std.specs.Prelude.{ℕ, ◌≡◌, ◌+◌, min, List, [], ◌∷◌, Option, Some, None}
 use Rattle.std.specs.Option.{option_map}
 use Rattle.std.specs.List.{slice_index_or}
+use Rattle.flat.specs.Bytes.{put_at}
 use Rattle.network.specs.declared.net.Flight.{Flight}
-use Rattle.directory.specs.declared.received.Outgoing.{Outgoing}
 use Rattle.protocol.specs.Messages.{Message, shown}
 use Rattle.protocol.specs.Network.{Network}
 
@@ -11,13 +11,28 @@ use Rattle.protocol.specs.Network.{Network}
 abbrev pub in_flight : List (Option Flight) → Network
 in_flight slots key = option_map shown (option_map (λ f. f.message) (slice_index_or slots key None))
 
--- what the directory sends
-abbrev pub messages_of : List Outgoing → List Message
-messages_of sends = map (λ s. shown s.message) sends
+-- the message with its number under each key
+abbrev pub Mail : Type 0
+Mail = ℕ → Option Flight
 
--- messages are numbered as they are sent: one that stays in flight keeps its number, and one that is sent has a number that none was given
--- before (the count of messages sent ends at the greatest u64)
-pub record NumbersOn (before : List (Option Flight)) (sent : ℕ) (after : List (Option Flight)) (sent_after : ℕ) : Type 0 where
-  pub count : sent ≤ sent_after
-  pub numbers : (key : ℕ) (f : Flight) → slice_index_or after key None ≡ Some f
-      → (slice_index_or before key None ≡ Some f) ⊎ ((sent ≤ f.number) × (min (f.number + 1) 18446744073709551615 ≤ sent_after))
+abbrev pub mail_of : List (Option Flight) → Mail
+mail_of slots key = slice_index_or slots key None
+
+-- the messages alone
+abbrev pub without_numbers : Mail → Network
+without_numbers mail key = option_map shown (option_map (λ f. f.message) (mail key))
+
+-- the number of the next message; numbers end at the greatest u64
+abbrev pub number_after : ℕ → ℕ
+number_after n = min (n + 1) 18446744073709551615
+
+-- each message in turn is sent under a key that is free, whichever, and with the next number: the first has this number, and then the next message will have that one
+abbrev pub SendsOn : Mail → ℕ → List Message → Mail → ℕ → Type 0
+SendsOn old n [] new next = (new ≡ old) × (next ≡ n)
+SendsOn old n (m ∷ ms) new next =
+    (key : ℕ) × (f : Flight) × (old key ≡ None) × (shown f.message ≡ m) × (f.number ≡ n) × SendsOn (put_at key (Some f) old) (number_after n) ms new next
+
+-- some messages are left of those in flight, each under its key and with its number: just those that this network has
+pub record IsLeft (before : Mail) (net : Network) (left : Mail) : Type 0 where
+  pub stays : (key : ℕ) (f : Flight) → left key ≡ Some f → before key ≡ Some f
+  pub messages : without_numbers left ≡ net

@@ -1,12 +1,12 @@
-ghost use Rattle.std.specs.Prelude.{◌≡◌, ◌<◌, ◌≤◌, ◌+◌, option_to_list, IsSome};
+ghost use Rattle.std.specs.Prelude.{◌≡◌, ◌<◌, ◌≤◌, ◌+◌, None, option_to_list, IsSome};
 ghost use Rattle.std.specs.Option.{option_map};
 ghost use Rattle.protocol.specs.Messages.{shown, receiver_of};
-ghost use Rattle.protocol.specs.Network.{Sends, taken};
+ghost use Rattle.flat.specs.Bytes.{put_at};
 ghost use Rattle.words.specs.Harts.{names};
 ghost use Rattle.words.specs.Limits.{most_harts};
 ghost use Rattle.protocol.specs.Directory.{forwards};
 ghost use Rattle.directory.specs.Sends.{messages_in};
-ghost use Rattle.machine.specs.Mail.{in_flight, NumbersOn};
+ghost use Rattle.machine.specs.Mail.{in_flight, mail_of, SendsOn};
 
 use directory::{Answer, Request};
 use network::Net;
@@ -30,8 +30,8 @@ pub fn receiver(message: &Message) -> Option<HartId>
 #[inline(always)]
 pub fn take(net: &mut Net, key: usize)
     requires { IsSome (in_flight net.old.slots key) }
-    ensures flight { in_flight net.new.slots ≡ taken key (in_flight net.old.slots) }
-    ensures numbers { NumbersOn net.old.slots net.old.next net.new.slots net.new.next }
+    ensures mail { mail_of net.new.slots ≡ put_at key None (mail_of net.old.slots) }
+    ensures number { net.new.next ≡ net.old.next }
     ensures room { net.new.room ≡ net.old.room + 1 }
 {
     net.take(key);
@@ -41,8 +41,7 @@ pub fn take(net: &mut Net, key: usize)
 #[inline(always)]
 pub fn send(net: &mut Net, message: Option<Message>)
     requires { 0 < net.old.room }
-    ensures sends { Sends (in_flight net.old.slots) (option_to_list (option_map shown message)) (in_flight net.new.slots) }
-    ensures numbers { NumbersOn net.old.slots net.old.next net.new.slots net.new.next }
+    ensures { SendsOn (mail_of net.old.slots) net.old.next (option_to_list (option_map shown message)) (mail_of net.new.slots) net.new.next }
 {
     if let Some(message) = message {
         net.send(message);
@@ -54,8 +53,7 @@ pub fn send(net: &mut Net, message: Option<Message>)
 pub fn send_answer(net: &mut Net, answer: &Answer, harts: usize)
     requires harts { harts ≤ most_harts }
     requires room { most_harts < net.old.room }
-    ensures sends { Sends (in_flight net.old.slots) (messages_in harts answer.now) (in_flight net.new.slots) }
-    ensures numbers { NumbersOn net.old.slots net.old.next net.new.slots net.new.next }
+    ensures { SendsOn (mail_of net.old.slots) net.old.next (messages_in harts answer.now) (mail_of net.new.slots) net.new.next }
 {
     match answer {
         Answer::Silent => {}
@@ -97,10 +95,9 @@ pub fn send_answer(net: &mut Net, answer: &Answer, harts: usize)
 fn forward(net: &mut Net, request: &Request, expect: &HartSet, harts: usize)
     requires harts { harts ≤ most_harts }
     requires room { harts ≤ net.old.room }
-    ensures sends { Sends (in_flight net.old.slots)
+    ensures { SendsOn (mail_of net.old.slots) net.old.next
         (forwards harts (names expect.now) request.now.block request.now.kind request.now.requester request.now.stamp)
-        (in_flight net.new.slots) }
-    ensures numbers { NumbersOn net.old.slots net.old.next net.new.slots net.new.next }
+        (mail_of net.new.slots) net.new.next }
 {
     let asked = expect.below(harts);
     let mut from = 0;

@@ -6,7 +6,8 @@ ghost use Rattle.flat.specs.Steps.{CarriesSome};
 ghost use Rattle.protocol.specs.Machine.{Steps, stamps_after};
 ghost use Rattle.protocol.specs.Messages.{shown as shown_message, receiver_of};
 ghost use Rattle.isolation.specs.Belongs.{Belongs};
-ghost use Rattle.machine.specs.Mail.{in_flight, NumbersOn};
+ghost use Rattle.machine.specs.Mail.{in_flight};
+ghost use Rattle.machine.specs.Making.{MakesStep};
 
 use crate::listener::{Caller, Listener};
 use crate::machine::Machine;
@@ -32,8 +33,7 @@ impl<const SETS: usize, const WAYS: usize> Machine<SETS, WAYS> {
     /// One step of a hart's core. It is too large to be inlined at more than one place, so there is one of it for each listener.
     #[inline(always)]
     pub(crate) fn core<L: Listener>(&mut self, id: HartId) -> Result<Option<Entry>, AllocError>
-        ensures steps { IfOk result (λ e. Steps (geometry SETS WAYS) (shown SETS self.old) (Core id) e (shown SETS self.new)) }
-        ensures numbers { NumbersOn self.old.flights self.old.sent self.new.flights self.new.sent }
+        ensures steps { IfOk result (λ e. MakesStep (geometry SETS WAYS) self.old (Core id) e self.new) }
         ensures err { OnErr result (self.new ≡ self.old) }
     {
         let i = id.index();
@@ -54,8 +54,7 @@ impl<const SETS: usize, const WAYS: usize> Machine<SETS, WAYS> {
     /// A hart gives up its line of a block.
     #[inline(never)]
     pub(crate) fn evict(&mut self, id: HartId, block: BlockNo) -> Result<Option<Entry>, AllocError>
-        ensures steps { IfOk result (λ e. Steps (geometry SETS WAYS) (shown SETS self.old) (Evict id block) e (shown SETS self.new)) }
-        ensures numbers { NumbersOn self.old.flights self.old.sent self.new.flights self.new.sent }
+        ensures steps { IfOk result (λ e. MakesStep (geometry SETS WAYS) self.old (Evict id block) e self.new) }
         ensures err { OnErr result (self.new ≡ self.old) }
     {
         let i = id.index();
@@ -75,8 +74,7 @@ impl<const SETS: usize, const WAYS: usize> Machine<SETS, WAYS> {
     /// The message under a key arrives. A message that is held stays in flight.
     #[inline(always)]
     pub(crate) fn deliver(&mut self, key: usize) -> Result<Option<Entry>, AllocError>
-        ensures steps { IfOk result (λ e. Steps (geometry SETS WAYS) (shown SETS self.old) (Deliver key) e (shown SETS self.new)) }
-        ensures numbers { NumbersOn self.old.flights self.old.sent self.new.flights self.new.sent }
+        ensures steps { IfOk result (λ e. MakesStep (geometry SETS WAYS) self.old (Deliver key) e self.new) }
         ensures err { OnErr result (self.new ≡ self.old) }
     {
         match self.net.peek(key) {
@@ -92,8 +90,7 @@ impl<const SETS: usize, const WAYS: usize> Machine<SETS, WAYS> {
     #[inline(always)]
     fn deliver_to_hart(&mut self, key: usize, id: HartId) -> Option<Entry>
         requires { option_map receiver_of (in_flight self.old.flights key) ≡ Some (Some id) }
-        ensures steps { Steps (geometry SETS WAYS) (shown SETS self.old) (Deliver key) result (shown SETS self.new) }
-        ensures numbers { NumbersOn self.old.flights self.old.sent self.new.flights self.new.sent }
+        ensures { MakesStep (geometry SETS WAYS) self.old (Deliver key) result self.new }
     {
         let Some(message) = self.net.peek(key) else {
             return None;
@@ -112,8 +109,7 @@ impl<const SETS: usize, const WAYS: usize> Machine<SETS, WAYS> {
     #[inline(always)]
     fn deliver_to_directory(&mut self, key: usize) -> Result<Option<Entry>, AllocError>
         requires { option_map receiver_of (in_flight self.old.flights key) ≡ Some None }
-        ensures steps { IfOk result (λ e. Steps (geometry SETS WAYS) (shown SETS self.old) (Deliver key) e (shown SETS self.new)) }
-        ensures numbers { NumbersOn self.old.flights self.old.sent self.new.flights self.new.sent }
+        ensures steps { IfOk result (λ e. MakesStep (geometry SETS WAYS) self.old (Deliver key) e self.new) }
         ensures err { OnErr result (self.new ≡ self.old) }
     {
         self.net.reserve(HARTS)?;
@@ -132,11 +128,12 @@ impl<const SETS: usize, const WAYS: usize> Machine<SETS, WAYS> {
 
     /// One step, enabled or not. One that isn't enabled changes nothing, and gives no entry. It fails only if memory runs out.
     pub fn step(&mut self, step: Step) -> Result<Option<Entry>, AllocError>
-        // Exactly one step of the protocol's machine is made, and its entry carries each flat state that belongs on to one that belongs.
+        // Exactly one step of the protocol's machine is made, in which the cache's rule says which line makes way, and messages are numbered as they are sent.
+        // Its entry carries each flat state that belongs on to one that belongs.
         ensures steps { IfOk result (λ e. Steps (geometry SETS WAYS) (shown SETS self.old) step e (shown SETS self.new)) }
+        ensures made { IfOk result (λ e. MakesStep (geometry SETS WAYS) self.old step e self.new) }
         ensures carries { IfOk result (λ e. (f : Flat) → Belongs (geometry SETS WAYS) f (shown SETS self.old) →
             (g : Flat) × CarriesSome f e g × Belongs (geometry SETS WAYS) g (shown SETS self.new)) }
-        ensures numbers { NumbersOn self.old.flights self.old.sent self.new.flights self.new.sent }
         ensures err { OnErr result (self.new ≡ self.old) }
     {
         match step {

@@ -66,7 +66,7 @@ impl<const SETS: usize, const WAYS: usize> Machine<SETS, WAYS> {
         self.net.flight(key)
     }
 
-    /// The same, where it stands.
+    /// The message under a key, with its number, where it stands.
     #[inline(always)]
     pub fn peek_flight(&self, key: usize) -> Option<&Flight>
         ensures { option_map (λ flight. flight.now) result ≡ slice_index_or self.now.flights key None }

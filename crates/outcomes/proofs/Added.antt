@@ -7,7 +7,7 @@ use Rattle.indexmap.specs.IndexSet.{insert_key}
 use Rattle.indexmap.proofs.CallerLemmas.{Contains-list_any}
 use Rattle.words.specs.declared.entry.Entry.{Entry}
 use Rattle.flat.specs.State.{Flat}
-use Rattle.endings.specs.Moves.{MovesInOrder}
+use Rattle.isolation.specs.Moves.{MovesInOrder}
 use Rattle.outcomes.specs.declared.pool.State.{State}
 use Rattle.outcomes.specs.declared.breadth_first.Origin.{Origin}
 use Rattle.outcomes.specs.declared.breadth_first.Outcomes.{Outcomes}

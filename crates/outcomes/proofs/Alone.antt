@@ -7,8 +7,8 @@ use Rattle.words.specs.declared.entry.Entry.TheVariants.{Abort}
 use Rattle.flat.specs.State.{Flat}
 use Rattle.flat.specs.Steps.{Carries, hart_of}
 use Rattle.flat.proofs.Determined.{one_next}
-use Rattle.endings.specs.Moves.{Moves, MovesBy}
-use Rattle.endings.proofs.Walked.{moves_carry}
+use Rattle.isolation.specs.Moves.{Moves, MovesBy}
+use Rattle.isolation.proofs.Walked.{moves_carry}
 use Rattle.outcomes.specs.declared.change.Turn.{Turn}
 use Rattle.outcomes.specs.Turns.{entries_of, after, IsOf, IsOwn, IsOwnMove, IsMove, Has, Adds}
 use Rattle.outcomes.proofs.Owns.{one_own, own_moves, by_kind}

@@ -5,7 +5,7 @@ use Rattle.std.specs.Option.{option_map_or}
 use Rattle.std.proofs.lemmas.Bool.Decides.{nat_tests}
 use Rattle.std.proofs.lemmas.Option.{slice_get_within}
 use Rattle.table.specs.Program.{image_at}
-use Rattle.boot.specs.Memory.{mem_of}
+use Rattle.loader.specs.Memory.{mem_of}
 use Rattle.flat.specs.State.{Setting, Flat, FlatHart, idle}
 use Rattle.flat.specs.Start.{first_hart, first_state}
 use Rattle.outcomes.specs.declared.hart.Hart.{Hart}

@@ -4,8 +4,8 @@ use Rattle.std.specs.List.{Contains}
 use Rattle.std.proofs.lemmas.List.Elements.{Contains-append_left, Contains-push, Contains-push_cases}
 use Rattle.words.specs.declared.entry.Entry.{Entry}
 use Rattle.flat.specs.State.{Flat, Setting}
-use Rattle.endings.specs.Moves.{MovesInOrder}
-use Rattle.endings.specs.Walks.{WalksInOrder}
+use Rattle.isolation.specs.Moves.{MovesInOrder}
+use Rattle.isolation.specs.Walks.{WalksInOrder}
 use Rattle.outcomes.specs.declared.change.Turn.{Turn}
 use Rattle.outcomes.specs.declared.pool.State.{State}
 use Rattle.outcomes.specs.declared.breadth_first.Outcomes.{Outcomes}

@@ -4,7 +4,7 @@ use Rattle.std.specs.Prelude.{slice_get}
 use Rattle.std.proofs.lemmas.Option.{slice_get_within}
 use Rattle.words.specs.declared.entry.Entry.{Entry}
 use Rattle.flat.specs.State.{Flat}
-use Rattle.endings.specs.Walks.{WalksInOrder}
+use Rattle.isolation.specs.Walks.{WalksInOrder}
 use Rattle.outcomes.specs.declared.pool.State.{State}
 use Rattle.outcomes.specs.declared.breadth_first.Outcomes.{Outcomes}
 use Rattle.outcomes.specs.Searches.{flat_at, Stands, IsMet, IsExpanded, IsSearch, Extends, IsBeyond, Finds}

@@ -15,7 +15,7 @@ use Rattle.flat.specs.Causes.{next_of}
 use Rattle.flat.specs.Effects.{retire_of}
 use Rattle.flat.specs.Steps.{Carries, IsRunning, is_abort, is_store, hart_of}
 use Rattle.flat.proofs.Entries.{retired_by, aborted_by}
-use Rattle.endings.specs.Moves.{is_access, is_local, IsLocal, MovesBy}
+use Rattle.isolation.specs.Moves.{is_access, is_local, IsLocal, MovesBy}
 use Rattle.outcomes.specs.Turns.{IsOwn}
 
 -- the value that a result has, with what holds of it

@@ -4,8 +4,8 @@ use Rattle.std.specs.Prelude.{slice_get}
 use Rattle.std.proofs.lemmas.Option.{slice_get_within}
 use Rattle.words.specs.declared.entry.Entry.{Entry}
 use Rattle.flat.specs.State.{Setting, Flat}
-use Rattle.endings.specs.Moves.{MovesInOrder}
-use Rattle.endings.specs.Walks.{WalksInOrder}
+use Rattle.isolation.specs.Moves.{MovesInOrder}
+use Rattle.isolation.specs.Walks.{WalksInOrder}
 use Rattle.outcomes.specs.declared.pool.State.{State}
 use Rattle.outcomes.specs.declared.pool.Pool.{Pool}
 use Rattle.outcomes.specs.declared.breadth_first.Origin.{Origin}

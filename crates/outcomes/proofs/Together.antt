@@ -7,8 +7,8 @@ use Rattle.words.specs.declared.entry.Entry.{Entry}
 use Rattle.words.specs.declared.entry.Entry.TheVariants.{Abort}
 use Rattle.flat.specs.State.{Flat}
 use Rattle.flat.proofs.Determined.{one_last}
-use Rattle.endings.specs.Moves.{Moves, MoveTogether}
-use Rattle.endings.proofs.Walked.{move_runs}
+use Rattle.isolation.specs.Moves.{Moves, MoveTogether}
+use Rattle.isolation.proofs.Walked.{move_runs}
 use Rattle.outcomes.specs.declared.change.Turn.{Turn}
 use Rattle.outcomes.specs.Turns.{entries_of, after, IsOf, IsMove, Has, Adds}
 use Rattle.outcomes.proofs.Lists.{adds_some, adds_then, has_still, has_added, if_some_so, if_none_so}

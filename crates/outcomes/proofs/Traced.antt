@@ -4,8 +4,8 @@ use Rattle.std.specs.Prelude.{slice_get}
 use Rattle.std.proofs.lemmas.List.{reverse-append, reverse-reverse}
 use Rattle.words.specs.declared.entry.Entry.{Entry}
 use Rattle.flat.specs.State.{Flat}
-use Rattle.endings.specs.Moves.{MovesInOrder}
-use Rattle.endings.specs.Walks.{WalksInOrder, entries_of}
+use Rattle.isolation.specs.Moves.{MovesInOrder}
+use Rattle.isolation.specs.Walks.{WalksInOrder, entries_of}
 use Rattle.outcomes.specs.declared.pool.State.{State}
 use Rattle.outcomes.specs.declared.breadth_first.Origin.{Origin}
 use Rattle.outcomes.specs.declared.breadth_first.Outcomes.{Outcomes}

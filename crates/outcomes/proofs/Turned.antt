@@ -9,8 +9,8 @@ use Rattle.words.specs.declared.entry.Entry.TheVariants.{Abort}
 use Rattle.flat.specs.State.{Flat}
 use Rattle.flat.specs.Steps.{Carries, hart_of}
 use Rattle.flat.proofs.Determined.{one_next}
-use Rattle.endings.specs.Moves.{Moves, MovesBy, MoveTogether, MovesInOrder, IsLocal, IsFirstLocal, AreOf}
-use Rattle.endings.proofs.Walked.{by_move, moves_carry}
+use Rattle.isolation.specs.Moves.{Moves, MovesBy, MoveTogether, MovesInOrder, IsLocal, IsFirstLocal, AreOf}
+use Rattle.isolation.proofs.Walked.{by_move, moves_carry}
 use Rattle.outcomes.specs.declared.change.Turn.{Turn}
 use Rattle.outcomes.specs.Turns.{entries_of, after, IsOwn, IsOwnMove, IsMove, IsMoveInOrder, Has, Adds}
 use Rattle.outcomes.proofs.Owns.{one_own, own_moves, local_own, mover_runs}

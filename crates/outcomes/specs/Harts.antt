@@ -10,7 +10,7 @@ use Rattle.words.specs.Bytes.{bytes_in}
 use Rattle.words.specs.Limits.{log_records}
 use Rattle.flat.specs.State.{Tx, FlatHart, seen}
 use Rattle.flat.specs.Causes.{depth_of}
-use Rattle.boot.specs.Memory.{mem_of}
+use Rattle.loader.specs.Memory.{mem_of}
 use Rattle.outcomes.specs.declared.hart.Transaction.{Transaction}
 use Rattle.outcomes.specs.declared.hart.Hart.{Hart}
 use Rattle.outcomes.specs.declared.memory.Memory.{Memory}

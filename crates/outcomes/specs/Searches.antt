@@ -4,8 +4,8 @@ use Rattle.words.specs.declared.cause.AbortCause.TheVariants.{Conflict}
 use Rattle.words.specs.declared.entry.Entry.{Entry}
 use Rattle.words.specs.declared.entry.Entry.TheVariants.{Abort}
 use Rattle.flat.specs.State.{Setting, Flat}
-use Rattle.endings.specs.Moves.{MovesInOrder}
-use Rattle.endings.specs.Walks.{IsEnded, WalksInOrder}
+use Rattle.isolation.specs.Moves.{MovesInOrder}
+use Rattle.isolation.specs.Walks.{IsEnded, WalksInOrder}
 use Rattle.outcomes.specs.declared.pool.State.{State}
 use Rattle.outcomes.specs.declared.breadth_first.Move.{Move}
 use Rattle.outcomes.specs.declared.breadth_first.Move.TheVariants.{One, Two}

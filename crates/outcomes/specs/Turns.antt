@@ -7,7 +7,7 @@ use Rattle.words.specs.declared.cause.AbortCause.{AbortCause}
 use Rattle.words.specs.declared.cause.AbortCause.TheVariants.{Asked, Conflict, LogFull, Trapped}
 use Rattle.flat.specs.State.{Flat}
 use Rattle.flat.specs.Steps.{Carries, hart_aborted, hart_of as entry_hart}
-use Rattle.endings.specs.Moves.{Moves, MovesBy, MovesInOrder}
+use Rattle.isolation.specs.Moves.{Moves, MovesBy, MovesInOrder}
 use Rattle.outcomes.specs.declared.change.Turn.{Turn}
 use Rattle.outcomes.specs.declared.change.Turn.TheVariants.{Alone, Together}
 use Rattle.outcomes.specs.declared.change.Change.{Change}

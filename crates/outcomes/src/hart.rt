@@ -8,7 +8,7 @@ ghost use Rattle.outcomes.specs.Harts.{mem_at, tx_of, hart_of, view_of, FitsIn, 
 
 use crate::memory::Memory;
 use crate::overlay::Overlay;
-use boot::cut_to;
+use loader::cut_to;
 use std::alloc::{AllocError, Global};
 use table::{
     Act, Effect, MemoryAct, extend_load, finish_store, register, write_register, write_to,
@@ -62,7 +62,7 @@ impl Transaction {
         Ok(())
     }
 
-    /// The same in memory of its own. It fails only if memory runs out.
+    /// A copy of the transaction in memory of its own. It fails only if memory runs out.
     fn copy(&self) -> Result<Transaction, AllocError>
         ensures { IfOk result (λ t. (size : ℕ) → tx_of size t ≡ tx_of size self.now) }
     {
@@ -87,7 +87,7 @@ fn copy_transaction(tx: &Option<Transaction>) -> Result<Option<Transaction>, All
 
 // What the hart sees, and what an effect reads and writes there.
 impl Hart {
-    /// The same in memory of its own. It fails only if memory runs out.
+    /// A copy of the hart in memory of its own. It fails only if memory runs out.
     pub fn copy(&self, alloc: Global) -> Result<Hart, AllocError>
         ensures { IfOk result (λ h. (size : ℕ) → hart_of size h ≡ hart_of size self.now) }
     {

@@ -2,9 +2,9 @@ ghost use Rattle.std.specs.Prelude.{List, ◌≡◌, ◌<◌, ◌≤◌, ◌+◌
 ghost use Rattle.words.specs.Bytes.{bytes_in, byte_of, number_at};
 ghost use Rattle.words.specs.declared.entry.Width.TheVariants.{Word};
 ghost use Rattle.flat.specs.Bytes.{laid, put_at};
-ghost use Rattle.boot.specs.Memory.{mem_of};
+ghost use Rattle.loader.specs.Memory.{mem_of};
 
-use boot::byte_of_value;
+use loader::byte_of_value;
 use std::alloc::{AllocError, Global};
 use std::collections::BTreeMap;
 use table::byte_count;
@@ -28,7 +28,7 @@ impl Memory {
         }
     }
 
-    /// The same in memory of its own. It fails only if memory runs out.
+    /// A copy of what differs, in memory of its own. It fails only if memory runs out.
     pub fn copy(&self) -> Result<Memory, AllocError>
         ensures { IfOk result (λ m. m.bytes.entries ≡ self.now.bytes.entries) }
     {

@@ -6,7 +6,7 @@ ghost use Rattle.outcomes.specs.Overlays.{byte_at, within, block_laid};
 ghost use Rattle.outcomes.specs.Harts.{mem_at};
 
 use crate::memory::Memory;
-use boot::byte_of_value;
+use loader::byte_of_value;
 use std::alloc::{AllocError, Global};
 use std::collections::BTreeMap;
 use table::{MemoryAct, byte_count};
@@ -158,7 +158,7 @@ impl Overlay {
         Ok(())
     }
 
-    /// The same in memory of its own. It fails only if memory runs out.
+    /// A copy of the overlay in memory of its own. It fails only if memory runs out.
     pub fn copy(&self) -> Result<Overlay, AllocError>
         ensures { IfOk result (λ o. o.blocks.entries ≡ self.now.blocks.entries) }
     {

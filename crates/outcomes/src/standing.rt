@@ -2,8 +2,8 @@ ghost use Rattle.std.specs.Prelude.{◌≡◌, ◌≢◌, ◌<◌, ◌/◌, ◌&
 ghost use Rattle.flat.specs.State.{IsAllowed, has_read, has_written};
 ghost use Rattle.flat.specs.Causes.{next_of};
 ghost use Rattle.flat.specs.Steps.{IsRunning};
-ghost use Rattle.endings.specs.Moves.{is_access, is_local, IsAtAccess, IsBeside, MayGiveWay, IsLocal, IsFirstLocal};
-ghost use Rattle.endings.specs.Walks.{IsEnded};
+ghost use Rattle.isolation.specs.Moves.{is_access, is_local, IsAtAccess, IsBeside, MayGiveWay, IsLocal, IsFirstLocal};
+ghost use Rattle.isolation.specs.Walks.{IsEnded};
 
 use crate::hart::Hart;
 use crate::memory::Memory;

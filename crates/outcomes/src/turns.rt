@@ -6,7 +6,7 @@ ghost use Rattle.flat.specs.State.{Flat, IsAllowed};
 ghost use Rattle.flat.specs.Causes.{next_of};
 ghost use Rattle.flat.specs.Steps.{IsRunning, is_abort, is_store, hart_of, aborted, stopped, retired, Carries};
 ghost use Rattle.table.specs.Program.{word_at};
-ghost use Rattle.endings.specs.Moves.{Moves, MovesBy, MoveTogether, MovesInOrder};
+ghost use Rattle.isolation.specs.Moves.{Moves, MovesBy, MoveTogether, MovesInOrder};
 ghost use Rattle.outcomes.specs.Harts.{tx_of};
 ghost use Rattle.outcomes.specs.Standings.{setting_of, flat_of, changed};
 ghost use Rattle.outcomes.specs.Turns.{entries_of, after, IsBack, IsOf, IsOwn, IsOwnMove, IsMove, IsMoveInOrder, Has, Adds};

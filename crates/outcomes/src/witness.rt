@@ -1,6 +1,6 @@
 ghost use Rattle.std.specs.Prelude.{◌≡◌, ◌<◌, ◌++◌, ℕ, List, IfOk, OnOk, reverse, length};
 ghost use Rattle.words.specs.declared.entry.Entry.{Entry};
-ghost use Rattle.endings.specs.Walks.{WalksInOrder, entries_of};
+ghost use Rattle.isolation.specs.Walks.{WalksInOrder, entries_of};
 ghost use Rattle.outcomes.specs.declared.pool.State.{State};
 ghost use Rattle.outcomes.specs.Searches.{flat_at, shown_by, Stands, IsSearch};
 

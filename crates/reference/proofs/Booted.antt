@@ -7,7 +7,7 @@ use Rattle.loader.specs.Programs.{Program}
 use Rattle.flat.specs.State.{Setting, idle}
 use Rattle.flat.specs.Start.{first_hart}
 use Rattle.reference.specs.declared.machine.Machine.{Machine}
-use Rattle.boot.specs.Memory.{mem_of}
+use Rattle.loader.specs.Memory.{mem_of}
 use Rattle.reference.specs.States.{hart_of}
 use Rattle.reference.specs.Machines.{Belongs}
 use Rattle.flat.specs.Boots.{booted}

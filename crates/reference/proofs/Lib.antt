@@ -6,3 +6,4 @@ pub mod Runs
 pub mod Checked
 pub mod Booted
 pub mod Blanks
+pub mod Sample

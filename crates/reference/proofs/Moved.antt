@@ -16,7 +16,7 @@ use Rattle.flat.specs.Effects.{hart_after, mem_by}
 use Rattle.flat.specs.Steps.{retired, aborted, hart_aborted}
 use Rattle.reference.specs.declared.hart.Hart.{Hart}
 use Rattle.reference.specs.declared.machine.Machine.{Machine}
-use Rattle.boot.specs.Memory.{mem_of}
+use Rattle.loader.specs.Memory.{mem_of}
 use Rattle.reference.specs.States.{hart_of, view_of}
 use Rattle.reference.specs.Machines.{flat_of, setting_of}
 

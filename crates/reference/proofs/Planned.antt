@@ -11,7 +11,7 @@ use Rattle.flat.specs.Effects.{retire_of}
 use Rattle.flat.specs.Steps.{Retires, IsRunning, Carries, retired, is_abort}
 use Rattle.reference.specs.declared.hart.Hart.{Hart}
 use Rattle.reference.specs.declared.machine.Machine.{Machine}
-use Rattle.boot.specs.Memory.{mem_of}
+use Rattle.loader.specs.Memory.{mem_of}
 use Rattle.reference.specs.States.{hart_of, view_of}
 use Rattle.reference.specs.Machines.{setting_of, flat_of, CanRetire}
 use Rattle.reference.proofs.Moved.{hart_at}

@@ -1,3 +1,4 @@
 pub mod States
 pub mod Machines
 pub mod Overlays
+pub mod Samples

@@ -18,7 +18,7 @@ use Rattle.flat.specs.Steps.{IsRunning, Retires, retired, MayAbort, CarriesSome,
 use Rattle.reference.specs.declared.machine.Machine.{Machine}
 use Rattle.reference.specs.declared.machine.NextMove.{NextMove}
 use Rattle.reference.specs.declared.machine.NextMove.TheVariants.{Idle, Stops, Goes}
-use Rattle.boot.specs.Memory.{mem_of}
+use Rattle.loader.specs.Memory.{mem_of}
 use Rattle.reference.specs.States.{hart_of}
 
 abbrev pub setting_of : Machine → Setting

@@ -10,7 +10,7 @@ use Rattle.flat.specs.State.{Tx, FlatHart, seen}
 use Rattle.flat.specs.Causes.{depth_of}
 use Rattle.reference.specs.declared.hart.Transaction.{Transaction}
 use Rattle.reference.specs.declared.hart.Hart.{Hart}
-use Rattle.boot.specs.Memory.{mem_of}
+use Rattle.loader.specs.Memory.{mem_of}
 use Rattle.reference.specs.Overlays.{reads_in, writes_in, byte_over, within}
 
 -- a transaction, in a memory of a size

@@ -5,11 +5,11 @@ ghost use Rattle.flat.specs.State.{has_read, has_written};
 ghost use Rattle.flat.specs.Causes.{depth_of};
 ghost use Rattle.flat.specs.Effects.{put_by, load_by, store_by, write_by, loaded_by, retire_of, tx_put, tx_got, mem_put, mem_by, tx_by, status_by, output_by, hart_after};
 ghost use Rattle.flat.specs.Steps.{hart_aborted};
-ghost use Rattle.boot.specs.Memory.{mem_of};
+ghost use Rattle.loader.specs.Memory.{mem_of};
 ghost use Rattle.reference.specs.States.{tx_of, hart_of, view_of, FitsIn, Fits, HasRoom, stores_after};
 
 use crate::overlay::Overlay;
-use boot::{cut_to, lay};
+use loader::{cut_to, lay};
 use std::alloc::{AllocError, Global};
 use table::{
     Act, Effect, MemoryAct, extend_load, finish_store, register, write_register, write_to,

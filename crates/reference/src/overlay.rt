@@ -2,10 +2,10 @@ ghost use Rattle.std.specs.Prelude.{◌≡◌, ◌<◌, ◌≤◌, ◌+◌, ◌-
 ghost use Rattle.words.specs.Bytes.{bytes_in, byte_of};
 ghost use Rattle.words.specs.Limits.{block_bytes};
 ghost use Rattle.flat.specs.Bytes.{laid, put_at};
-ghost use Rattle.boot.specs.Memory.{mem_of};
+ghost use Rattle.loader.specs.Memory.{mem_of};
 ghost use Rattle.reference.specs.Overlays.{byte_at, within, block_laid};
 
-use boot::byte_of_value;
+use loader::byte_of_value;
 use std::alloc::{AllocError, Global};
 use std::collections::BTreeMap;
 use table::{MemoryAct, byte_count};

@@ -8,8 +8,8 @@ ghost use Rattle.reference.specs.Machines.{setting_of, flat_of, Belongs};
 ghost use Rattle.flat.specs.Reads.{is_readable, word_seen, NoneWrote, IsInPlace, NoneRuns, IsNextTurn};
 
 use crate::machine::Machine;
-use boot::word_at;
 use flat::Engine;
+use loader::word_at;
 use words::{Addr, HartId, Regs, Status, Step, Width};
 
 impl Engine for Machine {

@@ -4,16 +4,15 @@ ghost use Rattle.std.specs.List.{list_all};
 ghost use Rattle.table.specs.Program.{holds, byte_in, image_at};
 ghost use Rattle.flat.specs.State.{Setting, idle};
 ghost use Rattle.flat.specs.Start.{first_hart};
-ghost use Rattle.boot.specs.Memory.{mem_of};
+ghost use Rattle.loader.specs.Memory.{mem_of};
 ghost use Rattle.reference.specs.States.{hart_of};
 ghost use Rattle.flat.specs.Boots.{is_size, ends_by, fits_below};
 ghost use Rattle.flat.specs.declared.boot_fault.BootFault.{BootFault};
 
 use crate::hart::Hart;
 use crate::machine::Machine;
-use boot::{boot_fault, first_regs, image};
 use flat::BootFault;
-use loader::Program;
+use loader::{Program, boot_fault, first_regs, image};
 use std::alloc::{AllocError, Global};
 use words::{Addr, Status};
 

@@ -3,6 +3,8 @@ mod booted;
 mod chances;
 mod cut;
 mod cut_looks;
+mod faults;
+mod page_texts;
 mod pictures;
 mod refusing;
 mod schedules;

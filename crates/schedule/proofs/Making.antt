@@ -11,6 +11,7 @@ use Rattle.protocol.specs.Caches.{Geometry}
 use Rattle.isolation.specs.Belongs.{Belongs}
 use Rattle.isolation.proofs.Belongs.Belonging.{belongs_next}
 use Rattle.machine.specs.States.{State, setting_of, shown}
+use Rattle.machine.proofs.Made.{steps_of}
 use Rattle.schedule.specs.declared.choices.Choice.{Choice}
 use Rattle.schedule.specs.Moments.{Moment, moments, entries_of}
 use Rattle.schedule.specs.Runs.{Makes, last_after, FollowsThen, CarryAll}
@@ -34,7 +35,7 @@ run_one f h (Some e) carries = (h, carries, refl)
 
 carry_made : (g : Geometry) (v w : State) (step : Option Step) (e : Option Entry) → Makes g v step e w → CarryAll g v (option_to_list e) w
 carry_made g v w None e (none, same) = λ f b. (f, subst (λ (o : Option Entry). IsRun f (option_to_list o) f) (sym none) refl, subst (λ m. Belongs g f (shown g.sets m)) (sym same) b)
-carry_made g v w (Some s) e (made, numbers) = λ f b. let on = belongs_next g f (shown g.sets v) (shown g.sets w) s e b made in (on.0, run_one f on.0 e on.1, on.2)
+carry_made g v w (Some s) e made = λ f b. let on = belongs_next g f (shown g.sets v) (shown g.sets w) s e b (steps_of g v s e w made) in (on.0, run_one f on.0 e on.1, on.2)
 
 -- the entries of some moments and of others
 pub entries_both : (ms ns : List Moment) → entries_of (ms ++ ns) ≡ entries_of ms ++ entries_of ns

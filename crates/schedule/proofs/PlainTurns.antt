@@ -12,4 +12,4 @@ pub took_plain : (g : Geometry) (v w : State) (after last : ℕ) (es : List Entr
 took_plain g v w after last [] (same, is) = ([], (same, is), refl)
 took_plain g v w after last (e ∷ es) (i, u, quiescent, turn, plain, rest, later) =
     let on = took_plain g u w i last es later in
-    (moment v (Core i) (Some e) u ∷ on.0, (Core i, Some e, u, turn.next, (turn.made, turn.numbers), refl, on.1), ap suc on.2)
+    (moment v (Core i) (Some e) u ∷ on.0, (Core i, Some e, u, turn.next, turn.made, refl, on.1), ap suc on.2)

@@ -32,6 +32,7 @@ use Rattle.protocol.specs.Core.{Move, Rests, Makes, Lacks, abort_move, access_mo
 use Rattle.protocol.specs.Evict.{evict_by, evict_line}
 use Rattle.protocol.specs.Machine.{Machine, MayLack}
 use Rattle.machine.specs.Lent.{hart_if}
+use Rattle.machine.specs.Making.{victims}
 use Rattle.machine.specs.States.{Seat, State, shown}
 use Rattle.machine.specs.Watch.{IsEnabled}
 use Rattle.schedule.specs.Courses.{IsAble, IsChosen, IsFree, IsPicked}
@@ -128,13 +129,13 @@ and_false false = refl
 -- a step that was able to be made, and was, was enabled
 pub able_made : (g : Geometry) (v w : State) (step : Step) (e : Option Entry) → IsAble g v step → MakesStep g v (Some step) e w → IsEnabled g (shown g.sets v) step true
 able_made g v w (Core i) e (inl enabled) made = enabled
-able_made g v w (Core i) e (inr free) (steps, numbers) =
+able_made g v w (Core i) e (inr free) made =
     let m = shown g.sets v in
-    let victim = steps.0 in
+    let victim = victims g.sets v (Core i) in
     let h = m.harts i in
     let row : is_some (core_row m.setting i m.stamps victim h) ≡ true =
-    row_there g i victim h free.put (core_move m.setting i m.stamps h) (core_moves m.setting i m.stamps h free.runs free.request) steps.1 in
-    (victim, steps.1, both_are (nat_lt i m.setting.count) (is_some (core_row m.setting i m.stamps victim h)) (below_is i m.setting.count free.inside) row)
+    row_there g i victim h free.put (core_move m.setting i m.stamps h) (core_moves m.setting i m.stamps h free.runs free.request) made.may in
+    (victim, made.may, both_are (nat_lt i m.setting.count) (is_some (core_row m.setting i m.stamps victim h)) (below_is i m.setting.count free.inside) row)
 able_made g v w (Evict i b) e enabled made = enabled
 able_made g v w (Deliver key) e enabled made = enabled
 

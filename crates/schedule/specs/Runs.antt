@@ -5,9 +5,8 @@ use Rattle.words.specs.declared.entry.Step.{Step}
 use Rattle.flat.specs.State.{Flat}
 use Rattle.flat.specs.Steps.{IsRun}
 use Rattle.protocol.specs.Caches.{Geometry}
-use Rattle.protocol.specs.Machine.{Steps}
 use Rattle.isolation.specs.Belongs.{Belongs}
-use Rattle.machine.specs.Mail.{NumbersOn}
+use Rattle.machine.specs.Making.{MakesStep}
 use Rattle.machine.specs.States.{State, setting_of, shown}
 use Rattle.machine.specs.Turns.{IsNextTurn, hart_after}
 use Rattle.schedule.specs.declared.choices.Choice.{Choice}
@@ -18,7 +17,7 @@ use Rattle.schedule.specs.Steps.{IsStepOf}
 -- a step is made, and gives this entry, or none; where there is no step, nothing changes
 abbrev pub Makes : Geometry → State → Option Step → Option Entry → State → Type 0
 Makes g v None e w = (e ≡ None) × (w ≡ v)
-Makes g v (Some step) e w = Steps g (shown g.sets v) step e (shown g.sets w) × NumbersOn v.flights v.sent w.flights w.sent
+Makes g v (Some step) e w = MakesStep g v step e w
 
 -- the hart of the last core step
 abbrev pub last_after : Option Step → ℕ → ℕ

@@ -146,7 +146,7 @@ pub(crate) fn find_eviction<const SETS: usize, const WAYS: usize>(
     }
 }
 
-/// The same, among the blocks in use from one place up to another.
+/// An eviction that is enabled, among the blocks in use from one place up to another.
 fn eviction_among<const SETS: usize, const WAYS: usize>(
     machine: &Machine<SETS, WAYS>,
     from: usize,
@@ -165,7 +165,7 @@ fn eviction_among<const SETS: usize, const WAYS: usize>(
     None
 }
 
-/// The same, of one block.
+/// An eviction of one block that is enabled.
 fn eviction_of<const SETS: usize, const WAYS: usize>(
     machine: &Machine<SETS, WAYS>,
     block: BlockNo,
@@ -183,7 +183,7 @@ fn eviction_of<const SETS: usize, const WAYS: usize>(
     None
 }
 
-/// The same, by one hart.
+/// An eviction of one block by one hart that is enabled.
 fn eviction_by<const SETS: usize, const WAYS: usize>(
     machine: &Machine<SETS, WAYS>,
     block: BlockNo,

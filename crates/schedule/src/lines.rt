@@ -5,12 +5,15 @@ ghost use Rattle.schedule.specs.declared.lines.ScheduleFault.TheVariants.{NoMemo
 use crate::choices::Choice;
 use crate::spelling::choice;
 use std::alloc::{AllocError, AllocFailed, Global};
+use thiserror::Error;
 
 /// Why a text is no schedule.
-#[derive(Clone, Copy, Debug, PartialEq, Eq)]
+#[derive(Clone, Copy, Debug, PartialEq, Eq, Error)]
 pub enum ScheduleFault {
     /// The number, from 1, of the first line that spells no choice.
+    #[error("line {0} spells no choice")]
     Line(usize),
+    #[error("no memory")]
     NoMemory,
 }
 

@@ -1,5 +1,5 @@
 -- A file holds one program, and what is made of it is one text.
-use Rattle.std.proofs.Common.{◌≡◌, ◌⊎◌, inl, inr, ℕ, Bool, true, false, List, refl, sym, ap, subst, ◌∙◌}
+use Rattle.std.proofs.Common.{◌≡◌, inl, inr, ℕ, Bool, true, false, List, sym, ap, subst, ◌∙◌}
 use Rattle.std.proofs.lemmas.Bool.{true≢false}
 use Rattle.words.specs.Sinks.{SinkState, TookAll}
 use Rattle.loader.specs.Programs.{Program}
@@ -7,6 +7,7 @@ use Rattle.loader.specs.Elf.{IsElfOf}
 use Rattle.loader.specs.Writing.{elf_of}
 use Rattle.loader.proofs.Clean.{IsElfOf-one}
 use Rattle.assembler.proofs.Answering.{one_program}
+use Rattle.disassembler.specs.Tables.{table_of}
 use Rattle.disassembler.specs.Listing.{listing_of}
 use Rattle.simulate.specs.Files.{IsListed, IsImageOf}
 use Rattle.flat.specs.State.{Flat}
@@ -36,7 +37,7 @@ pub one_listing : (file : List ℕ) (before after earlier later : SinkState) (st
     → (other ≡ status) × ((text : List ℕ) × TookAll before after text × TookAll earlier later text)
 one_listing file before after earlier later status other one two =
     let same = one_elf file one.1.0 two.1.0 one.1.1 two.1.1 in
-    (two.0 ∙ sym one.0, (listing_of one.1.0, one.1.2, subst (λ (p : Program). TookAll earlier later (listing_of p)) same two.1.2))
+    (two.0 ∙ sym one.0, (listing_of (table_of file) one.1.0, one.1.2, subst (λ (p : Program). TookAll earlier later (listing_of (table_of file) p)) same two.1.2))
 
 pub one_image : (source image other : List ℕ) → IsImageOf source image → IsImageOf source other → other ≡ image
 one_image source image other one two = two.2 ∙ (ap elf_of (one_program source one.0 two.0 one.1.1 two.1.1) ∙ sym one.2)

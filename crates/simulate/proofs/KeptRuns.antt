@@ -6,6 +6,7 @@ use Rattle.command_line.specs.declared.request.Print.{Print}
 use Rattle.command_line.specs.declared.request.Print.TheVariants as print
 use Rattle.command_line.specs.declared.request.Run.{Run}
 use Rattle.command_line.specs.Runs.{shown}
+use Rattle.disassembler.specs.Tables.{Table}
 use Rattle.protocol.specs.Caches.{Geometry}
 use Rattle.schedule.specs.declared.choices.Choice.{Choice}
 use Rattle.schedule.specs.Courses.{Chance}
@@ -14,16 +15,18 @@ use Rattle.schedule.specs.Written.{text_of}
 use Rattle.texts.proofs.Putting.{took-both, took-then-part}
 use Rattle.simulate.specs.Given.{AreTextsOf, IsGiven}
 use Rattle.simulate.specs.Kept.{IsGivenAndKept, IsNotGivenOrKept, IsOfHistory}
+use Rattle.simulate.specs.Runs.{addresses}
 use Rattle.simulate.specs.Schedules.{AreChosenBy}
+use Rattle.simulate.specs.Sources.{names_in}
 use Rattle.simulate.specs.Shown.{Sinks, Texts, shown_texts}
 use Rattle.simulate.specs.declared.fault.Fault.{Fault}
 use Rattle.simulate.specs.declared.fault.Fault.TheVariants.{Unmade}
 
 -- nothing is shown in a file
-by_print : (p : Print) (sets harts : ℕ) (ms : List Moment) (report : List ℕ) → (shown_texts (shown p) sets harts ms report).file ≡ []
-by_print print.Report sets harts ms report = refl
-by_print (print.Counts stats) sets harts ms report = refl
-by_print print.Trace sets harts ms report = refl
+by_print : (names : Table) (p : Print) (g : Geometry) (words : List ℕ) (harts : ℕ) (ms : List Moment) (report : List ℕ) → (shown_texts names (shown p) g words harts ms report).file ≡ []
+by_print names print.Report g words harts ms report = refl
+by_print names (print.Counts stats) g words harts ms report = refl
+by_print names print.Trace g words harts ms report = refl
 
 module _ (g : Geometry) (run : Run) (p : Print) (path : Bor (List ℕ)) (file list : List ℕ) (chosen choices : List Choice) (are : AreChosenBy list choices) (before middle : Sinks) (status : ℕ)
     (given : IsGiven g run (Chance (Some chosen)) (shown p) file list before middle status) (page : SinkState) where
@@ -39,7 +42,7 @@ module _ (g : Geometry) (run : Run) (p : Print) (path : Bor (List ℕ)) (file li
   none_yet : TookAll before.file middle.file []
   none_yet =
       let of : AreTextsOf g run (Chance (Some chosen)) (shown p) file list texts status = given.1.1 in
-      let none : texts.file ≡ [] = ap (λ (t : Texts). t.file) of.3.2 ∙ by_print p g.sets of.1.setting.count of.0 of.3.0 in
+      let none : texts.file ≡ [] = ap (λ (t : Texts). t.file) of.3.2 ∙ by_print (names_in run.setup.file.now file) p g (addresses run.words.items) of.1.setting.count of.0 of.3.0 in
       subst (λ (l : List ℕ). TookAll before.file middle.file l) none given.1.2.file
 
   of_history : IsOfHistory g run p path file list before after texts status history

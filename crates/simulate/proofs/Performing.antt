@@ -11,11 +11,11 @@ use Rattle.schedule.specs.declared.choices.Choice.{Choice}
 use Rattle.schedule.specs.Courses.{Behind, course}
 use Rattle.schedule.specs.Moments.{Moment, entries_of}
 use Rattle.schedule.specs.Runs.{Plays}
-use Rattle.reports.specs.Reports.{AllReadable, report_of}
+use Rattle.render.specs.Reports.{AllReadable, report_of}
 use Rattle.simulate.specs.Begins.{IsBegunBy}
 use Rattle.simulate.specs.Runs.{addresses, ComesBy, IsReport}
 use Rattle.simulate.specs.Starts.{flat_start}
-use Rattle.reports.specs.Statuses.{IsStatusOf}
+use Rattle.render.specs.Statuses.{IsStatusOf}
 use Rattle.simulate.proofs.Reading.{readable-stays}
 
 -- a flat state that belongs to a machine has its setting

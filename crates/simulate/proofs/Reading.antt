@@ -5,7 +5,7 @@ use Rattle.std.proofs.lemmas.List.Elements.{All-more}
 use Rattle.flat.specs.State.{Setting}
 use Rattle.flat.specs.Reads.{is_readable}
 use Rattle.command_line.specs.declared.request.Word.{Word as Asked}
-use Rattle.reports.specs.Reports.{AllReadable}
+use Rattle.render.specs.Reports.{AllReadable}
 use Rattle.simulate.specs.Runs.{addresses}
 
 -- the addresses of one word more

@@ -10,7 +10,7 @@ use Rattle.command_line.specs.declared.request.Stats.TheVariants.{Table, Csv}
 use Rattle.protocol.specs.Caches.{Geometry}
 use Rattle.flat.specs.State.{Flat, Setting}
 use Rattle.command_line.specs.declared.request.Setup.{Setup}
-use Rattle.simulate.specs.Runs.{ComesBy}
+use Rattle.simulate.specs.Runs.{ComesBy, addresses}
 use Rattle.machine.specs.States.{State, setting_of}
 use Rattle.schedule.specs.declared.choices.Choice.{Choice}
 use Rattle.schedule.specs.Courses.{Behind, Turns, Chance, course, forgotten}
@@ -27,9 +27,10 @@ use Rattle.simulate.specs.Begins.{IsBegunBy, IsUnbegun}
 use Rattle.simulate.specs.Conclusions.{IsConcluded, IsHalfConcluded}
 use Rattle.simulate.specs.Counted.{AreCounts, behind_report, counts_part, counts_text}
 use Rattle.simulate.specs.Given.{AreTextsOf, IsGiven, IsNotGiven}
-use Rattle.reports.specs.Reports.{AllReadable, report_of}
+use Rattle.render.specs.Reports.{AllReadable, report_of}
+use Rattle.simulate.specs.Sources.{names_in}
 use Rattle.simulate.specs.Shown.{Texts, Sinks, TakeAll, IsShown, IsCutShort, shown_before, shown_so_far, shown_texts}
-use Rattle.reports.specs.Statuses.{IsStatusOf}
+use Rattle.render.specs.Statuses.{IsStatusOf}
 use Rattle.simulate.specs.declared.fault.Fault.{Fault}
 use Rattle.simulate.specs.declared.fault.Fault.TheVariants.{Unwritten}
 use Rattle.simulate.proofs.Performing.{HasEnd, end_of, its_report, same_setting, still_readable}
@@ -38,18 +39,18 @@ use Rattle.simulate.proofs.Performing.{HasEnd, end_of, its_report, same_setting,
 pub not_begun : (g : Geometry) (run : Run) (b : Behind) (show : Show) (file list : List ℕ) (sinks : Sinks) (fault : Fault) → IsUnbegun run file list fault → IsNotGiven g run b show file list sinks sinks fault
 not_begun g run b show file list sinks fault why = inl (why, refl, refl)
 
-text_of : (form : Stats) (ms : List Moment) (t : Tally) (harts : ℕ) → IsTally ms t → counts_text form (count_at t.harts) harts (figure_at t.machine) ≡ counts_text form (λ h k. number_of h k ms) harts (figure_of ms)
-text_of Table ms t harts are =
-    ap₂ (λ (a b : List ℕ). a ++ b) (same_table (count_at t.harts) (λ h k. number_of h k ms) are.harts harts) (same_machine_table (figure_at t.machine) (figure_of ms) are.machine)
-text_of Csv ms t harts are =
-    ap₂ (λ (a b : List ℕ). a ++ b) (same_csv (count_at t.harts) (λ h k. number_of h k ms) are.harts harts) (same_machine_lines (figure_at t.machine) (figure_of ms) are.machine)
+text_of : (form : Stats) (sets : ℕ) (ms : List Moment) (t : Tally) (harts : ℕ) → IsTally sets ms t → counts_text form (count_at t.harts) harts (figure_at t.machine) ≡ counts_text form (λ h k. number_of sets h k ms) harts (figure_of ms)
+text_of Table sets ms t harts are =
+    ap₂ (λ (a b : List ℕ). a ++ b) (same_table (count_at t.harts) (λ h k. number_of sets h k ms) are.harts harts) (same_machine_table (figure_at t.machine) (figure_of ms) are.machine)
+text_of Csv sets ms t harts are =
+    ap₂ (λ (a b : List ℕ). a ++ b) (same_csv (count_at t.harts) (λ h k. number_of sets h k ms) are.harts harts) (same_machine_lines (figure_at t.machine) (figure_of ms) are.machine)
 
 -- the counts that were put are those of the moments
-put_as : (s : Show) (ms : List Moment) (t : Tally) (n m : ℕ) → AreCounts s ms t → n ≡ m → counts_part s t n ≡ behind_report s m ms
-put_as shows.Report ms t n m are same = refl
-put_as (shows.Counts form) ms t n m are same = text_of form ms t n are ∙ ap (λ (k : ℕ). counts_text form (λ h k. number_of h k ms) k (figure_of ms)) same
-put_as shows.Trace ms t n m are same = refl
-put_as (shows.View view path) ms t n m are same = refl
+put_as : (s : Show) (sets : ℕ) (ms : List Moment) (t : Tally) (n m : ℕ) → AreCounts s sets ms t → n ≡ m → counts_part s t n ≡ behind_report s sets m ms
+put_as shows.Report sets ms t n m are same = refl
+put_as (shows.Counts form) sets ms t n m are same = text_of form sets ms t n are ∙ ap (λ (k : ℕ). counts_text form (λ h k. number_of sets h k ms) k (figure_of ms)) same
+put_as shows.Trace sets ms t n m are same = refl
+put_as (shows.View view path) sets ms t n m are same = refl
 
 -- the choices of chance need not be told
 forget_comes : (g : Geometry) (setup : Setup) (b : Behind) (file list : List ℕ) (steps : ℕ) (ms : List Moment) (f : Flat) → ComesBy g setup b file list steps ms f → ComesBy g setup (forgotten b) file list steps ms f
@@ -71,19 +72,28 @@ module _ (g : Geometry) (run : Run) (b : Behind) (show : Show) (file list : List
   ends : (c : Behind) (steps : ℕ) (ms : List Moment) → Plays g (course followed c) steps v ms w → HasEnd g run c file list steps ms v w
   ends c steps ms plays = end_of g run c file list v addrs choices followed begun same steps ms w plays
 
-  -- its steps were not all made and shown
-  pub cut_short : (before after : Sinks) (fault : Fault) → IsCutShort show g (course followed b) run.steps v w before after fault → IsNotGiven g run b show file list before after fault
-  cut_short before after fault (inl (is, (m, less, (ms, plays, took)))) =
-      let e = ends b m ms plays in
-      inr (inl (is, (m, less, (ms, e.end, e.comes, subst (λ (s : Setting). TakeAll before after (shown_so_far show g.sets s.count ms)) (sym e.same) took))))
-  cut_short before after fault (inr (inl (is, trace, (m, within, (ms, plays, part, kept))))) =
-      let e = ends b m ms plays in
-      inr (inr (inl (is, trace, (m, within, (ms, e.end, e.comes, subst (λ (s : Setting). TookPart before.output after.output (shown_before show g.sets s.count ms).output) (sym e.same) part, kept)))))
-  cut_short before after fault (inr (inr (view, path, of, is, (m, within, (ms, plays, part, kept))))) =
-      let e = ends b m ms plays in
-      inr (inr (inr (inl (view, path, of, is, (m, within, (ms, e.end, e.comes, subst (λ (s : Setting). TookPart before.file after.file (shown_before show g.sets s.count ms).file) (sym e.same) part, kept))))))
+  -- the words that are shown are those that are asked for
+  module _ (watched : List ℕ) (as_begun : watched ≡ addrs) where
+    asked_words : watched ≡ addresses run.words.items
+    asked_words = as_begun ∙ begun.same
 
-  module _ (words : List ℕ) (as_given : words ≡ addrs) (counts : Tally) (before middle : Sinks) (shown_all : IsShown show g (course followed b) run.steps v w counts before middle) where
+    -- its steps were not all made and shown
+    pub cut_short : (before after : Sinks) (fault : Fault) → IsCutShort (names_in run.setup.file.now file) show g watched (course followed b) run.steps v w before after fault → IsNotGiven g run b show file list before after fault
+    cut_short before after fault (inl (is, (m, less, (ms, plays, took)))) =
+        let e = ends b m ms plays in
+        let all = subst (λ (words : List ℕ). TakeAll before after (shown_so_far (names_in run.setup.file.now file) show g words (setting_of v).count ms)) asked_words took in
+        inr (inl (is, (m, less, (ms, e.end, e.comes, subst (λ (s : Setting). TakeAll before after (shown_so_far (names_in run.setup.file.now file) show g (addresses run.words.items) s.count ms)) (sym e.same) all))))
+    cut_short before after fault (inr (inl (is, trace, (m, within, (ms, plays, part, kept))))) =
+        let e = ends b m ms plays in
+        let some = subst (λ (words : List ℕ). TookPart before.output after.output (shown_before (names_in run.setup.file.now file) show g words (setting_of v).count ms).output) asked_words part in
+        inr (inr (inl (is, trace, (m, within, (ms, e.end, e.comes, subst (λ (s : Setting). TookPart before.output after.output (shown_before (names_in run.setup.file.now file) show g (addresses run.words.items) s.count ms).output) (sym e.same) some, kept)))))
+    cut_short before after fault (inr (inr (view, path, of, is, (m, within, (ms, plays, part, kept))))) =
+        let e = ends b m ms plays in
+        let some = subst (λ (words : List ℕ). TookPart before.file after.file (shown_before (names_in run.setup.file.now file) show g words (setting_of v).count ms).file) asked_words part in
+        inr (inr (inr (inl (view, path, of, is, (m, within, (ms, e.end, e.comes, subst (λ (s : Setting). TookPart before.file after.file (shown_before (names_in run.setup.file.now file) show g (addresses run.words.items) s.count ms).file) (sym e.same) some, kept))))))
+
+  module _ (watched : List ℕ) (as_begun : watched ≡ addrs) (words : List ℕ) (as_given : words ≡ addrs) (counts : Tally) (before middle : Sinks)
+      (shown_all : IsShown (names_in run.setup.file.now file) show g watched (course followed b) run.steps v w counts before middle) where
     abbrev ms : List Moment
     ms = shown_all.0
 
@@ -95,16 +105,18 @@ module _ (g : Geometry) (run : Run) (b : Behind) (show : Show) (file list : List
     readable_then = still_readable g run b file list v addrs choices followed begun same words as_given ms w e
 
     abbrev pre : Texts
-    pre = shown_before show g.sets e.end.setting.count ms
+    pre = shown_before (names_in run.setup.file.now file) show g (addresses run.words.items) e.end.setting.count ms
 
     taken : TakeAll before middle pre
-    taken = subst (λ (s : Setting). TakeAll before middle (shown_before show g.sets s.count ms)) (sym e.same) shown_all.3
+    taken =
+        let all = subst (λ (l : List ℕ). TakeAll before middle (shown_before (names_in run.setup.file.now file) show g l (setting_of v).count ms)) (asked_words watched as_begun) shown_all.3 in
+        subst (λ (s : Setting). TakeAll before middle (shown_before (names_in run.setup.file.now file) show g (addresses run.words.items) s.count ms)) (sym e.same) all
 
     abbrev report : List ℕ
     report = report_of e.end words
 
     abbrev whole : Texts
-    whole = shown_texts show g.sets e.end.setting.count ms report
+    whole = shown_texts (names_in run.setup.file.now file) show g (addresses run.words.items) e.end.setting.count ms report
 
     texts : (status : ℕ) → IsStatusOf e.end status → AreTextsOf g run b show file list whole status
     texts status of = (ms, e.end, e.comes, (report, its_report g run b file list v addrs choices followed begun same words as_given ms w e status of, refl))
@@ -117,7 +129,7 @@ module _ (g : Geometry) (run : Run) (b : Behind) (show : Show) (file list : List
         → IsNotGiven g run (forgotten b) show file list before (record { output = output; file = middle.file }) fault
     half_reported output fault (unwritten, of) =
         let half = of e.end e.belongs in
-        let behind = behind_report show e.end.setting.count ms in
+        let behind = behind_report show g.sets e.end.setting.count ms in
         let part = took-then-part before.output middle.output output pre.output (report ++ behind) taken.output (took-part-longer middle.output output report behind half.2) in
         inr (inr (inr (inr (unwritten, (whole, half.0, early_texts half.0 (texts half.0 half.1), part, taken.file)))))
 
@@ -125,14 +137,14 @@ module _ (g : Geometry) (run : Run) (b : Behind) (show : Show) (file list : List
       abbrev of_end : IsStatusOf e.end status × TookAll middle.output reported report
       of_end = concluded.1 e.end e.belongs
 
-      behind_as : counts_part show counts harts ≡ behind_report show e.end.setting.count ms
-      behind_as = put_as show ms counts harts e.end.setting.count shown_all.2 (count ∙ ap (λ (s : Setting). s.count) (sym (same_setting g e.end w e.belongs)))
+      behind_as : counts_part show counts harts ≡ behind_report show g.sets e.end.setting.count ms
+      behind_as = put_as show g.sets ms counts harts e.end.setting.count shown_all.2 (count ∙ ap (λ (s : Setting). s.count) (sym (same_setting g e.end w e.belongs)))
 
       -- all was put
       pub given : (output : SinkState) → Puts reported output (counts_part show counts harts) (Ok tt)
           → IsGiven g run b show file list before (record { output = output; file = middle.file }) status
       given output puts =
-          let behind = behind_report show e.end.setting.count ms in
+          let behind = behind_report show g.sets e.end.setting.count ms in
           let last : TookAll reported output behind = subst (λ (text : List ℕ). TookAll reported output text) behind_as (record { whole = puts.whole; clean = puts.clean }) in
           let all = took-both before.output middle.output output pre.output (report ++ behind) taken.output (took-both middle.output reported output report behind of_end.1 last) in
           (concluded.0, (whole, texts status of_end.0, record { output = all; file = taken.file }))
@@ -141,7 +153,7 @@ module _ (g : Geometry) (run : Run) (b : Behind) (show : Show) (file list : List
       pub half_counted : (output : SinkState) (e' : SinkFault) → Puts reported output (counts_part show counts harts) (Err e')
           → IsNotGiven g run (forgotten b) show file list before (record { output = output; file = middle.file }) Unwritten
       half_counted output e' puts =
-          let behind = behind_report show e.end.setting.count ms in
+          let behind = behind_report show g.sets e.end.setting.count ms in
           let last : TookPart reported output behind = subst (λ (text : List ℕ). TookPart reported output text) behind_as (record { part = puts.part; fault = puts.fault }) in
           let part = took-then-part before.output middle.output output pre.output (report ++ behind) taken.output (took-then-part middle.output reported output report behind of_end.1 last) in
           inr (inr (inr (inr (refl, (whole, status, early_texts status (texts status of_end.0), part, taken.file)))))

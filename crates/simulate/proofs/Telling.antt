@@ -1,5 +1,5 @@
 -- What is told by a search that found all ends.
-use Rattle.std.proofs.Common.{◌≡◌, ◌≢◌, ◌<◌, ℕ, Bool, true, false, List, refl, sym, ap, ◌∙◌, subst, arith}
+use Rattle.std.proofs.Common.{◌≡◌, ◌≢◌, ◌<◌, ℕ, Bool, true, false, List, refl, sym, subst, arith}
 use Rattle.std.specs.List.{Contains}
 use Rattle.words.specs.Sinks.{TookAll}
 use Rattle.words.specs.declared.cause.Status.TheVariants.{Running}
@@ -13,9 +13,9 @@ use Rattle.protocol.specs.Machine.{Machine, Runs}
 use Rattle.protocol.specs.Start.{start}
 use Rattle.isolation.specs.Belongs.{Belongs}
 use Rattle.loader.specs.Programs.{Program}
-use Rattle.reports.specs.Reports.{report_of}
-use Rattle.endings.specs.Walks.{IsEnded, entries_of}
-use Rattle.endings.proofs.Walked.{order_walks, walk_runs}
+use Rattle.render.specs.Reports.{report_of}
+use Rattle.isolation.specs.Walks.{IsEnded, entries_of}
+use Rattle.isolation.proofs.Walked.{order_walks, walk_runs}
 use Rattle.outcomes.specs.Searches.{Finds}
 use Rattle.ends.specs.declared.gathering.End.{End}
 use Rattle.ends.specs.Ends.{AreEndsOf, reports_of}

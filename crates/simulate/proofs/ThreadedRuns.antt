@@ -29,13 +29,13 @@ use Rattle.schedule.specs.Written.{text_of, IsWritable}
 use Rattle.simulate.specs.Conclusions.{IsConcluded, IsHalfConcluded, IsHalfPut}
 use Rattle.schedule.specs.Courses.{Turns}
 use Rattle.simulate.specs.Given.{AreTextsOf}
-use Rattle.reports.specs.Reports.{AllReadable, report_of}
+use Rattle.render.specs.Reports.{AllReadable, report_of}
 use Rattle.simulate.specs.Runs.{addresses, ComesBy}
 use Rattle.simulate.specs.Schedules.{AreChosenBy}
 use Rattle.simulate.specs.Shown.{Sinks, Texts}
 use Rattle.simulate.specs.Sources.{IsProgramIn, IsProgramFault}
 use Rattle.simulate.specs.Starts.{flat_start}
-use Rattle.reports.specs.Statuses.{IsStatusOf}
+use Rattle.render.specs.Statuses.{IsStatusOf}
 use Rattle.simulate.specs.Threaded.{IsReady, IsUnready, IsGivenInThreads, IsNotGivenInThreads, history_text, with_steps}
 use Rattle.simulate.specs.Unreadable.{IsFirstUnreadable, IsUnreadable}
 use Rattle.simulate.specs.declared.fault.Fault.{Fault}

@@ -1,7 +1,7 @@
 -- What comes of the words of a command line: what is read and made of files, put into standard output and told, and the status.
 use Rattle.std.specs.Prelude.{ℕ, ◌≡◌, ◌<◌, ◌≤◌, ◌+◌, ◌⊎◌, List, [], length, Option, Some, None}
 use Rattle.std.specs.Borrow.{Bor}
-use Rattle.words.specs.Sinks.{IsPut, IsUntouched, SinkState, TookAll, TookPart}
+use Rattle.words.specs.Sinks.{IsPut, SinkState, TookAll, TookPart}
 use Rattle.command_line.specs.Reading.{IsRequestOf, IsFaultOf}
 use Rattle.command_line.specs.declared.fault.OrderFault.{OrderFault}
 use Rattle.command_line.specs.declared.request.Request.{Request}
@@ -12,11 +12,10 @@ use Rattle.command_line.specs.declared.request.Way.{Way}
 use Rattle.command_line.specs.declared.request.Way.TheVariants as way
 use Rattle.command_line.specs.declared.request.Witness.{Witness}
 use Rattle.debugger.specs.Plays.{Giving}
-use Rattle.reports.specs.Statuses.{IsReported}
+use Rattle.render.specs.Statuses.{IsReported}
 use Rattle.simulate.specs.Carried.{IsCarriedOut}
 use Rattle.simulate.specs.Faults.{fault_status, fault_text, of_order}
 use Rattle.simulate.specs.Sheets.{state_of}
-use Rattle.simulate.specs.Shown.{Sinks}
 use Rattle.simulate.specs.declared.fault.Fault.{Fault}
 use Rattle.simulate.specs.declared.fault.Fault.TheVariants.{Unread, TooLong, Unmade, Unwritten, NoMemory}
 use Rattle.simulate.specs.declared.page.Sheet.{Sheet}

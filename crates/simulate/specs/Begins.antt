@@ -7,7 +7,7 @@ use Rattle.machine.specs.States.{State, setting_of}
 use Rattle.command_line.specs.declared.request.Run.{Run}
 use Rattle.command_line.specs.declared.request.Word.{Word}
 use Rattle.schedule.specs.declared.choices.Choice.{Choice}
-use Rattle.reports.specs.Reports.{AllReadable}
+use Rattle.render.specs.Reports.{AllReadable}
 use Rattle.simulate.specs.Runs.{addresses}
 use Rattle.simulate.specs.Schedules.{AreChosenBy, IsScheduleFault}
 use Rattle.simulate.specs.Sources.{IsProgramIn}
@@ -30,7 +30,14 @@ pub record CanNotShow (run : Run) (file : List ℕ) (k : ℕ) (w : Word) : Type 
   pub boots : boot_fault program.segments run.setup.harts run.setup.memory ≡ None
   pub first : IsFirstUnreadable (flat_start program run.setup).setting run.words.items k w
 
--- why a run of the file with these bytes, by this list, doesn't begin
+-- the program boots, and each word of the run can be read
+pub record CanShow (run : Run) (file : List ℕ) : Type 0 where
+  pub program : Program
+  pub holds : IsProgramIn run.setup.file.now file program
+  pub boots : boot_fault program.segments run.setup.harts run.setup.memory ≡ None
+  pub readable : AllReadable (flat_start program run.setup).setting (addresses run.words.items)
+
+-- why a run of the file with these bytes, by this list, doesn't begin: the first that is wrong of the file, the boot, the words and the list
 abbrev pub IsUnbegun : Run → List ℕ → List ℕ → Fault → Type 0
 IsUnbegun run file list why = IsStartFault run.setup file why
-    ⊎ (((k : ℕ) × (w : Word) × CanNotShow run file k w × (why ≡ fault.Word w.text)) ⊎ IsScheduleFault list why)
+    ⊎ (((k : ℕ) × (w : Word) × CanNotShow run file k w × (why ≡ fault.Word w.text)) ⊎ (CanShow run file × IsScheduleFault list why))

@@ -6,8 +6,8 @@ use Rattle.flat.specs.State.{Flat}
 use Rattle.protocol.specs.Caches.{Geometry}
 use Rattle.isolation.specs.Belongs.{Belongs}
 use Rattle.machine.specs.States.{State, shown}
-use Rattle.reports.specs.Reports.{report_of}
-use Rattle.reports.specs.Statuses.{IsReported, IsStatusOf}
+use Rattle.render.specs.Reports.{report_of}
+use Rattle.render.specs.Statuses.{IsReported, IsStatusOf}
 use Rattle.simulate.specs.declared.fault.Fault.{Fault}
 use Rattle.simulate.specs.declared.fault.Fault.TheVariants.{Unmade, Unwritten}
 

@@ -19,10 +19,10 @@ abbrev pub counts_text : Stats → (ℕ → Kind → ℕ) → ℕ → (Figure �
 counts_text Table count harts figure = table count harts ++ machine_table figure
 counts_text Csv count harts figure = csv count harts ++ machine_lines figure
 
--- the counts of moments, where they are shown: how many of their entries count for each hart as each kind, and what is told of the machine
-abbrev pub behind_report : Show → ℕ → List Moment → List ℕ
-behind_report (Counts form) harts ms = counts_text form (λ h k. number_of h k ms) harts (figure_of ms)
-behind_report other harts ms = []
+-- the counts of moments, where they are shown and caches have so many sets: how often they count for each hart as each kind, and what is told of the machine
+abbrev pub behind_report : Show → ℕ → ℕ → List Moment → List ℕ
+behind_report (Counts form) sets harts ms = counts_text form (λ h k. number_of sets h k ms) harts (figure_of ms)
+behind_report other sets harts ms = []
 
 -- the same of what was counted
 abbrev pub counts_part : Show → Tally → ℕ → List ℕ
@@ -30,6 +30,6 @@ counts_part (Counts form) t harts = counts_text form (count_at t.harts) harts (f
 counts_part other t harts = []
 
 -- this is told of the moments, where counts are shown
-abbrev pub AreCounts : Show → List Moment → Tally → Type 0
-AreCounts (Counts form) ms t = IsTally ms t
-AreCounts other ms t = Unit {0}
+abbrev pub AreCounts : Show → ℕ → List Moment → Tally → Type 0
+AreCounts (Counts form) sets ms t = IsTally sets ms t
+AreCounts other sets ms t = Unit {0}

@@ -9,6 +9,7 @@ use Rattle.debugger.specs.declared.fault.ConsoleFault.TheVariants.{Unreadable, U
 use Rattle.debugger.specs.Plays.{Giving}
 use Rattle.debugger.specs.Debugging.{IsDebugged}
 use Rattle.simulate.specs.Faults.{line}
+use Rattle.simulate.specs.Sources.{names_in}
 use Rattle.simulate.specs.Starts.{IsStartOf}
 
 -- what the user is told where a line could not be read, or a text not be put
@@ -21,11 +22,11 @@ abbrev pub TellsEnd : Result Unit ConsoleFault → SinkState → SinkState → �
 TellsEnd (Ok done) before after status = IsUntouched before after × (status ≡ 0)
 TellsEnd (Err fault) before after status = IsPut before after (end_text fault) × (status ≡ 3)
 
--- the file has a program, which boots as asked; a session of the machine that it begins in answers the lines of the input, and asks for each by the prompt; and its end is told
+-- the file has a program, which boots as asked; with the file's names a session of the machine that it begins in answers the lines of the input, and asks for each by the prompt; and its end is told
 pub record IsPlayedByHand {I : Type 0} (g : Geometry) (gives : Giving I) (setup : Setup) (file prompt : List ℕ) (i j : I) (told_before told_after asked_before asked_after : SinkState) (status : ℕ) : Type 0 where
   pub first : State
   pub starts : IsStartOf g setup file first
   pub end : Result Unit ConsoleFault
   pub asked : SinkState
-  pub played : IsDebugged g gives first prompt i j told_before told_after asked_before asked end
+  pub played : IsDebugged g (names_in setup.file.now file) gives first prompt i j told_before told_after asked_before asked end
   pub told : TellsEnd end asked asked_after status

@@ -9,9 +9,10 @@ use Rattle.flat.specs.State.{Flat}
 use Rattle.flat.specs.declared.boot_fault.BootFault.{BootFault}
 use Rattle.loader.specs.Programs.{Program}
 use Rattle.table.specs.Program.{AreBytes}
-use Rattle.lines.specs.Entries.{entry_line}
-use Rattle.reports.specs.Reports.{AllReadable}
-use Rattle.endings.specs.Walks.{WalksInOrder, entries_of}
+use Rattle.disassembler.specs.Tables.{Table, no_symbols}
+use Rattle.render.specs.Entries.{entry_line}
+use Rattle.render.specs.Reports.{AllReadable}
+use Rattle.isolation.specs.Walks.{WalksInOrder, entries_of}
 use Rattle.outcomes.specs.declared.breadth_first.Outcomes.{Outcomes}
 use Rattle.outcomes.specs.declared.pool.State.{State}
 use Rattle.outcomes.specs.Searches.{flat_at, Stands, Finds}
@@ -82,22 +83,22 @@ abbrev pub end_numbered : List End → ℕ → Option End
 end_numbered ends zero = None
 end_numbered ends (suc k) = slice_get ends k
 
--- the lines of entries
-abbrev pub lines_of : List Entry → List ℕ
-lines_of es = flat_map entry_line es
+-- the lines of entries, with names
+abbrev pub lines_of : Table → List Entry → List ℕ
+lines_of names es = flat_map (entry_line names) es
 
 -- the entries are those of a run from the first state of a search to the state at a place
 abbrev pub IsRunTo : Outcomes → ℕ → List Entry → Type 0
 IsRunTo o k es = (x y : State) → Stands o 0 x → Stands o k y
     → (ess : List (List Entry)) × (es ≡ entries_of ess) × WalksInOrder (flat_at o x) ess (flat_at o y)
 
--- the lines of a run to the state at a place were put
+-- the lines of a run to the state at a place were put, without names
 abbrev pub IsRunPut : Outcomes → ℕ → SinkState → SinkState → Type 0
-IsRunPut o k before after = (es : List Entry) × IsRunTo o k es × TookAll before after (lines_of es)
+IsRunPut o k before after = (es : List Entry) × IsRunTo o k es × TookAll before after (lines_of no_symbols es)
 
 -- or a beginning of them, and the fault names the path; or memory ran out, and nothing was
 abbrev pub IsRunUnput : Outcomes → ℕ → Bor (List ℕ) → SinkState → SinkState → Fault → Type 0
-IsRunUnput o k path before after why = ((why ≡ fault.Unmade path) × ((es : List Entry) × IsRunTo o k es × TookPart before after (lines_of es)))
+IsRunUnput o k path before after why = ((why ≡ fault.Unmade path) × ((es : List Entry) × IsRunTo o k es × TookPart before after (lines_of no_symbols es)))
     ⊎ ((why ≡ fault.NoMemory) × IsUntouched before after)
 
 module _ (o : Outcomes) (ends : List End) (before after : SinkState) where

@@ -10,25 +10,27 @@ use Rattle.loader.specs.Faults.{fault_number, fault_name}
 use Rattle.flat.specs.declared.boot_fault.BootFault.{BootFault}
 use Rattle.flat.specs.declared.boot_fault.BootFault.TheVariants as boot
 use Rattle.flat.specs.BootFaults.{boot_fault_number, boot_fault_name}
-use Rattle.source_operands.specs.Faults.{fault_number as asm_number, fault_name as asm_name}
+use Rattle.statements.specs.Faults.{fault_number as asm_number, fault_name as asm_name}
 use Rattle.schedule.specs.declared.lines.ScheduleFault.{ScheduleFault}
 use Rattle.schedule.specs.declared.lines.ScheduleFault.TheVariants as schedule
 use Rattle.schedule.specs.declared.halt.Halt.{Halt}
 use Rattle.schedule.specs.declared.halt.Halt.TheVariants as halt
+use Rattle.simulate.specs.Hints.{hint_of}
 use Rattle.simulate.specs.Quotes.{quotation}
-use Rattle.reports.specs.Reports.{line_end}
+use Rattle.render.specs.Reports.{line_end}
 use Rattle.simulate.specs.declared.fault.Fault.{Fault}
 use Rattle.simulate.specs.declared.fault.RefusedLine.{RefusedLine}
-use Rattle.simulate.specs.declared.fault.Fault.TheVariants.{NotText, Refused, Value, TwoViews, LongPicture, ThreadsAlone, MixAlone, TwoFiles, Unread, TooLong, NotSource, Source, Load, Boot, Word, NotSchedule, Schedule, NoOutcome, Exchanged, Unwritten, Unmade, NoMemory}
+use Rattle.simulate.specs.declared.fault.Fault.TheVariants.{NotText, Refused, Value, TwoViews, LongPicture, LongPage, ThreadsAlone, MixAlone, TwoFiles, Unread, TooLong, NotSource, Source, Load, Boot, Word, NotSchedule, Schedule, NoOutcome, Exchanged, Unwritten, Unmade, NoMemory}
 
 -- 2 for the command line, a schedule and an outcome that there isn't, 3 for a file, 4 for what is in the file and for the machine that is asked for, 6 if memory ran out, 7 where the lock gave back
 -- another board
 abbrev pub fault_status : Fault → ℕ
 fault_status NotText = 2
 fault_status (Refused text) = 2
-fault_status (Value text) = 2
+fault_status (Value argument text) = 2
 fault_status TwoViews = 2
 fault_status LongPicture = 2
+fault_status LongPage = 2
 fault_status ThreadsAlone = 2
 fault_status MixAlone = 2
 fault_status TwoFiles = 2
@@ -50,6 +52,10 @@ fault_status NoMemory = 6
 -- a line that the user is told
 abbrev pub line : List ℕ → List ℕ → List ℕ
 line what name = concat (codes "logtm: " ∷ what ∷ name ∷ line_end ∷ [])
+
+-- the line on a malformed value, and under it the line on what would do
+abbrev pub value_text : List ℕ → List ℕ → List ℕ
+value_text text hint = concat (codes "logtm: value " ∷ text ∷ codes "\n        " ∷ hint ∷ line_end ∷ [])
 
 -- the line on something that is refused: the number and the name of its fault
 abbrev pub refusal_line : List ℕ → ℕ → List ℕ → List ℕ
@@ -75,9 +81,10 @@ no_outcome_text number = concat (codes "logtm: no outcome " ∷ decimal number �
 abbrev pub fault_text : Fault → List ℕ
 fault_text NotText = line (codes "an argument is not text") []
 fault_text (Refused text) = concat (string_bytes text ∷ [])
-fault_text (Value text) = line (codes "value ") text.now
+fault_text (Value argument text) = value_text text.now (hint_of argument)
 fault_text TwoViews = line (codes "--trace, --timeline and --stats exclude each other") []
 fault_text LongPicture = line (codes "a picture takes --steps of at most 2000") []
+fault_text LongPage = line (codes "a page takes --steps of at most 20000") []
 fault_text ThreadsAlone = line (codes "--threads excludes --schedule, --seed, --trace, --timeline and --stats, and --history needs --threads or --seed") []
 fault_text MixAlone = line (codes "--mix needs --seed") []
 fault_text TwoFiles = line (codes "--history excludes --timeline, and --trace into a file") []
@@ -99,6 +106,7 @@ fault_text NoMemory = line (codes "no memory") []
 -- a line with a text and a name tells of the fault
 abbrev pub IsPlain : Fault → Type 0
 IsPlain (Refused text) = ⊥
+IsPlain (Value argument text) = ⊥
 IsPlain (Source refused) = ⊥
 IsPlain (Load fault) = ⊥
 IsPlain (Boot fault) = ⊥
@@ -109,9 +117,10 @@ IsPlain other = Unit {0}
 -- the fault of a command line
 abbrev pub of_order : OrderFault → Fault
 of_order (order.Refused text) = Refused text
-of_order (order.Value text) = Value text
+of_order (order.Value argument text) = Value argument text
 of_order order.TwoViews = TwoViews
 of_order order.LongPicture = LongPicture
+of_order order.LongPage = LongPage
 of_order order.ThreadsAlone = ThreadsAlone
 of_order order.MixAlone = MixAlone
 of_order order.TwoFiles = TwoFiles

@@ -11,9 +11,10 @@ use Rattle.command_line.specs.declared.request.View.{View}
 use Rattle.schedule.specs.Courses.{Behind}
 use Rattle.schedule.specs.Moments.{Moment}
 use Rattle.simulate.specs.Begins.{IsUnbegun}
-use Rattle.simulate.specs.Runs.{ComesBy, IsReport}
+use Rattle.simulate.specs.Runs.{ComesBy, IsReport, addresses}
+use Rattle.simulate.specs.Sources.{names_in}
 use Rattle.simulate.specs.Shown.{Texts, Sinks, TakeAll, shown_before, shown_so_far, shown_texts}
-use Rattle.reports.specs.Statuses.{IsReported}
+use Rattle.render.specs.Statuses.{IsReported}
 use Rattle.simulate.specs.declared.fault.Fault.{Fault}
 use Rattle.simulate.specs.declared.fault.Fault.TheVariants.{Unmade, Unwritten, NoMemory}
 
@@ -25,7 +26,7 @@ module _ (g : Geometry) (run : Run) (behind : Behind) (show : Show) (file list :
   -- the texts are all that is shown of the run, with the report on the state that its steps lead to; and the status goes with it
   abbrev pub AreTextsOf : Texts → ℕ → Type 0
   AreTextsOf texts status = (ms : List Moment) × (f : Flat) × Comes run.steps ms f
-      × ((report : List ℕ) × IsReport f run.words.items report status × (texts ≡ shown_texts show g.sets f.setting.count ms report))
+      × ((report : List ℕ) × IsReport f run.words.items report status × (texts ≡ shown_texts (names_in run.setup.file.now file) show g (addresses run.words.items) f.setting.count ms report))
 
   module _ (before after : Sinks) where
     -- all texts of the run were taken
@@ -34,16 +35,16 @@ module _ (g : Geometry) (run : Run) (behind : Behind) (show : Show) (file list :
 
     -- memory ran out behind some steps, and all that can be shown of them was taken
     abbrev pub IsStopped : Type 0
-    IsStopped = (m : ℕ) × (m < run.steps) × ((ms : List Moment) × (f : Flat) × Comes m ms f × TakeAll before after (shown_so_far show g.sets f.setting.count ms))
+    IsStopped = (m : ℕ) × (m < run.steps) × ((ms : List Moment) × (f : Flat) × Comes m ms f × TakeAll before after (shown_so_far (names_in run.setup.file.now file) show g (addresses run.words.items) f.setting.count ms))
 
     -- a put failed while steps were made: a beginning of what is shown of them was taken by standard output, or by the file
     abbrev pub IsOutputCut : Type 0
     IsOutputCut = (m : ℕ) × (m ≤ run.steps) × ((ms : List Moment) × (f : Flat) × Comes m ms f
-        × TookPart before.output after.output (shown_before show g.sets f.setting.count ms).output × IsUntouched before.file after.file)
+        × TookPart before.output after.output (shown_before (names_in run.setup.file.now file) show g (addresses run.words.items) f.setting.count ms).output × IsUntouched before.file after.file)
 
     abbrev pub IsFileCut : Type 0
     IsFileCut = (m : ℕ) × (m ≤ run.steps) × ((ms : List Moment) × (f : Flat) × Comes m ms f
-        × TookPart before.file after.file (shown_before show g.sets f.setting.count ms).file × IsUntouched before.output after.output)
+        × TookPart before.file after.file (shown_before (names_in run.setup.file.now file) show g (addresses run.words.items) f.setting.count ms).file × IsUntouched before.output after.output)
 
     -- a put of the report, or of what stands behind it, failed
     abbrev pub IsReportCut : Type 0

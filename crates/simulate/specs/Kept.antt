@@ -12,7 +12,7 @@ use Rattle.schedule.specs.Written.{text_of}
 use Rattle.simulate.specs.Given.{AreTextsOf, IsNotGiven}
 use Rattle.simulate.specs.Schedules.{AreChosenBy}
 use Rattle.simulate.specs.Shown.{Texts, Sinks}
-use Rattle.reports.specs.Statuses.{IsReported}
+use Rattle.render.specs.Statuses.{IsReported}
 use Rattle.simulate.specs.declared.fault.Fault.{Fault}
 use Rattle.simulate.specs.declared.fault.Fault.TheVariants.{Unmade}
 

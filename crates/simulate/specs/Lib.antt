@@ -1,4 +1,5 @@
 pub mod Quotes
+pub mod Hints
 pub mod Faults
 pub mod Sources
 pub mod Debugging

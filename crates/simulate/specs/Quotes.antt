@@ -2,7 +2,7 @@
 use Rattle.std.specs.Prelude.{ℕ, zero, suc, ◌==◌, ◌&&◌, ◌||◌, nat_le, cond, List, [], ◌++◌, map, take, slice_get, Option, Some, None}
 use Rattle.std.specs.Str.Lines.{strip_carriage_return}
 use Rattle.assembler.specs.Passes.{lines}
-use Rattle.reports.specs.Reports.{line_end}
+use Rattle.render.specs.Reports.{line_end}
 
 -- the line with a number, from 1
 abbrev pub line_numbered : ℕ → List ℕ → Option (List ℕ)

@@ -11,11 +11,11 @@ use Rattle.schedule.specs.declared.choices.Choice.{Choice}
 use Rattle.schedule.specs.Moments.{Moment, entries_of}
 use Rattle.schedule.specs.Courses.{Behind}
 use Rattle.schedule.specs.Runs.{Goes}
-use Rattle.reports.specs.Reports.{report_of, AllReadable}
+use Rattle.render.specs.Reports.{report_of, AllReadable}
 use Rattle.simulate.specs.Schedules.{AreChosenBy}
 use Rattle.simulate.specs.Sources.{IsProgramIn}
 use Rattle.simulate.specs.Starts.{IsFirstOf, flat_start}
-use Rattle.reports.specs.Statuses.{IsStatusOf}
+use Rattle.render.specs.Statuses.{IsStatusOf}
 
 -- the file with this name and these bytes has a program; so many steps, those that a list chooses and then turns, or what chance chooses, lead from the machine that it begins in to
 -- another, or fewer if there are no more; these are their moments, and the entries that they gave lead as a run of the flat machine from the program's first state to this one

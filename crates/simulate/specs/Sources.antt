@@ -1,5 +1,5 @@
 -- The program in a file: a source's, where the file's name says so, else an ELF file's.
-use Rattle.std.specs.Prelude.{ℕ, ◌≡◌, ◌⊎◌, Bool, true, false, List, Err, Some, codes, nat_eq}
+use Rattle.std.specs.Prelude.{ℕ, ◌≡◌, ◌⊎◌, Bool, true, false, List, Err, Some, codes, nat_eq, if◌then◌else◌}
 use Rattle.std.specs.List.{ends_with}
 use Rattle.std.specs.Option.{option_map}
 use Rattle.std.specs.Str.{IsUtf8}
@@ -8,8 +8,9 @@ use Rattle.loader.specs.Checks.{fault_of}
 use Rattle.loader.specs.Elf.{IsElfOf}
 use Rattle.assembler.specs.Passes.{assembled}
 use Rattle.assembler.specs.Layouts.{IsSourceOf as IsSpelledBy}
-use Rattle.source_operands.specs.declared.fault.AsmFault.{AsmFault}
-use Rattle.source_operands.specs.declared.fault.AsmFault.TheVariants as asm
+use Rattle.statements.specs.declared.fault.AsmFault.{AsmFault}
+use Rattle.statements.specs.declared.fault.AsmFault.TheVariants as asm
+use Rattle.disassembler.specs.Tables.{Table, no_symbols, table_of}
 use Rattle.simulate.specs.Quotes.{line_numbered}
 use Rattle.simulate.specs.declared.fault.Fault.{Fault}
 use Rattle.simulate.specs.declared.fault.Fault.TheVariants.{NotSource, Source, Load, NoMemory}
@@ -43,6 +44,10 @@ abbrev pub IsElfFault : List ℕ → Fault → Type 0
 IsElfFault file (Load fault) = fault_of file ≡ Some fault
 IsElfFault file NoMemory = Unit {0}
 IsElfFault file other = ⊥
+
+-- the names that a program in the file with this name and these bytes is shown with: those of an ELF file's symbols, and for a source none
+abbrev pub names_in : List ℕ → List ℕ → Table
+names_in path file = if is_source path then no_symbols else table_of file
 
 -- why there is no program in the file with this name and these bytes
 abbrev pub IsProgramFault : List ℕ → List ℕ → Fault → Type 0

@@ -14,11 +14,11 @@ use Rattle.schedule.specs.Courses.{Turns}
 use Rattle.schedule.specs.Moments.{Moment}
 use Rattle.simulate.specs.Begins.{IsUnbegun}
 use Rattle.simulate.specs.Given.{AreTextsOf, Comes}
-use Rattle.reports.specs.Reports.{AllReadable}
+use Rattle.render.specs.Reports.{AllReadable}
 use Rattle.simulate.specs.Runs.{addresses}
 use Rattle.simulate.specs.Shown.{Texts, Sinks}
 use Rattle.simulate.specs.Starts.{flat_start}
-use Rattle.reports.specs.Statuses.{IsReported}
+use Rattle.render.specs.Statuses.{IsReported}
 use Rattle.simulate.specs.Unreadable.{IsFirstUnreadable}
 use Rattle.simulate.specs.declared.fault.Fault.{Fault}
 use Rattle.simulate.specs.declared.fault.Fault.TheVariants.{Boot, Word, Exchanged, Unmade, Unwritten, NoMemory}

@@ -17,7 +17,7 @@ use crate::steps::run_by_steps;
 use crate::threads::run_in_threads;
 use command_line::{Cache, Request, Run, Way};
 use debugger::LineInput;
-use disassembler::listing;
+use disassembler::{Symbols, listing};
 use loader::{read_elf, write_elf};
 use schedule::{Chance, Turns};
 use std::alloc::Global;
@@ -92,10 +92,37 @@ fn try_carry_out<'a, R: Threads + Wait + Sync, I: LineInput, P: Live, T: Page, O
         request.now fault × IsUntouched (E.state error.old) (E.state error.new)) }
 {
     match cache_of(request) {
+        Some(Cache::OneByOne) => on_machine::<1, 1, R, I, P, T, O, E>(
+            rt, alloc, request, file, schedule, input, prompt, progress, chart, out, error,
+        ),
+        Some(Cache::OneByTwo) => on_machine::<1, 2, R, I, P, T, O, E>(
+            rt, alloc, request, file, schedule, input, prompt, progress, chart, out, error,
+        ),
         Some(Cache::Small) => on_machine::<2, 1, R, I, P, T, O, E>(
             rt, alloc, request, file, schedule, input, prompt, progress, chart, out, error,
         ),
+        Some(Cache::TwoByTwo) => on_machine::<2, 2, R, I, P, T, O, E>(
+            rt, alloc, request, file, schedule, input, prompt, progress, chart, out, error,
+        ),
+        Some(Cache::FourByOne) => on_machine::<4, 1, R, I, P, T, O, E>(
+            rt, alloc, request, file, schedule, input, prompt, progress, chart, out, error,
+        ),
+        Some(Cache::FourByTwo) => on_machine::<4, 2, R, I, P, T, O, E>(
+            rt, alloc, request, file, schedule, input, prompt, progress, chart, out, error,
+        ),
+        Some(Cache::EightByTwo) => on_machine::<8, 2, R, I, P, T, O, E>(
+            rt, alloc, request, file, schedule, input, prompt, progress, chart, out, error,
+        ),
+        Some(Cache::EightByFour) => on_machine::<8, 4, R, I, P, T, O, E>(
+            rt, alloc, request, file, schedule, input, prompt, progress, chart, out, error,
+        ),
         Some(Cache::Normal) => on_machine::<16, 4, R, I, P, T, O, E>(
+            rt, alloc, request, file, schedule, input, prompt, progress, chart, out, error,
+        ),
+        Some(Cache::SixtyFourByFour) => on_machine::<64, 4, R, I, P, T, O, E>(
+            rt, alloc, request, file, schedule, input, prompt, progress, chart, out, error,
+        ),
+        Some(Cache::SixtyFourByEight) => on_machine::<64, 8, R, I, P, T, O, E>(
             rt, alloc, request, file, schedule, input, prompt, progress, chart, out, error,
         ),
         None => on_file(alloc, request, file, progress, &mut chart.sink, out),
@@ -262,12 +289,13 @@ fn on_file<'a, P: Live, T: Page, O: Sink>(
     }
 }
 
-/// Puts the listing of the program in a file. It answers the status.
+/// Puts the listing of the program in a file, with its names. It answers the status.
 fn list<'a, O: Sink>(alloc: Global, file: &[u8], out: &mut O) -> Result<u8, Fault<'a>>
     ensures { MatchResult result (IsListed file.now (O.state out.old) (O.state out.new)) (IsUnlisted file.now (O.state out.old) (O.state out.new)) }
 {
     let program = read_elf(alloc, file)?;
-    listing(&program, out)?;
+    let names = Symbols::read(alloc, file)?;
+    listing(&program, &names, out)?;
     Ok(0)
 }
 

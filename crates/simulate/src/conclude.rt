@@ -1,12 +1,12 @@
 //! The end of a run: the report on the machine that it has led to.
 ghost use Rattle.std.specs.Prelude.{MatchResult};
 ghost use Rattle.machine.specs.States.{geometry, setting_of};
-ghost use Rattle.reports.specs.Reports.{AllReadable};
+ghost use Rattle.render.specs.Reports.{AllReadable};
 ghost use Rattle.simulate.specs.Conclusions.{IsConcluded, IsHalfConcluded};
 
 use crate::fault::Fault;
 use machine::Machine;
-use reports::{report, status};
+use render::{report, status};
 use words::{Addr, Sink};
 
 /// Concludes a run: puts the report on the machine that it has led to, and answers the status that the program ends with.

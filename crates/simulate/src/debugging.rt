@@ -7,6 +7,7 @@ ghost use Rattle.simulate.specs.Starts.{IsStartFault};
 
 use crate::begin::boot;
 use crate::fault::{Fault, put_line};
+use crate::source::names_in;
 use command_line::Setup;
 use debugger::{ConsoleFault, LineInput, debug};
 use std::alloc::Global;
@@ -41,8 +42,9 @@ pub(crate) fn play_by_hand<
         (λ fault. IsStartFault setup.now file.now fault × (input.new ≡ input.old) × IsUntouched (O.state out.old) (O.state out.new)
         × IsUntouched (E.state error.old) (E.state error.new)) }
 {
+    let names = names_in(alloc, setup.file, file)?;
     let machine = boot::<SETS, WAYS>(alloc, setup, file)?;
-    let end = debug(machine, input, prompt, error, out);
+    let end = debug(&names, machine, input, prompt, error, out);
     Ok(tell_end(&end, error))
 }
 

@@ -2,7 +2,7 @@
 ghost use Rattle.std.specs.Prelude.{◌≡◌, [], MatchResult, map};
 ghost use Rattle.std.specs.Option.{option_map};
 ghost use Rattle.words.specs.Sinks.{TookPart};
-ghost use Rattle.reports.specs.Statuses.{IsReported};
+ghost use Rattle.render.specs.Statuses.{IsReported};
 ghost use Rattle.simulate.specs.Answered.{file_of, schedule_of, page_of, IsReadAt, IsUnreadAt, IsReadIf, IsUnreadIf, IsUnbegunAt, IsUnbegunIf, IsSheetFor, IsClosed, IsFileMade, IsFileUnmade, IsImageMade, IsImageUnmade, IsWritten, IsCarried, IsMadeOf, IsUnmadeOf, IsServed, IsUnserved, IsObeyed, IsDisobeyed, IsAnswered};
 ghost use Rattle.simulate.specs.declared.fault.Fault.TheVariants.{Unwritten};
 ghost use Rattle.texts.specs.Puts.{Puts};
@@ -14,7 +14,7 @@ use crate::page::{Page, Sheet};
 use crate::store::{Store, StoreFault};
 use command_line::{Request, Show, Way, parse};
 use debugger::LineInput;
-use reports::is_report;
+use render::is_report;
 use std::alloc::Global;
 use std::sync::Wait;
 use std::thread::Threads;

@@ -1,12 +1,13 @@
 ghost use Rattle.std.specs.Prelude.{◌≡◌};
 ghost use Rattle.words.specs.Sinks.{IsPut};
-ghost use Rattle.simulate.specs.Faults.{fault_status, fault_text, IsPlain, line, refusal_line, refused_text, refused_line, unspelled_text, no_outcome_text, of_order, of_load, of_boot, of_schedule, of_halt};
+ghost use Rattle.simulate.specs.Faults.{fault_status, fault_text, IsPlain, line, refusal_line, refused_text, refused_line, value_text, unspelled_text, no_outcome_text, of_order, of_load, of_boot, of_schedule, of_halt};
 ghost use Rattle.texts.specs.Puts.{Puts};
 ghost use Rattle.simulate.specs.declared.fault.Fault.TheVariants.{NoMemory, Unwritten};
 
+use crate::hint::hint;
 use crate::quote::quoted;
 use assembler::SourceFault;
-use command_line::OrderFault;
+use command_line::{Argument, OrderFault};
 use flat::BootFault;
 use itoa::Buffer;
 use loader::LoadFault;
@@ -30,12 +31,14 @@ pub enum Fault<'a> {
     NotText,
     /// What clap has to say to the user, with its line ends.
     Refused(String),
-    /// The first malformed value, as the user wrote it.
-    Value(&'a str),
+    /// The first malformed value: what it is for, and how the user wrote it.
+    Value(Argument, &'a str),
     /// More than one is asked for of a trace, a timeline and counts.
     TwoViews,
     /// A picture is asked for of a run that may take more steps than a picture shows.
     LongPicture,
+    /// A page is asked for of a run that may take more steps than a page shows.
+    LongPage,
     /// A run in threads is given a schedule, or more is to be shown of it, or it is to be counted; or the history is asked for of a run that is
     /// made neither in threads nor by chance.
     ThreadsAlone,
@@ -80,8 +83,8 @@ impl<'a> Fault<'a> {
         ensures { result ≡ fault_status self.now }
     {
         match self {
-            Fault::NotText | Fault::Refused(_) | Fault::Value(_) | Fault::Word(_) => 2,
-            Fault::TwoViews | Fault::LongPicture | Fault::ThreadsAlone => 2,
+            Fault::NotText | Fault::Refused(_) | Fault::Value(..) | Fault::Word(_) => 2,
+            Fault::TwoViews | Fault::LongPicture | Fault::LongPage | Fault::ThreadsAlone => 2,
             Fault::MixAlone | Fault::TwoFiles => 2,
             Fault::NotSchedule | Fault::Schedule(_) | Fault::NoOutcome(_) => 2,
             Fault::Unread(_) | Fault::TooLong(_) | Fault::Unwritten | Fault::Unmade(_) => 3,
@@ -97,6 +100,7 @@ impl<'a> Fault<'a> {
     {
         match self {
             Fault::Refused(text) => put_all(sink, &[text.as_bytes()]),
+            Fault::Value(argument, text) => put_value(sink, text, hint(*argument)),
             Fault::Source(refused) => put_refused(sink, refused),
             Fault::Load(fault) => put_refusal(sink, b"load ", fault.number(), fault.name()),
             Fault::Boot(fault) => put_refusal(sink, b"boot ", fault.number(), fault.name()),
@@ -116,9 +120,9 @@ impl<'a> Fault<'a> {
     {
         match self {
             Fault::NotText => (b"an argument is not text", ""),
-            Fault::Value(text) => (b"value ", *text),
             Fault::TwoViews => (b"--trace, --timeline and --stats exclude each other", ""),
             Fault::LongPicture => (b"a picture takes --steps of at most 2000", ""),
+            Fault::LongPage => (b"a page takes --steps of at most 20000", ""),
             Fault::ThreadsAlone => (
                 b"--threads excludes --schedule, --seed, --trace, --timeline and --stats, and --history needs --threads or --seed",
                 "",
@@ -155,6 +159,22 @@ pub(crate) fn put_line<S: Sink>(sink: &mut S, what: &[u8], name: &str) -> Result
     ensures { Puts (S.state sink.old) (S.state sink.new) (line what.now name.now) result }
 {
     put_all(sink, &[b"logtm: ", what, name.as_bytes(), b"\n"])
+}
+
+/// Puts that a value is malformed, and what would do.
+fn put_value<S: Sink>(sink: &mut S, text: &str, hint: &str) -> Result<(), SinkFault>
+    ensures { Puts (S.state sink.old) (S.state sink.new) (value_text text.now hint.now) result }
+{
+    put_all(
+        sink,
+        &[
+            b"logtm: value ",
+            text.as_bytes(),
+            b"\n        ",
+            hint.as_bytes(),
+            b"\n",
+        ],
+    )
 }
 
 fn put_refusal<S: Sink>(sink: &mut S, what: &[u8], number: u32, name: &str) -> Result<(), SinkFault>
@@ -243,9 +263,10 @@ impl<'a> From<OrderFault<'a>> for Fault<'a> {
     fn from(fault: OrderFault<'a>) -> Fault<'a> {
         match fault {
             OrderFault::Refused(text) => Fault::Refused(text),
-            OrderFault::Value(text) => Fault::Value(text),
+            OrderFault::Value(argument, text) => Fault::Value(argument, text),
             OrderFault::TwoViews => Fault::TwoViews,
             OrderFault::LongPicture => Fault::LongPicture,
+            OrderFault::LongPage => Fault::LongPage,
             OrderFault::ThreadsAlone => Fault::ThreadsAlone,
             OrderFault::MixAlone => Fault::MixAlone,
             OrderFault::TwoFiles => Fault::TwoFiles,

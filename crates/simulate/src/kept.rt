@@ -8,9 +8,9 @@ ghost use Rattle.texts.specs.Puts.{Puts};
 ghost use Rattle.simulate.specs.Conclusions.{IsHistoryUnput};
 ghost use Rattle.simulate.specs.Kept.{IsGivenAndKept, IsNotGivenOrKept};
 
+use crate::begin::{Begun, begin};
 use crate::fault::Fault;
 use crate::page::Page;
-use crate::source::choices_in;
 use crate::steps::run_by_steps;
 use command_line::{Chance as Asked, Mix as Weights, Print, Run, Show};
 use machine::Progress;
@@ -57,7 +57,8 @@ pub(crate) fn run_and_keep<'a, const SETS: usize, const WAYS: usize, P: Progress
         (IsNotGivenOrKept (geometry SETS WAYS) run.now print path.entry file.now schedule.now
         (record { output = O.state out.old; file = T.state chart.old.sink }) (record { output = O.state out.new; file = T.state chart.new.sink })) }
 {
-    let choices = choices_in(alloc, schedule)?;
+    let begun: Begun<SETS, WAYS> = begin(alloc, run, file, schedule)?;
+    let choices = begun.choices;
     let mut chooser = KeptChance::new(alloc, chance_of(asked));
     let status = run_by_steps::<SETS, WAYS, KeptChance, P, T, O>(
         alloc,

@@ -10,6 +10,7 @@ mod counting;
 mod debugging;
 mod entry;
 mod fault;
+mod hint;
 mod kept;
 mod laws;
 mod live;

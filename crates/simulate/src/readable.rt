@@ -1,7 +1,7 @@
 //! The words that a user asks to be shown.
 ghost use Rattle.std.specs.Prelude.{◌≡◌, IfOk, IfErr, OnOk};
 ghost use Rattle.flat.specs.Reads.{is_readable};
-ghost use Rattle.reports.specs.Reports.{AllReadable};
+ghost use Rattle.render.specs.Reports.{AllReadable};
 ghost use Rattle.simulate.specs.Runs.{addresses};
 ghost use Rattle.simulate.specs.Unreadable.{IsUnreadable};
 

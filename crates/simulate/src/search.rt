@@ -2,7 +2,7 @@
 ghost use Rattle.std.specs.Prelude.{◌≡◌, ◌<◌, ℕ, List, MatchResult, length};
 ghost use Rattle.std.specs.Option.{option_map};
 ghost use Rattle.outcomes.specs.Searches.{setting_at, IsSearch};
-ghost use Rattle.reports.specs.Reports.{AllReadable};
+ghost use Rattle.render.specs.Reports.{AllReadable};
 ghost use Rattle.texts.specs.Puts.{Puts};
 ghost use Rattle.ends.specs.Ends.{AreEndsOf};
 ghost use Rattle.simulate.specs.Ends.{search_status, states_told, end_numbered, lines_of, IsSearched, IsUnsearched, IsRunPut, IsRunUnput, IsWitnessed, IsUnwitnessed, AreEndsGiven, AreEndsNotGiven};
@@ -14,9 +14,10 @@ use crate::page::Page;
 use crate::readable::readable;
 use crate::source::program_in;
 use command_line::{Search, Witness};
+use disassembler::Symbols;
 use ends::{End, ends_of, put_ends};
-use lines::put_entry;
 use outcomes::{Outcomes, begin};
+use render::put_entry;
 use std::alloc::Global;
 use words::{Addr, Entry, Sink, SinkFault};
 
@@ -137,26 +138,31 @@ fn put_run<'a, T: Page>(
         (IsRunUnput outcomes.now place path.entry (T.state page.old) (T.state page.new)) }
 {
     let entries = outcomes.witness(alloc, place)?;
-    match put_lines(&entries, page) {
+    let names = Symbols::none(alloc);
+    match put_lines(&names, &entries, page) {
         Ok(()) => Ok(()),
         Err(_) => Err(Fault::Unmade(path)),
     }
 }
 
 /// Puts the lines of entries, and has them written out.
-fn put_lines<T: Page>(entries: &[Entry], page: &mut T) -> Result<(), SinkFault>
-    ensures { Puts (T.state page.old) (T.state page.new) (lines_of entries.now) result }
+fn put_lines<T: Page>(names: &Symbols<'_>, entries: &[Entry], page: &mut T) -> Result<(), SinkFault>
+    ensures { Puts (T.state page.old) (T.state page.new) (lines_of names.now entries.now) result }
 {
-    put_entries(entries, page)?;
+    put_entries(names, entries, page)?;
     page.flush()
 }
 
 /// Puts the lines of entries.
-fn put_entries<S: Sink>(entries: &[Entry], sink: &mut S) -> Result<(), SinkFault>
-    ensures { Puts (S.state sink.old) (S.state sink.new) (lines_of entries.now) result }
+fn put_entries<S: Sink>(
+    names: &Symbols<'_>,
+    entries: &[Entry],
+    sink: &mut S,
+) -> Result<(), SinkFault>
+    ensures { Puts (S.state sink.old) (S.state sink.new) (lines_of names.now entries.now) result }
 {
     for entry in entries {
-        put_entry(entry, sink)?;
+        put_entry(names, entry, sink)?;
     }
     Ok(())
 }

@@ -1,15 +1,16 @@
 //! The program in a file: a source's, where the file's name says so, else an ELF file's. And the choices in a schedule's file.
-ghost use Rattle.std.specs.Prelude.{◌≡◌, ◌≢◌, Err, MatchResult};
+ghost use Rattle.std.specs.Prelude.{◌≡◌, ◌≢◌, Err, IfOk, MatchResult};
 ghost use Rattle.assembler.specs.Passes.{assembled};
-ghost use Rattle.simulate.specs.Sources.{is_source, is_no_memory, IsSourceOf, IsProgramIn, IsSourceFault, IsProgramFault};
+ghost use Rattle.simulate.specs.Sources.{is_source, is_no_memory, IsSourceOf, IsProgramIn, IsSourceFault, IsProgramFault, names_in};
 ghost use Rattle.simulate.specs.Schedules.{AreChosenBy, IsScheduleFault};
 
 use crate::fault::{Fault, RefusedLine};
 use crate::quote::line_numbered;
 use assembler::{AsmFault, SourceFault, assemble};
+use disassembler::Symbols;
 use loader::{Program, read_elf};
 use schedule::{Choice, read};
-use std::alloc::Global;
+use std::alloc::{AllocError, Global};
 use std::str;
 
 /// Whether the name of a file is that of a source.
@@ -62,6 +63,20 @@ pub fn program_in<'a>(alloc: Global, path: &str, file: &'a [u8]) -> Result<Progr
     } else {
         Ok(read_elf(alloc, file)?)
     }
+}
+
+/// The names that the program in a file with this name and these bytes is shown with. The only error is that memory ran out.
+pub(crate) fn names_in<'a>(
+    alloc: Global,
+    path: &str,
+    file: &'a [u8],
+) -> Result<Symbols<'a>, AllocError>
+    ensures { IfOk result (λ names. names ≡ names_in path.now file.now) }
+{
+    if !is_source(path) {
+        return Symbols::read(alloc, file);
+    }
+    Ok(Symbols::none(alloc))
 }
 
 /// The choices that the lines of a schedule's file spell. Want of memory is no fault of the schedule.

@@ -3,7 +3,7 @@ ghost use Rattle.std.specs.Prelude.{◌≡◌, ◌<◌, ◌*◌, ◌^◌, MatchR
 ghost use Rattle.machine.specs.States.{geometry};
 ghost use Rattle.schedule.specs.Courses.{IsUnbegun, course, forgotten};
 ghost use Rattle.command_line.specs.declared.request.Show.TheVariants as shows;
-ghost use Rattle.command_line.specs.declared.request.View.TheVariants.{Trace, Timeline, Picture};
+ghost use Rattle.command_line.specs.declared.request.View.TheVariants.{Trace, Timeline, Picture, Page};
 ghost use Rattle.simulate.specs.Given.{IsGiven, IsNotGiven};
 ghost use Rattle.simulate.specs.Shown.{IsShown, IsCutShort, IsViewed, IsViewCut, IsViewFault};
 
@@ -12,13 +12,16 @@ use crate::conclude::conclude;
 use crate::counting::put_counts;
 use crate::fault::Fault;
 use crate::page::Page;
+use crate::source::names_in;
 use command_line::{Run, Show, View};
+use disassembler::Symbols;
 use machine::{Machine, Progress, Silent};
+use pages::put_page;
 use schedule::{Choice, Chooser, Halt};
 use std::alloc::Global;
 use timeline::{Chart, put_picture, put_timeline};
 use watch::{Tally, count_run, put_trace};
-use words::Sink;
+use words::{Addr, Sink};
 
 /// Runs the program in a file, given the bytes of the file and those of its schedule, none where it has none; a chooser gives the steps behind the
 /// schedule's. It puts what is shown of the run while it goes on, into `out` or into `chart`, whose sink stands for the file of a view; then the report, and the counts behind it. Progress is told on the
@@ -52,11 +55,14 @@ pub(crate) fn run_by_steps<
         (IsNotGiven (geometry SETS WAYS) run.now (forgotten (C.behind chooser.new)) show.entry file.now schedule.now
         (record { output = O.state out.old; file = T.state chart.old.sink }) (record { output = O.state out.new; file = T.state chart.new.sink })) }
 {
+    let names = names_in(alloc, run.setup.file, file)?;
     let mut begun: Begun<SETS, WAYS> = begin(alloc, run, file, schedule)?;
     let played = play(
         alloc,
+        &names,
         &mut begun.machine,
         &begun.choices,
+        &begun.addrs,
         run.steps,
         show,
         chooser,
@@ -83,8 +89,10 @@ fn play<
     O: Sink,
 >(
     alloc: Global,
+    names: &Symbols<'_>,
     machine: &mut Machine<SETS, WAYS>,
     choices: &[Choice],
+    words: &[Addr],
     steps: u32,
     show: Show<'a>,
     chooser: &mut C,
@@ -94,9 +102,9 @@ fn play<
 ) -> Result<Tally, Fault<'a>>
     requires { IsUnbegun (C.behind chooser.old) }
     ensures { MatchResult result
-        (λ counts. IsShown show.entry (geometry SETS WAYS) (course choices.now (C.behind chooser.new)) steps machine.old machine.new counts
+        (λ counts. IsShown names.now show.entry (geometry SETS WAYS) words.now (course choices.now (C.behind chooser.new)) steps machine.old machine.new counts
         (record { output = O.state out.old; file = T.state chart.old.sink }) (record { output = O.state out.new; file = T.state chart.new.sink }))
-        (IsCutShort show.entry (geometry SETS WAYS) (course choices.now (forgotten (C.behind chooser.new))) steps machine.old machine.new
+        (IsCutShort names.now show.entry (geometry SETS WAYS) words.now (course choices.now (forgotten (C.behind chooser.new))) steps machine.old machine.new
         (record { output = O.state out.old; file = T.state chart.old.sink }) (record { output = O.state out.new; file = T.state chart.new.sink })) }
 {
     match show {
@@ -106,12 +114,12 @@ fn play<
         }
         Show::Counts(_) => Ok(count_run(machine, choices, steps, chooser, progress)?),
         Show::Trace => {
-            put_trace(machine, choices, steps, chooser, out, &mut Silent)?;
+            put_trace(names, machine, choices, steps, chooser, out, &mut Silent)?;
             Ok(Tally::new())
         }
         Show::View(view, path) => {
             put_view(
-                alloc, machine, choices, steps, view, path, chooser, progress, chart,
+                alloc, names, machine, choices, words, steps, view, path, chooser, progress, chart,
             )?;
             Ok(Tally::new())
         }
@@ -121,8 +129,10 @@ fn play<
 /// Makes the steps of a run, puts a view of them, and has it written out. If that fails, the fault names the path of the file.
 fn put_view<'a, const SETS: usize, const WAYS: usize, C: Chooser<SETS, WAYS>, P: Progress, T: Page>(
     alloc: Global,
+    names: &Symbols<'_>,
     machine: &mut Machine<SETS, WAYS>,
     choices: &[Choice],
+    words: &[Addr],
     steps: u32,
     view: View,
     path: &'a str,
@@ -132,11 +142,11 @@ fn put_view<'a, const SETS: usize, const WAYS: usize, C: Chooser<SETS, WAYS>, P:
 ) -> Result<(), Fault<'a>>
     requires { IsUnbegun (C.behind chooser.old) }
     ensures { MatchResult result
-        (λ _. IsViewed view (geometry SETS WAYS) (course choices.now (C.behind chooser.new)) steps machine.old machine.new (T.state chart.old.sink) (T.state chart.new.sink))
-        (IsViewFault view (geometry SETS WAYS) (course choices.now (forgotten (C.behind chooser.new))) steps machine.old machine.new (T.state chart.old.sink) (T.state chart.new.sink) path.entry) }
+        (λ _. IsViewed names.now view (geometry SETS WAYS) words.now (course choices.now (C.behind chooser.new)) steps machine.old machine.new (T.state chart.old.sink) (T.state chart.new.sink))
+        (IsViewFault names.now view (geometry SETS WAYS) words.now (course choices.now (forgotten (C.behind chooser.new))) steps machine.old machine.new (T.state chart.old.sink) (T.state chart.new.sink) path.entry) }
 {
     match put_form(
-        alloc, machine, choices, steps, view, chooser, progress, chart,
+        alloc, names, machine, choices, words, steps, view, chooser, progress, chart,
     ) {
         Ok(()) => match chart.sink.flush() {
             Ok(()) => Ok(()),
@@ -150,8 +160,10 @@ fn put_view<'a, const SETS: usize, const WAYS: usize, C: Chooser<SETS, WAYS>, P:
 /// Makes the steps of a run, and puts a view of them.
 fn put_form<const SETS: usize, const WAYS: usize, C: Chooser<SETS, WAYS>, P: Progress, T: Sink>(
     alloc: Global,
+    names: &Symbols<'_>,
     machine: &mut Machine<SETS, WAYS>,
     choices: &[Choice],
+    words: &[Addr],
     steps: u32,
     view: View,
     chooser: &mut C,
@@ -160,12 +172,30 @@ fn put_form<const SETS: usize, const WAYS: usize, C: Chooser<SETS, WAYS>, P: Pro
 ) -> Result<(), Halt>
     requires { IsUnbegun (C.behind chooser.old) }
     ensures { MatchResult result
-        (λ _. IsViewed view (geometry SETS WAYS) (course choices.now (C.behind chooser.new)) steps machine.old machine.new (T.state chart.old.sink) (T.state chart.new.sink))
-        (IsViewCut view (geometry SETS WAYS) (course choices.now (forgotten (C.behind chooser.new))) steps machine.old machine.new (T.state chart.old.sink) (T.state chart.new.sink)) }
+        (λ _. IsViewed names.now view (geometry SETS WAYS) words.now (course choices.now (C.behind chooser.new)) steps machine.old machine.new (T.state chart.old.sink) (T.state chart.new.sink))
+        (IsViewCut names.now view (geometry SETS WAYS) words.now (course choices.now (forgotten (C.behind chooser.new))) steps machine.old machine.new (T.state chart.old.sink) (T.state chart.new.sink)) }
 {
     match view {
-        View::Trace => put_trace(machine, choices, steps, chooser, &mut chart.sink, progress),
+        View::Trace => put_trace(
+            names,
+            machine,
+            choices,
+            steps,
+            chooser,
+            &mut chart.sink,
+            progress,
+        ),
         View::Timeline => put_timeline(machine, choices, steps, chooser, chart, progress),
         View::Picture => put_picture(alloc, machine, choices, steps, chooser, &mut chart.sink),
+        View::Page => put_page(
+            alloc,
+            machine,
+            choices,
+            steps,
+            chooser,
+            words,
+            &mut chart.sink,
+            progress,
+        ),
     }
 }

@@ -7,7 +7,7 @@ ghost use Rattle.board.specs.Histories.{no_step};
 ghost use Rattle.schedule.specs.Written.{text_of};
 ghost use Rattle.texts.specs.Puts.{Puts};
 ghost use Rattle.simulate.specs.Conclusions.{IsConcluded, IsHistoryUnput, IsHalfPut};
-ghost use Rattle.reports.specs.Reports.{AllReadable};
+ghost use Rattle.render.specs.Reports.{AllReadable};
 ghost use Rattle.simulate.specs.Sources.{IsProgramIn, IsProgramFault};
 ghost use Rattle.simulate.specs.Threaded.{IsReady, IsUnready, IsGivenInThreads, IsNotGivenInThreads};
 

@@ -1,2 +1,5 @@
-pub mod Parts
+pub mod Blanks
+pub mod Cuts
+pub mod Far
+pub mod Pieces
 pub mod Round

@@ -14,14 +14,14 @@ use Rattle.table.specs.declared.instr.AluOp.{AluOp}
 use Rattle.table.specs.declared.instr.AmoOp.{AmoOp}
 use Rattle.table.specs.declared.instr.ImmOp.TheVariants as imm
 use Rattle.table.specs.declared.instr.AluOp.TheVariants as alu
-use Rattle.source_operands.specs.declared.fault.AsmFault.{AsmFault}
-use Rattle.source_operands.specs.declared.fault.AsmFault.TheVariants.{Operand}
+use Rattle.statements.specs.declared.fault.AsmFault.{AsmFault}
+use Rattle.statements.specs.declared.fault.AsmFault.TheVariants.{Operand}
 use Rattle.statements.specs.declared.form.Alone.{Alone}
 use Rattle.statements.specs.declared.form.Alone.TheVariants as alone
 use Rattle.statements.specs.declared.form.Pair.{Pair}
 use Rattle.statements.specs.declared.form.Pair.TheVariants as pair
-use Rattle.source_operands.specs.Cutting.{cut, trim}
-use Rattle.source_operands.specs.Operands.{◌>>=◌, Find, register, immediate, upper, based, indirect, offset}
+use Rattle.statements.specs.Cutting.{cut, trim}
+use Rattle.statements.specs.Operands.{◌>>=◌, Find, register, immediate, upper, based, indirect, offset}
 
 -- Operands are parted by commas, and have blanks around them.
 

@@ -1,3 +1,9 @@
+pub mod Cutting
+pub mod Faults
+pub mod Numbers
+pub mod Operands
+pub mod Places
+pub mod Registers
 pub mod Bytes
 pub mod Forms
 pub mod Instructions

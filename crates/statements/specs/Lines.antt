@@ -1,12 +1,12 @@
 -- What a line of source makes.
 use Rattle.std.specs.Prelude.{nat_le, ℕ, List, length, Option, Result}
 use Rattle.std.specs.Str.Lines.{strip_carriage_return}
-use Rattle.source_operands.specs.declared.fault.AsmFault.{AsmFault}
-use Rattle.source_operands.specs.declared.fault.AsmFault.TheVariants.{TooLarge}
-use Rattle.source_operands.specs.declared.place.Place.{Place}
-use Rattle.source_operands.specs.Cutting.{parts_of}
-use Rattle.source_operands.specs.Operands.{◌>>=◌, checked}
-use Rattle.source_operands.specs.Places.{Labels}
+use Rattle.statements.specs.declared.fault.AsmFault.{AsmFault}
+use Rattle.statements.specs.declared.fault.AsmFault.TheVariants.{TooLarge}
+use Rattle.statements.specs.declared.place.Place.{Place}
+use Rattle.statements.specs.Cutting.{parts_of}
+use Rattle.statements.specs.Operands.{◌>>=◌, checked}
+use Rattle.statements.specs.Places.{Labels}
 use Rattle.statements.specs.Statements.{Made, statement_of}
 
 -- a line without a carriage return at its end, if it has at most 255 bytes then

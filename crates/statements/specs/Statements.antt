@@ -8,21 +8,21 @@ use Rattle.words.specs.Bytes.{bytes_in}
 use Rattle.table.specs.declared.instr.Instr.{Instr}
 use Rattle.table.specs.declared.instr.Instr.TheVariants as instr
 use Rattle.table.specs.declared.instr.ImmOp.TheVariants as imm
-use Rattle.source_operands.specs.declared.fault.AsmFault.{AsmFault}
-use Rattle.source_operands.specs.declared.fault.AsmFault.TheVariants.{Unknown, Operand, Range, Alignment, Label, Directive}
+use Rattle.statements.specs.declared.fault.AsmFault.{AsmFault}
+use Rattle.statements.specs.declared.fault.AsmFault.TheVariants.{Unknown, Operand, Range, Alignment, Label, Directive}
 use Rattle.statements.specs.declared.form.Form.{Form}
 use Rattle.statements.specs.declared.form.Form.TheVariants as form
 use Rattle.statements.specs.declared.form.Directive as directives
 use Rattle.statements.specs.declared.form.Directive.TheVariants as directive
-use Rattle.source_operands.specs.declared.place.Place.{Place}
-use Rattle.source_operands.specs.declared.place.Section.{Section}
-use Rattle.source_operands.specs.declared.place.Section.TheVariants.{Text, Data}
+use Rattle.statements.specs.declared.place.Place.{Place}
+use Rattle.statements.specs.declared.place.Section.{Section}
+use Rattle.statements.specs.declared.place.Section.TheVariants.{Text, Data}
 use Rattle.statements.specs.declared.made.Words.{Words}
 use Rattle.statements.specs.declared.made.Words.TheVariants as words
-use Rattle.source_operands.specs.Cutting.{cut_word, is_name, trim}
-use Rattle.source_operands.specs.Places.{Labels, address, find}
+use Rattle.statements.specs.Cutting.{cut_word, is_name, trim}
+use Rattle.statements.specs.Places.{Labels, address, find}
 use Rattle.statements.specs.Forms.{form_named}
-use Rattle.source_operands.specs.Operands.{◌>>=◌, checked, guarded, Find, register, immediate, is_lost, value}
+use Rattle.statements.specs.Operands.{◌>>=◌, checked, guarded, Find, register, immediate, is_lost, value}
 use Rattle.statements.specs.Instructions.{two, last, by_row, branch_swapped_of, branch_zero_of, j_of, jr_of, pair_of, alone_of, alone_instr, upper_part, lower_part}
 
 -- what a statement makes: nothing, one or two instructions, numbers of a width, or zeros; or the section that it enters

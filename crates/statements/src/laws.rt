@@ -2,9 +2,9 @@ ghost use Rattle.std.specs.Prelude.{◌≡◌, ◌<◌, ◌%◌, ◌^◌, ℕ, O
 ghost use Rattle.std.specs.Int.{w32, to_le_bytes};
 ghost use Rattle.std.specs.Result.{IsOkAnd};
 ghost use Rattle.disassembler.specs.Canonical.{canonical};
-ghost use Rattle.source_operands.specs.declared.place.Place.{Place as PlaceValue};
-ghost use Rattle.source_operands.specs.declared.place.Section.TheVariants.{Text};
-ghost use Rattle.source_operands.specs.Places.{Labels};
+ghost use Rattle.statements.specs.declared.place.Place.{Place as PlaceValue};
+ghost use Rattle.statements.specs.declared.place.Section.TheVariants.{Text};
+ghost use Rattle.statements.specs.Places.{Labels};
 ghost use Rattle.statements.specs.Bytes.{AreBytesOf};
 ghost use Rattle.statements.specs.Lines.{line_of};
 

@@ -1,12 +1,14 @@
 //! Lines of source.
 ghost use Rattle.std.specs.Prelude.{◌≡◌, ◌≤◌, length, Some, Ok, Err, MatchResult, IfOk};
-ghost use Rattle.source_operands.specs.Places.{labels_of};
+ghost use Rattle.statements.specs.Places.{labels_of};
 ghost use Rattle.statements.specs.Lines as spec;
 ghost use Rattle.statements.specs.Statements.{made};
 
+use crate::fault::AsmFault;
 use crate::made::Words;
+use crate::place::{Names, Place};
 use crate::statement::read_statement;
-use source_operands::{AsmFault, Names, Place, cut_line};
+use crate::text::cut_line;
 
 /// How many bytes a line may have.
 const LINE: usize = 255;

@@ -1,6 +1,6 @@
 //! What a line makes.
+use crate::place::Section;
 use arrayvec::ArrayVec;
-use source_operands::Section;
 use table::Instr;
 use words::Width;
 

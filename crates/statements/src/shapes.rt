@@ -2,15 +2,16 @@
 ghost use Rattle.std.specs.Prelude.{◌≡◌, ◌≤◌, ◌<◌, ◌*◌, ◌%◌, ◌^◌, option_map, Ok, Err, MatchResult};
 ghost use Rattle.table.specs.declared.instr.Instr.TheVariants as instr;
 ghost use Rattle.statements.specs.Instructions as spec;
-ghost use Rattle.source_operands.specs.Operands as operand;
-ghost use Rattle.source_operands.specs.Places.{find_in};
+ghost use Rattle.statements.specs.Operands as operand;
+ghost use Rattle.statements.specs.Places.{find_in};
 
+use crate::fault::AsmFault;
 use crate::form::{Alone, Pair};
+use crate::operand::{amount as amount_of, based, imm12, indirect, register, upper};
+use crate::place::Names;
+use crate::target::{abort_offset, branch_offset, jump_offset};
+use crate::text::{cut, trim};
 use operands::{FenceBits, Imm12};
-use source_operands::{
-    AsmFault, Names, abort_offset, amount as amount_of, based, branch_offset, cut, imm12, indirect,
-    jump_offset, register, trim, upper,
-};
 use table::{AluOp, AmoOp, BranchOp, ImmOp, Instr, LoadOp, Row, ShiftOp, StoreOp};
 use words::Reg;
 

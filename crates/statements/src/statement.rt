@@ -4,20 +4,21 @@ ghost use Rattle.std.specs.List.{list_all};
 ghost use Rattle.std.specs.Option.{option_map_or};
 ghost use Rattle.arrayvec.specs.ArrayVec.{array_vec_len};
 ghost use Rattle.statements.specs.Statements as spec;
-ghost use Rattle.source_operands.specs.Cutting.{trim};
-ghost use Rattle.source_operands.specs.Operands as source;
-ghost use Rattle.source_operands.specs.Places.{address, find_in, labels_of};
+ghost use Rattle.statements.specs.Cutting.{trim};
+ghost use Rattle.statements.specs.Operands as source;
+ghost use Rattle.statements.specs.Places.{address, find_in, labels_of};
 
+use crate::fault::AsmFault;
 use crate::form::{Directive, Form, form_named};
 use crate::made::Words;
+use crate::operand::{immediate, register};
+use crate::place::{Names, Place, Section};
 use crate::shapes;
 use crate::shapes::{last, two};
+use crate::target::{is_lost, value};
+use crate::text::{cut, cut_word, is_name, trim};
 use arrayvec::ArrayVec;
 use operands::{Imm12, UpperImm};
-use source_operands::{
-    AsmFault, Names, Place, Section, cut, cut_word, immediate, is_lost, is_name, register, trim,
-    value,
-};
 use table::{ImmOp, Instr, byte_count};
 use words::{Reg, Width};
 

@@ -1,6 +1,9 @@
 mod assembling;
+mod faults;
 mod formats;
+mod instructions;
 mod large;
 mod listings;
 mod memory;
+mod names;
 mod sample;

@@ -15,8 +15,8 @@ use Rattle.table.specs.Table.{decoded}
 use Rattle.table.specs.declared.instr.Instr.{Instr}
 use Rattle.table.specs.declared.instr.Instr.TheVariants.{TBegin, TCommit}
 use Rattle.disassembler.specs.Canonical.{canonical}
-use Rattle.lines.specs.Messages.{message_text}
-use Rattle.lines.specs.Parts.{block_text}
+use Rattle.render.specs.Messages.{message_text}
+use Rattle.render.specs.Parts.{block_text}
 use Rattle.protocol.specs.Hart.{Transaction}
 use Rattle.protocol.specs.Machine.{Machine}
 use Rattle.protocol.specs.Messages.{receiver_of, shown}

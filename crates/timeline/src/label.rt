@@ -7,8 +7,8 @@ ghost use Rattle.std.specs.Prelude.{unwrap_or};
 ghost use Rattle.timeline.specs.Marks as spec;
 
 use disassembler::text;
-use lines::{first_byte, hart_text, message_text};
 use network::Flight;
+use render::{first_byte, hart_text, message_text};
 use texts::put_all;
 use words::{AbortCause, BlockNo, Entry, HARTS, HartId, Message, Sink, SinkFault, Step};
 

@@ -1,10 +1,10 @@
 ghost use Rattle.std.specs.Prelude.{Some};
 
-use std::error::Error;
 use std::fmt;
+use thiserror::Error;
 
 /// Why a hart's transaction could not do what was asked.
-#[derive(Clone, Copy, Debug, PartialEq, Eq)]
+#[derive(Clone, Copy, Debug, PartialEq, Eq, Error)]
 pub enum TxFault {
     /// A transaction was to begin at the greatest depth.
     TooDeep,
@@ -24,5 +24,3 @@ impl fmt::Display for TxFault {
         })
     }
 }
-
-impl Error for TxFault {}

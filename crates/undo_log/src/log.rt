@@ -6,13 +6,13 @@ ghost use Rattle.undo_log.specs.Log.{records, empty_log, appended, newest_of, po
 ghost use Rattle.undo_log.specs.Undo.{oldest, holds, restored};
 
 use crate::record::{RECORD_BYTES, Record, read_record, read_word};
-use std::error::Error;
 use std::fmt;
 use std::marker::Model;
+use thiserror::Error;
 use words::{Addr, Block, BlockNo, LOG_BYTES, LOG_RECORDS};
 
 /// The log holds its greatest number of records.
-#[derive(Clone, Copy, Debug, PartialEq, Eq)]
+#[derive(Clone, Copy, Debug, PartialEq, Eq, Error)]
 pub struct LogFull;
 
 impl fmt::Display for LogFull {
@@ -22,8 +22,6 @@ impl fmt::Display for LogFull {
         f.write_str("the undo log is full")
     }
 }
-
-impl Error for LogFull {}
 
 /// The records of a transaction, the oldest first. The pointer, where the next record goes, is `RECORD_BYTES * count`. No more than
 /// `used` records were ever held, so that the bytes from `RECORD_BYTES * used` on are all 0.

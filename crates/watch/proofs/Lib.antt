@@ -1,3 +1,4 @@
+mod Requests
 mod Tracing
 mod Capping
 mod Few

@@ -1,16 +1,28 @@
 -- What entries count as.
-use Rattle.std.specs.Prelude.{ℕ, ◌+◌, ◌*◌, ◌==◌, ◌&&◌, Bool, true, false, List, [], ◌∷◌, Option, Some, None, get_or}
+use Rattle.std.specs.Prelude.{ℕ, zero, suc, not, ◌+◌, ◌*◌, ◌==◌, ◌&&◌, ◌++◌, Bool, true, false, List, [], ◌∷◌, Option, Some, None, get_or, if◌then◌else◌, is_some, nat_lt}
 use Rattle.std.specs.List.{flat_map}
+use Rattle.std.specs.Option.{option_and_then, option_map_or}
 use Rattle.words.specs.declared.cause.AbortCause.{AbortCause}
 use Rattle.words.specs.declared.cause.AbortCause.TheVariants as abort
 use Rattle.words.specs.declared.entry.Entry.{Entry}
 use Rattle.words.specs.declared.entry.Entry.TheVariants.{Retire, Abort, Trap, Refuse, Spill}
+use Rattle.words.specs.declared.entry.Step.{Step}
+use Rattle.words.specs.declared.entry.Step.TheVariants.{Core, Evict, Deliver}
+use Rattle.words.specs.Limits.{most_harts}
+use Rattle.network.specs.declared.net.Flight.{Flight}
+use Rattle.protocol.specs.Messages.{Message, Get, shown as shown_message}
+use Rattle.words.specs.declared.message.Kind.{Kind as Want}
+use Rattle.words.specs.declared.message.Kind.TheVariants.{Read, Write}
+use Rattle.protocol.specs.Directory.{Busy}
+use Rattle.protocol.specs.Hart.{Request}
+use Rattle.protocol.specs.Machine.{Machine}
+use Rattle.machine.specs.States.{shown}
 use Rattle.schedule.specs.Moments.{Moment}
 use Rattle.table.specs.declared.instr.Instr.{Instr}
 use Rattle.table.specs.declared.instr.Instr.TheVariants.{TBegin, TCommit}
 use Rattle.table.specs.Table.{decoded}
 use Rattle.watch.specs.declared.kinds.Kind.{Kind}
-use Rattle.watch.specs.declared.kinds.Kind.TheVariants.{Retired, Begun, Committed, Asked, Conflicted, LogFull, Trapped, Refused, WasRefused, Spilled}
+use Rattle.watch.specs.declared.kinds.Kind.TheVariants.{Retired, Begun, Committed, Asked, Conflicted, LogFull, Trapped, Refused, WasRefused, Spilled, LoadMissed, StoreMissed, Upgraded, Held}
 
 -- the number of a kind
 abbrev pub index_of : Kind → ℕ
@@ -24,6 +36,10 @@ index_of Trapped = 6
 index_of Refused = 7
 index_of WasRefused = 8
 index_of Spilled = 9
+index_of LoadMissed = 10
+index_of StoreMissed = 11
+index_of Upgraded = 12
+index_of Held = 13
 
 -- what an abort counts as
 abbrev pub kind_of : AbortCause → Kind
@@ -64,13 +80,65 @@ abbrev pub counts_if : Option Entry → List (ℕ × Kind)
 counts_if None = []
 counts_if (Some e) = counts_as e
 
--- the number of the entries of some moments that count for hart h as this kind
-abbrev pub number_of : ℕ → Kind → List Moment → ℕ
-number_of h k ms = number_in h k (flat_map (λ m. counts_if m.entry) ms)
+-- what a request counts as: a miss where its hart has no line of the block, and else an upgrade. A load needs no more than a line
+abbrev pub kind_asked : Want → Bool → Kind
+kind_asked Read has_line = LoadMissed
+kind_asked Write false = StoreMissed
+kind_asked Write true = Upgraded
 
--- the place of a count, ten a hart
+-- a request for a block with which the directory is busy is held there
+abbrev pub held_by : ℕ → Option Busy → List (ℕ × Kind)
+held_by i None = []
+held_by i (Some busy) = (i, Held) ∷ []
+
+-- what hart i's request counts as, if one is out
+abbrev pub counts_request : Machine → ℕ → Option Request → List (ℕ × Kind)
+counts_request w i None = []
+counts_request w i (Some r) = (i, kind_asked r.kind (is_some ((w.harts i).lines r.block))) ∷ held_by i (w.entries r.block).busy
+
+-- whether hart j has a request out for block b, and another hart than i
+abbrev pub waits_behind : Machine → ℕ → ℕ → ℕ → Bool
+waits_behind w i b j = not (j == i) && option_map_or (λ r. r.block == b) (w.harts j).request false
+
+-- while hart i's request for block b is served, those of the first n harts for that block are held
+unfoldable pub held_behind : Machine → ℕ → ℕ → ℕ → List (ℕ × Kind)
+held_behind w i b zero = []
+held_behind w i b (suc n) = held_behind w i b n ++ (if waits_behind w i b n then (n, Held) ∷ [] else [])
+
+-- a request, as its hart and its block
+abbrev pub asked_by : Message → Option (ℕ × ℕ)
+asked_by (Get i b kind stamp) = Some (i, b)
+asked_by other = None
+
+abbrev pub asks_if : Option Flight → Option (ℕ × ℕ)
+asks_if arrival = option_and_then (λ f. asked_by (shown_message f.message)) arrival
+
+abbrev pub counts_served : Machine → Option (ℕ × ℕ) → List (ℕ × Kind)
+counts_served w None = []
+counts_served w (Some ask) = held_behind w ask.0 ask.1 most_harts
+
+-- what a step that sent a message counts as, if it delivers this request: a core has asked, if its hart's request is out behind the step; the directory serves the
+-- request that arrived, which sends a grant
+abbrev pub counts_step : Machine → Option (ℕ × ℕ) → Step → List (ℕ × Kind)
+counts_step w ask (Core i) = counts_request w i (w.harts i).request
+counts_step w ask (Evict i b) = []
+counts_step w ask (Deliver key) = counts_served w ask
+
+-- what is asked for in a step, where so many messages had been sent before it and behind it. A request that was refused and is asked again counts again
+abbrev pub counts_asked : Machine → ℕ → ℕ → Option (ℕ × ℕ) → Step → List (ℕ × Kind)
+counts_asked w before sent ask step = if nat_lt before sent then counts_step w ask step else []
+
+-- all that a moment counts as, where caches have so many sets
+abbrev pub counts_in : ℕ → Moment → List (ℕ × Kind)
+counts_in sets m = counts_if m.entry ++ counts_asked (shown sets m.after) m.sent m.after.sent (asks_if m.arrival) m.step
+
+-- how often some moments count for hart h as this kind
+abbrev pub number_of : ℕ → ℕ → Kind → List Moment → ℕ
+number_of sets h k ms = number_in h k (flat_map (counts_in sets) ms)
+
+-- the place of a count, fourteen a hart
 abbrev pub place_of : ℕ → Kind → ℕ
-place_of h k = 10 * h + index_of k
+place_of h k = 14 * h + index_of k
 
 -- a count, of those that stand by their places
 abbrev pub count_at : List ℕ → ℕ → Kind → ℕ

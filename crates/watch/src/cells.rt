@@ -10,7 +10,7 @@ use std::marker::Model;
 use words::{HARTS, HartId};
 
 /// How many kinds there are.
-const KINDS: usize = 10;
+const KINDS: usize = 14;
 
 /// The counts of all harts.
 #[derive(Clone, Copy)]
@@ -30,7 +30,7 @@ impl Model for Counts {
 
 fn place(hart: HartId, kind: Kind) -> usize
     ensures value { result ≡ place_of hart kind }
-    ensures bound { result < 80 }
+    ensures bound { result < 112 }
 {
     KINDS * hart.index() + kind.index()
 }

@@ -1,7 +1,7 @@
 ghost use Rattle.std.specs.Prelude.{◌≡◌, ◌<◌};
-ghost use Rattle.watch.specs.Kinds.{index_of, kind_of};
+ghost use Rattle.watch.specs.Kinds.{index_of, kind_asked, kind_of};
 
-use words::AbortCause;
+use words::{AbortCause, Kind as Want};
 
 /// What is counted of a hart.
 #[derive(Clone, Copy, Debug, PartialEq, Eq)]
@@ -26,13 +26,21 @@ pub enum Kind {
     WasRefused,
     /// Spills.
     Spilled,
+    /// Requests to read a block of which the hart had no line.
+    LoadMissed,
+    /// Requests to write a block of which it had none.
+    StoreMissed,
+    /// Requests to write a block of which it had a line.
+    Upgraded,
+    /// Requests that the directory held: for a block with which it was busy when they were sent, or for which it began to serve another's.
+    Held,
 }
 
 impl Kind {
     /// Its number, from 0.
     pub(crate) fn index(self) -> usize
         ensures value { result ≡ index_of self }
-        ensures bound { result < 10 }
+        ensures bound { result < 14 }
     {
         match self {
             Kind::Retired => 0,
@@ -45,6 +53,10 @@ impl Kind {
             Kind::Refused => 7,
             Kind::WasRefused => 8,
             Kind::Spilled => 9,
+            Kind::LoadMissed => 10,
+            Kind::StoreMissed => 11,
+            Kind::Upgraded => 12,
+            Kind::Held => 13,
         }
     }
 
@@ -57,6 +69,16 @@ impl Kind {
             AbortCause::Conflict => Kind::Conflicted,
             AbortCause::LogFull => Kind::LogFull,
             AbortCause::Trapped(..) => Kind::Trapped,
+        }
+    }
+    /// What a request counts as, where its hart has a line of the block or has none.
+    pub(crate) fn of_request(want: Want, has_line: bool) -> Kind
+        ensures { result ≡ kind_asked want has_line }
+    {
+        match (want, has_line) {
+            (Want::Read, _) => Kind::LoadMissed,
+            (Want::Write, false) => Kind::StoreMissed,
+            (Want::Write, true) => Kind::Upgraded,
         }
     }
 }

@@ -2,6 +2,7 @@
 //! machine's steps by kind, its messages by sort, and how much was in flight and in use. As text the counts are a table for people, or lines for scripts.
 #![tactic(auto)]
 
+mod asking;
 mod cells;
 mod counting;
 mod csv_text;

@@ -4,7 +4,7 @@ ghost use Rattle.watch.specs.CountTexts.{blanks, kinds, kind_name};
 use crate::kinds::Kind;
 
 /// The kinds, in the order in which they are shown.
-pub(crate) fn kinds() -> [Kind; 10]
+pub(crate) fn kinds() -> [Kind; 14]
     ensures { result ≡ kinds }
 {
     [
@@ -18,6 +18,10 @@ pub(crate) fn kinds() -> [Kind; 10]
         Kind::Refused,
         Kind::WasRefused,
         Kind::Spilled,
+        Kind::LoadMissed,
+        Kind::StoreMissed,
+        Kind::Upgraded,
+        Kind::Held,
     ]
 }
 
@@ -36,6 +40,10 @@ pub(crate) fn kind_name(kind: Kind) -> &'static str
         Kind::Refused => "refused",
         Kind::WasRefused => "was-refused",
         Kind::Spilled => "spilled",
+        Kind::LoadMissed => "load-misses",
+        Kind::StoreMissed => "store-misses",
+        Kind::Upgraded => "upgrades",
+        Kind::Held => "held",
     }
 }
 

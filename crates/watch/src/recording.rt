@@ -4,20 +4,24 @@ ghost use Rattle.machine.specs.States.{geometry};
 ghost use Rattle.schedule.specs.Courses.{IsUnbegun, course, forgotten};
 ghost use Rattle.watch.specs.Traces.{trace_of, IsTraced, IsCut};
 
-use lines::put_entry;
+use disassembler::Symbols;
 use machine::{Machine, Progress};
 use network::Flight;
+use render::put_entry;
 use schedule::{Choice, Chooser, Halt, Observer, Unseen, run};
 use words::{Entry, Sink, Step};
 
-/// Puts the entries of steps into a sink, as lines.
-#[derive(Clone, Copy, Debug)]
-struct Recorder;
+/// Puts the entries of steps into a sink, as lines with names.
+#[derive(Drop)]
+struct Recorder<'n, 'f> {
+    names: &'n Symbols<'f>,
+}
 
-impl<const SETS: usize, const WAYS: usize, S: Sink> Observer<SETS, WAYS, S> for Recorder {
-    ghost saw = { λ _ before ms after. TookAll (S.state before) (S.state after) (trace_of ms) };
+impl<'n, 'f, const SETS: usize, const WAYS: usize, S: Sink> Observer<SETS, WAYS, S>
+    for Recorder<'n, 'f> {
+    ghost saw = { λ r before ms after. TookAll (S.state before) (S.state after) (trace_of r.names.now ms) };
 
-    ghost missed = { λ _ before ms after. TookPart (S.state before) (S.state after) (trace_of ms) };
+    ghost missed = { λ r before ms after. TookPart (S.state before) (S.state after) (trace_of r.names.now ms) };
 
     fn note(
         &self,
@@ -31,14 +35,14 @@ impl<const SETS: usize, const WAYS: usize, S: Sink> Observer<SETS, WAYS, S> for 
         let Some(entry) = entry else {
             return Ok(());
         };
-        match put_entry(entry, sink) {
+        match put_entry(self.names, entry, sink) {
             Ok(()) => Ok(()),
             Err(_) => Err(Unseen),
         }
     }
 }
 
-/// Makes the choices in order, and behind the last of them the steps that a chooser gives, as [`schedule::run`] does. The line of each step's entry, if it gives one, is put
+/// Makes the choices in order, and behind the last of them the steps that a chooser gives, as [`schedule::run`] does. The line of each step's entry, if it gives one, is put, with names,
 /// before the next step. Progress is told on the way.
 ///
 /// If memory runs out, the machine is left where the steps before led, and their lines were put. If a put fails, the step of its line was made,
@@ -50,6 +54,7 @@ pub fn put_trace<
     S: Sink,
     P: Progress,
 >(
+    names: &Symbols<'_>,
     machine: &mut Machine<SETS, WAYS>,
     choices: &[Choice],
     steps: u32,
@@ -59,8 +64,9 @@ pub fn put_trace<
 ) -> Result<(), Halt>
     requires { IsUnbegun (C.behind chooser.old) }
     ensures { MatchResult result
-        (λ _. IsTraced (geometry SETS WAYS) (course choices.now (C.behind chooser.new)) steps machine.old machine.new (S.state sink.old) (S.state sink.new))
-        (IsCut (geometry SETS WAYS) (course choices.now (forgotten (C.behind chooser.new))) steps machine.old machine.new (S.state sink.old) (S.state sink.new)) }
+        (λ _. IsTraced names.now (geometry SETS WAYS) (course choices.now (C.behind chooser.new)) steps machine.old machine.new (S.state sink.old) (S.state sink.new))
+        (IsCut names.now (geometry SETS WAYS) (course choices.now (forgotten (C.behind chooser.new))) steps machine.old machine.new (S.state sink.old) (S.state sink.new)) }
 {
-    run(machine, choices, steps, chooser, &Recorder, sink, progress)
+    let recorder = Recorder { names };
+    run(machine, choices, steps, chooser, &recorder, sink, progress)
 }

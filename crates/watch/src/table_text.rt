@@ -21,10 +21,10 @@ pub fn put_table<S: Sink>(counts: &Counts, harts: usize, sink: &mut S) -> Result
 }
 
 /// The heads of the columns, and then the kinds.
-fn rows() -> [Option<Kind>; 11]
+fn rows() -> [Option<Kind>; 15]
     ensures { result ≡ rows }
 {
-    let [a, b, c, d, e, f, g, h, i, j] = kinds();
+    let [a, b, c, d, e, f, g, h, i, j, k, l, m, n] = kinds();
     [
         None,
         Some(a),
@@ -37,6 +37,10 @@ fn rows() -> [Option<Kind>; 11]
         Some(h),
         Some(i),
         Some(j),
+        Some(k),
+        Some(l),
+        Some(m),
+        Some(n),
     ]
 }
 

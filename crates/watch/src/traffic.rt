@@ -77,7 +77,7 @@ impl Traffic {
         self.add_all(sent, machine)
     }
 
-    /// The same, where one was sent.
+    /// Counts the message that a step sent, where it sent one.
     #[inline(always)]
     fn add_newest<const SETS: usize, const WAYS: usize>(
         &mut self,
@@ -96,7 +96,7 @@ impl Traffic {
         }
     }
 
-    /// The same, by a look at all messages in flight.
+    /// Counts the messages that a step sent, by a look at all that are in flight.
     #[inline(never)]
     fn add_all<const SETS: usize, const WAYS: usize>(
         &mut self,

@@ -5,9 +5,10 @@ ghost use Rattle.words.specs.Sinks.{SinkState, TookBeginning};
 
 use std::fmt;
 use std::io::Write;
+use thiserror::Error;
 
 /// A put failed.
-#[derive(Clone, Copy, Debug, PartialEq, Eq)]
+#[derive(Clone, Copy, Debug, PartialEq, Eq, Error)]
 pub struct SinkFault;
 
 impl fmt::Display for SinkFault {

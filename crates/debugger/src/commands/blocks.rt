@@ -1,11 +1,12 @@
 //! Lines of caches and entries of the directory.
 ghost use Rattle.debugger.specs.declared.commands.command.Look.TheVariants.{Line, Dir, Dirs};
 ghost use Rattle.texts.specs.Puts.{Puts};
+ghost use Rattle.disassembler.specs.Tables.{no_symbols};
 ghost use Rattle.debugger.specs.Looks.{Shows, kept_line};
 
 use directory::DirEntry;
-use lines::{directory_text, first_byte, put_cached, put_directory};
 use machine::Machine;
+use render::{directory_text, first_byte, put_cached, put_directory};
 use texts::put_all;
 use words::{Addr, BlockNo, HartId, Sink, SinkFault};
 
@@ -16,7 +17,7 @@ pub(crate) fn put_line<const SETS: usize, const WAYS: usize, S: Sink>(
     addr: Addr,
     sink: &mut S,
 ) -> Result<(), SinkFault>
-    ensures { Shows SETS machine.now (Line hart addr) (S.state sink.old) (S.state sink.new) result }
+    ensures { Shows no_symbols SETS machine.now (Line hart addr) (S.state sink.old) (S.state sink.new) result }
 {
     match machine.line(hart, addr.block()) {
         Some(line) => put_cached(line.state, line.marks, sink),
@@ -30,7 +31,7 @@ pub(crate) fn put_entry<const SETS: usize, const WAYS: usize, S: Sink>(
     addr: Addr,
     sink: &mut S,
 ) -> Result<(), SinkFault>
-    ensures { Shows SETS machine.now (Dir addr) (S.state sink.old) (S.state sink.new) result }
+    ensures { Shows no_symbols SETS machine.now (Dir addr) (S.state sink.old) (S.state sink.new) result }
 {
     put_directory(&machine.entry(addr.block()), sink)
 }
@@ -40,7 +41,7 @@ pub(crate) fn put_entries<const SETS: usize, const WAYS: usize, S: Sink>(
     machine: &Machine<SETS, WAYS>,
     sink: &mut S,
 ) -> Result<(), SinkFault>
-    ensures { Shows SETS machine.now Dirs (S.state sink.old) (S.state sink.new) result }
+    ensures { Shows no_symbols SETS machine.now Dirs (S.state sink.old) (S.state sink.new) result }
 {
     for (number, entry) in machine.kept() {
         put_kept(BlockNo::new(*number), entry, sink)?;

@@ -3,12 +3,12 @@ ghost use Rattle.debugger.specs.Faults.{fault_text};
 ghost use Rattle.debugger.specs.declared.commands.fault.DebugFault.TheVariants.{NoMemory, Device};
 
 use std::alloc::{AllocError, AllocFailed};
-use std::error::Error;
 use std::fmt;
+use thiserror::Error;
 use words::SinkFault;
 
 /// Why a command is refused, or ended before its end.
-#[derive(Clone, Copy, Debug, PartialEq, Eq)]
+#[derive(Clone, Copy, Debug, PartialEq, Eq, Error)]
 pub enum DebugFault {
     /// No command is spelled so.
     Unknown,
@@ -50,8 +50,6 @@ impl fmt::Display for DebugFault {
         f.write_str(self.text())
     }
 }
-
-impl Error for DebugFault {}
 
 impl From<AllocError> for DebugFault {
     ghost from_gives = { λ _ fault. fault ≡ NoMemory };

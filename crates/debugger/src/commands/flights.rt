@@ -1,11 +1,12 @@
 //! The messages in flight.
 ghost use Rattle.debugger.specs.declared.commands.command.Look.TheVariants.{Messages};
 ghost use Rattle.texts.specs.Puts.{Puts};
+ghost use Rattle.disassembler.specs.Tables.{no_symbols};
 ghost use Rattle.debugger.specs.Looks.{Shows, flight_line};
 
 use crate::commands::parts::if_so;
-use lines::message_text;
 use machine::Machine;
+use render::message_text;
 use texts::put_all;
 use words::{Sink, SinkFault};
 
@@ -14,7 +15,7 @@ pub(crate) fn put_messages<const SETS: usize, const WAYS: usize, S: Sink>(
     machine: &Machine<SETS, WAYS>,
     sink: &mut S,
 ) -> Result<(), SinkFault>
-    ensures { Shows SETS machine.now Messages (S.state sink.old) (S.state sink.new) result }
+    ensures { Shows no_symbols SETS machine.now Messages (S.state sink.old) (S.state sink.new) result }
 {
     let mut last = None;
     while let Some(key) = machine.next_message(last) {

@@ -3,27 +3,30 @@ ghost use Rattle.std.specs.Prelude.{◌<◌, Some};
 ghost use Rattle.debugger.specs.declared.commands.command.Look.TheVariants.{Regs, Tx, Harts};
 ghost use Rattle.texts.specs.Puts.{Puts};
 ghost use Rattle.machine.specs.States.{setting_of, shown};
+ghost use Rattle.disassembler.specs.Tables.{no_symbols};
 ghost use Rattle.debugger.specs.Looks.{Shows, line_of_hart};
 ghost use Rattle.debugger.specs.LookTexts as spec;
 
-use crate::commands::parts::{depth_part, if_so, waits_part};
+use crate::commands::parts::{depth_part, if_so, pc_part, waits_part};
+use disassembler::Symbols;
 use itoa::Buffer;
-use lines::{hart_text, put_registers, stamp_text, status_text};
 use machine::{Machine, TxInfo};
-use texts::{hexadecimal, put_all};
+use render::{hart_text, put_registers, stamp_text, status_text};
+use texts::put_all;
 use words::{HartId, Sink, SinkFault};
 
 /// Puts a hart's registers, pc and status.
 pub(crate) fn put_regs<const SETS: usize, const WAYS: usize, S: Sink>(
     machine: &Machine<SETS, WAYS>,
+    names: &Symbols<'_>,
     hart: HartId,
     sink: &mut S,
 ) -> Result<(), SinkFault>
     requires { hart < (setting_of machine.now).count }
-    ensures { Shows SETS machine.now (Regs hart) (S.state sink.old) (S.state sink.new) result }
+    ensures { Shows names.now SETS machine.now (Regs hart) (S.state sink.old) (S.state sink.new) result }
 {
     let (regs, pc, status) = machine.regs(hart).unwrap();
-    put_registers(&regs, pc, status, sink)
+    put_registers(names, &regs, pc, status, sink)
 }
 
 /// Puts a hart's transaction.
@@ -32,7 +35,7 @@ pub(crate) fn put_tx<const SETS: usize, const WAYS: usize, S: Sink>(
     hart: HartId,
     sink: &mut S,
 ) -> Result<(), SinkFault>
-    ensures { Shows SETS machine.now (Tx hart) (S.state sink.old) (S.state sink.new) result }
+    ensures { Shows no_symbols SETS machine.now (Tx hart) (S.state sink.old) (S.state sink.new) result }
 {
     match machine.tx(hart) {
         Some(info) => put_info(&info, sink),
@@ -65,12 +68,13 @@ fn put_info<S: Sink>(info: &TxInfo, sink: &mut S) -> Result<(), SinkFault>
 /// Puts a line for each hart, in order.
 pub(crate) fn put_harts<const SETS: usize, const WAYS: usize, S: Sink>(
     machine: &Machine<SETS, WAYS>,
+    names: &Symbols<'_>,
     sink: &mut S,
 ) -> Result<(), SinkFault>
-    ensures { Shows SETS machine.now Harts (S.state sink.old) (S.state sink.new) result }
+    ensures { Shows names.now SETS machine.now Harts (S.state sink.old) (S.state sink.new) result }
 {
     for number in 0..machine.harts() {
-        put_hart(machine, HartId::new(number as u8), sink)?;
+        put_hart(machine, names, HartId::new(number as u8), sink)?;
     }
     Ok(())
 }
@@ -78,19 +82,19 @@ pub(crate) fn put_harts<const SETS: usize, const WAYS: usize, S: Sink>(
 /// Puts how far a hart has come.
 fn put_hart<const SETS: usize, const WAYS: usize, S: Sink>(
     machine: &Machine<SETS, WAYS>,
+    names: &Symbols<'_>,
     hart: HartId,
     sink: &mut S,
 ) -> Result<(), SinkFault>
     requires { hart < (setting_of machine.now).count }
-    ensures { Puts (S.state sink.old) (S.state sink.new) (line_of_hart (shown SETS machine.now) hart) result }
+    ensures { Puts (S.state sink.old) (S.state sink.new) (line_of_hart names.now (shown SETS machine.now) hart) result }
 {
     let (_, pc, status) = machine.regs(hart).unwrap();
     put_all(
         sink,
         &[
             hart_text(hart).as_str().as_bytes(),
-            b" pc=0x",
-            &hexadecimal(pc.value()),
+            pc_part(names, pc).as_bytes(),
             b" ",
             status_text(status).as_str().as_bytes(),
             depth_part(machine.tx(hart)).as_str().as_bytes(),

@@ -12,6 +12,7 @@ use crate::commands::harts::{put_harts, put_regs, put_tx};
 use crate::commands::manual::help;
 use crate::commands::memory::{put_found, put_instruction};
 use crate::commands::places::{hart_of, logged_at, text_at, word_at};
+use disassembler::Symbols;
 use machine::Machine;
 use texts::put_all;
 use words::{Sink, SinkFault};
@@ -33,19 +34,20 @@ fn put_help<S: Sink>(sink: &mut S) -> Result<(), SinkFault>
     put_all(sink, &[help().as_bytes()])
 }
 
-/// Puts what a look at a machine shows. A hart that isn't there, and an address where nothing can be shown, are refused before anything is put.
+/// Puts what a look at a machine shows, with names. A hart that isn't there, and an address where nothing can be shown, are refused before anything is put.
 /// Then the only fault is that a put failed.
 pub fn look<const SETS: usize, const WAYS: usize, S: Sink>(
     machine: &Machine<SETS, WAYS>,
+    names: &Symbols<'_>,
     look: Look,
     sink: &mut S,
 ) -> Result<(), DebugFault>
     ensures refused { IfSome (refusal machine.now look) (λ fault. (result ≡ Err fault) × (sink.new ≡ sink.old)) }
     ensures shown { refusal machine.now look ≡ None → (put : Result Unit Failed)
-        × Shows SETS machine.now look (S.state sink.old) (S.state sink.new) put × (result ≡ told put) }
+        × Shows names.now SETS machine.now look (S.state sink.old) (S.state sink.new) put × (result ≡ told put) }
 {
     let put = match look {
-        Look::Regs(hart) => put_regs(machine, hart_of(machine, hart)?, sink),
+        Look::Regs(hart) => put_regs(machine, names, hart_of(machine, hart)?, sink),
         Look::Word(addr) => {
             let addr = word_at(machine, addr)?;
             put_found(addr, machine.peek(addr), sink)
@@ -70,9 +72,9 @@ pub fn look<const SETS: usize, const WAYS: usize, S: Sink>(
             let addr = logged_at(machine, addr)?;
             put_found(addr, machine.log_word(addr), sink)
         }
-        Look::Dis(addr) => put_instruction(machine, text_at(machine, addr)?, sink),
+        Look::Dis(addr) => put_instruction(machine, names, text_at(machine, addr)?, sink),
         Look::Messages => put_messages(machine, sink),
-        Look::Harts => put_harts(machine, sink),
+        Look::Harts => put_harts(machine, names, sink),
         Look::Help => put_help(sink),
     };
     told(put)

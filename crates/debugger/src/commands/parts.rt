@@ -3,17 +3,29 @@ ghost use Rattle.std.specs.Prelude.{◌≡◌};
 ghost use Rattle.debugger.specs.LookTexts as spec;
 
 use arrayvec::ArrayString;
+use disassembler::Symbols;
 use itoa::Buffer;
-use lines::first_byte;
 use machine::TxInfo;
-use texts::ascii;
-use words::BlockNo;
+use render::first_byte;
+use texts::{Line, ascii};
+use words::{Addr, BlockNo};
 
 /// A word that stands only where something holds.
 pub(crate) fn if_so(holds: bool, word: &str) -> &str
     ensures { result.now ≡ spec.if_so holds word.now }
 {
     if holds { word } else { "" }
+}
+
+/// A hart's pc, with its name.
+pub(crate) fn pc_part(names: &Symbols<'_>, pc: Addr) -> Line<96>
+    ensures { result ≡ spec.pc_part names.now pc }
+{
+    let mut part = Line::new();
+    part.put(" pc=0x");
+    part.put_word(pc.value());
+    part.put_bytes(names.label(pc).as_bytes());
+    part
 }
 
 /// How deep a transaction is nested, if one runs.

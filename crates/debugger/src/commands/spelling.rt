@@ -3,6 +3,7 @@ ghost use Rattle.schedule.specs.Spelling.{words_of};
 ghost use Rattle.debugger.specs.Spelling as spec;
 
 use crate::commands::command::{Command, Look};
+use disassembler::Symbols;
 use schedule::{one_word, sort_of, split, three_words, two_words};
 use texts::number;
 
@@ -21,6 +22,17 @@ fn one(words: Option<&str>) -> Option<u32>
     ensures { result ≡ spec.one (spec.words_in words.entry) }
 {
     number(one_word(words?)?)
+}
+
+/// The address of text that the words are: a number, or the name of a symbol.
+fn place(names: &Symbols<'_>, words: Option<&str>) -> Option<u32>
+    ensures { result ≡ spec.place names.now (spec.words_in words.entry) }
+{
+    let word = one_word(words?)?;
+    match number(word) {
+        Some(address) => Some(address),
+        None => names.address_of(word),
+    }
 }
 
 /// The two numbers that the words are.
@@ -69,8 +81,8 @@ fn line(words: Option<&str>) -> Option<Look>
     Some(Look::Line(hart, addr))
 }
 
-fn look(verb: &str, words: Option<&str>) -> Option<Look>
-    ensures { result ≡ spec.look_of verb.now (spec.words_in words.entry) }
+fn look(names: &Symbols<'_>, verb: &str, words: Option<&str>) -> Option<Look>
+    ensures { result ≡ spec.look_of names.now verb.now (spec.words_in words.entry) }
 {
     match verb {
         "regs" => one(words).map(Look::Regs),
@@ -82,7 +94,7 @@ fn look(verb: &str, words: Option<&str>) -> Option<Look>
         "dirs" => alone(words, Look::Dirs),
         "tx" => one(words).map(Look::Tx),
         "log" => one(words).map(Look::Log),
-        "dis" => one(words).map(Look::Dis),
+        "dis" => place(names, words).map(Look::Dis),
         "messages" => alone(words, Look::Messages),
         "harts" => alone(words, Look::Harts),
         "help" => alone(words, Look::Help),
@@ -90,18 +102,18 @@ fn look(verb: &str, words: Option<&str>) -> Option<Look>
     }
 }
 
-fn with_words(verb: &str, words: Option<&str>) -> Option<Command>
-    ensures { result ≡ spec.spelled (verb.now ∷ spec.words_in words.entry) }
+fn with_words(names: &Symbols<'_>, verb: &str, words: Option<&str>) -> Option<Command>
+    ensures { result ≡ spec.spelled names.now (verb.now ∷ spec.words_in words.entry) }
 {
     match verb {
         "step" => alone(words, Command::Step),
         "run" => run(words),
-        "break" => one(words).map(Command::Break),
+        "break" => place(names, words).map(Command::Break),
         "core" => one(words).map(Command::Core),
         "evict" => evict(words),
         "deliver" => deliver(words),
         "quit" => alone(words, Command::Quit),
-        _ => look(verb, words).map(Command::Look),
+        _ => look(names, verb, words).map(Command::Look),
     }
 }
 
@@ -112,15 +124,15 @@ fn is_comment(line: &str) -> bool
 }
 
 /// The command that a line's words spell, parted by one space. Numbers are decimal, or hexadecimal behind `0x`; harts and addresses are any
-/// numbers. `None` where the first word is no command, where there are too few words or too many, and where a word is no number or no sort.
-pub fn command_of(line: &str) -> Option<Command>
-    ensures { result ≡ spec.command_of line.now }
+/// numbers, and an address of text can be a symbol's name. `None` where the first word is no command, where there are too few words or too many, and where a word is no number or no sort.
+pub fn command_of(names: &Symbols<'_>, line: &str) -> Option<Command>
+    ensures { result ≡ spec.command_of names.now line.now }
 {
     if is_comment(line) {
         return Some(Command::Comment);
     }
     match split(line) {
-        Some((verb, words)) => with_words(verb, Some(words)),
-        None => with_words(line, None),
+        Some((verb, words)) => with_words(names, verb, Some(words)),
+        None => with_words(names, line, None),
     }
 }

@@ -10,9 +10,9 @@ use Rattle.words.specs.declared.stamp.Stamp.{Stamp}
 use Rattle.protocol.specs.Messages.{Done, Forward, Ack}
 use Rattle.words.specs.LineStates.{is_owned}
 use Rattle.protocol.specs.Lines.{Line}
-use Rattle.one_block.proofs.Model.State.{Fwd}
-use Rattle.one_block.proofs.Model.Core.{enough}
-use Rattle.one_block.proofs.Invariant.Laws.{GaveUp as LocalGaveUp}
+use Rattle.isolation.proofs.OneBlock.Model.State.{Fwd}
+use Rattle.isolation.proofs.OneBlock.Model.Core.{enough}
+use Rattle.isolation.proofs.OneBlock.Invariant.Laws.{GaveUp as LocalGaveUp}
 use Rattle.isolation.specs.Facts.{IsInFlight, IsBusyWith, IsGranted, GaveUp, Acknowledged, UndosGoThrough}
 use Rattle.isolation.specs.Belongs.{IsAborting}
 use Rattle.isolation.proofs.Machine.World.{World, as_done, as_forward, as_ack, copy_of, wait_of, busy_of, project}

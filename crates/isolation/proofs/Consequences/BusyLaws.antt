@@ -5,7 +5,7 @@ use Rattle.std.proofs.lemmas.Option.{none-some, same_Some}
 use Rattle.words.specs.declared.message.LineState.{LineState}
 use Rattle.protocol.specs.Messages.{Get}
 use Rattle.protocol.specs.Hart.{Request}
-use Rattle.one_block.proofs.Facts.BusyFacts.{IsServed, busy_served}
+use Rattle.isolation.proofs.OneBlock.Facts.BusyFacts.{IsServed, busy_served}
 use Rattle.isolation.specs.Facts.{IsBusyWith, WaitsFor, IsAsking, IsEnding}
 use Rattle.isolation.proofs.Machine.World.{World, as_get, busy_of, project}
 use Rattle.isolation.proofs.Machine.Invariant.{Inv}

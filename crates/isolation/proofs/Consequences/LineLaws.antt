@@ -6,7 +6,7 @@ use Rattle.protocol.specs.Lines.{Line}
 use Rattle.protocol.specs.Hart.{Hart, overflow_of}
 use Rattle.protocol.specs.Directory.{Owned, Sticky}
 use Rattle.protocol.specs.Values.{owner_of, in_place}
-use Rattle.one_block.proofs.Invariant.Laws.{Named, ReadMarked, WriteMarked, owner_now, IsGranted as LocalIsGranted}
+use Rattle.isolation.proofs.OneBlock.Invariant.Laws.{Named, ReadMarked, WriteMarked, owner_now, IsGranted as LocalIsGranted}
 use Rattle.isolation.specs.Facts.{IsGranted, IsNamed, LinesAgree, ReadIsMarked, WriteIsMarked, IsCovered}
 use Rattle.isolation.proofs.Machine.World.{World, copy_of, project}
 use Rattle.isolation.proofs.Machine.Invariant.{Inv}

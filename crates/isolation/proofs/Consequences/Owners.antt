@@ -9,7 +9,7 @@ use Rattle.words.specs.LineStates.{is_owned}
 use Rattle.protocol.specs.Directory.{Owner, Busy}
 use Rattle.protocol.specs.Network.{LiesBelow}
 use Rattle.protocol.specs.Values.{first_below, is_done_by, has_done, entry_owner, owner_with, owner_of}
-use Rattle.one_block.proofs.Invariant.Laws.{owner_now, owner_by, owner_with as owner_in_block}
+use Rattle.isolation.proofs.OneBlock.Invariant.Laws.{owner_now, owner_by, owner_with as owner_in_block}
 use Rattle.isolation.proofs.Machine.Slots.{slot, slot_of}
 use Rattle.isolation.proofs.Machine.World.{World, as_done, busy_of, project}
 use Rattle.isolation.proofs.Machine.Invariant.{Inv}

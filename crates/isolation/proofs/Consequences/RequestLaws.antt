@@ -7,7 +7,7 @@ use Rattle.words.specs.declared.message.LineState.{LineState}
 use Rattle.words.specs.declared.stamp.Stamp.{Stamp}
 use Rattle.protocol.specs.Messages.{Block, Granted, Message, Get, Put, Done, Grant, Forward, PutAck, Ack, Nack, block_of}
 use Rattle.protocol.specs.Hart.{Request}
-use Rattle.one_block.proofs.Model.State.{Wait, Fwd}
+use Rattle.isolation.proofs.OneBlock.Model.State.{Wait, Fwd}
 use Rattle.isolation.specs.Facts.{whose, sort_of, IsAlike, IsInFlight, IsBusyWith, WaitsFor, OneRequest, IsAwaited}
 use Rattle.isolation.proofs.Machine.Slots.{slot, slot_of}
 use Rattle.isolation.proofs.Machine.World.{World, as_get, as_put, as_done, as_grant, as_forward, as_put_ack, as_ack, as_nack, wait_of, wait_at, busy_of, project}

@@ -11,7 +11,7 @@ use Rattle.protocol.specs.Messages.{Block, Granted, Grant, Ack, Nack}
 use Rattle.protocol.specs.Lines.{refuses}
 use Rattle.protocol.specs.Hart.{Transaction, overflow_of, flat_hart, flat_tx}
 use Rattle.protocol.specs.Machine.{Machine}
-use Rattle.one_block.proofs.Facts.UnreachableFacts.{HasGrant as LocalHasGrant, NeverMet, never_met}
+use Rattle.isolation.proofs.OneBlock.Facts.UnreachableFacts.{HasGrant as LocalHasGrant, NeverMet, never_met}
 use Rattle.isolation.specs.Facts.{IsInFlight, HasGrant, DoesNext, RulesOutUnreachable}
 use Rattle.isolation.proofs.Machine.World.{World, as_grant, as_ack, as_nack, wait_of, tx_at, project}
 use Rattle.isolation.proofs.Machine.Invariant.{Inv}

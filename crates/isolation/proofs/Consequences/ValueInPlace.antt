@@ -7,10 +7,10 @@ use Rattle.protocol.specs.Lines.{Line, owned_content}
 use Rattle.protocol.specs.Hart.{Request, PutOut, put_content}
 use Rattle.protocol.specs.Network.{LiesBelow}
 use Rattle.protocol.specs.Values.{first_below, ack_content, done_content, kept_content, owner_of, in_place}
-use Rattle.one_block.proofs.Model.State.{value_of}
-use Rattle.one_block.proofs.Model.Messages.{put_data}
-use Rattle.one_block.proofs.Invariant.Parts.{Fits}
-use Rattle.one_block.proofs.Invariant.Laws.{owner_now, owned_line, sent_data, kept_data, done_data, owned_by, put_by}
+use Rattle.isolation.proofs.OneBlock.Model.State.{value_of}
+use Rattle.isolation.proofs.OneBlock.Model.Messages.{put_data}
+use Rattle.isolation.proofs.OneBlock.Invariant.Parts.{Fits}
+use Rattle.isolation.proofs.OneBlock.Invariant.Laws.{owner_now, owned_line, sent_data, kept_data, done_data, owned_by, put_by}
 use Rattle.isolation.proofs.Machine.Slots.{slot, slot_of}
 use Rattle.isolation.proofs.Machine.World.{World, as_ack, as_done, copy_of, wait_at, put_out_at, project}
 use Rattle.isolation.proofs.Machine.Invariant.{Inv}

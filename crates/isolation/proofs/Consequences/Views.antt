@@ -7,9 +7,9 @@ use Rattle.protocol.specs.Lines.{byte_in, words_at}
 use Rattle.protocol.specs.Hart.{LogRecord, log_of}
 use Rattle.protocol.specs.Network.{LiesBelow}
 use Rattle.protocol.specs.Values.{restored, all_restored, committed, is_logged, raw, peek, view}
-use Rattle.one_block.proofs.Model.State.{Aborting, Own}
-use Rattle.one_block.proofs.Invariant.Laws.{restored as image_of, rolled_back, view_by, seen as seen_by}
-use Rattle.one_block.proofs.Invariant.Each.{is_at, Logs}
+use Rattle.isolation.proofs.OneBlock.Model.State.{Aborting, Own}
+use Rattle.isolation.proofs.OneBlock.Invariant.Laws.{restored as image_of, rolled_back, view_by, seen as seen_by}
+use Rattle.isolation.proofs.OneBlock.Invariant.Each.{is_at, Logs}
 use Rattle.isolation.proofs.Machine.World.{World, tx_at, images_of, project}
 use Rattle.isolation.proofs.Machine.Invariant.{Inv}
 use Rattle.isolation.proofs.Machine.Readings.{known_at}

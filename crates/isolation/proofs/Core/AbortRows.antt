@@ -13,12 +13,12 @@ use Rattle.flat.specs.Reasons.{Past}
 use Rattle.protocol.specs.Lines.{line_cleared}
 use Rattle.protocol.specs.Hart.{Hart, Transaction, log_of}
 use Rattle.protocol.specs.Core.{end_abort_row, start_abort_row}
-use Rattle.one_block.proofs.Model.State.{at_hart, Own, Aborting}
-use Rattle.one_block.proofs.Model.Core.{clear_marks}
-use Rattle.one_block.proofs.Model.Step.{Ends_abort, Starts_abort}
-use Rattle.one_block.proofs.Invariant.Each.{Good}
-use Rattle.one_block.proofs.Facts.Runs.{goes_on}
-use Rattle.one_block.proofs.Uses.SameStates.{good_as}
+use Rattle.isolation.proofs.OneBlock.Model.State.{at_hart, Own, Aborting}
+use Rattle.isolation.proofs.OneBlock.Model.Core.{clear_marks}
+use Rattle.isolation.proofs.OneBlock.Model.Step.{Ends_abort, Starts_abort}
+use Rattle.isolation.proofs.OneBlock.Invariant.Each.{Good}
+use Rattle.isolation.proofs.OneBlock.Facts.Runs.{goes_on}
+use Rattle.isolation.proofs.OneBlock.Uses.SameStates.{good_as}
 use Rattle.isolation.proofs.Machine.World.{World, copy_of, wait_at, tx_by_cause, tx_at, is_conflict, conflict_at, images_of, access_at, local_at, project, own_at}
 use Rattle.isolation.proofs.Machine.Invariant.{SameTx, Inv, AbortHasReason, TxIs, HartIs}
 use Rattle.isolation.proofs.Machine.Readings.{known_at}

@@ -13,9 +13,9 @@ use Rattle.flat.specs.Effects.{put_by, put_of}
 use Rattle.protocol.specs.Messages.{Block}
 use Rattle.protocol.specs.Lines.{Line, is_enough, byte_in, words_at, words_put, state_put, marks_used, line_used}
 use Rattle.protocol.specs.Core.{kind_of}
-use Rattle.one_block.proofs.Model.State.{Has}
-use Rattle.one_block.proofs.Model.Core.{enough}
-use Rattle.one_block.proofs.Uses.AccessSteps.{Suffices}
+use Rattle.isolation.proofs.OneBlock.Model.State.{Has}
+use Rattle.isolation.proofs.OneBlock.Model.Core.{enough}
+use Rattle.isolation.proofs.OneBlock.Uses.AccessSteps.{Suffices}
 use Rattle.isolation.proofs.Machine.World.{World, copy_of}
 use Rattle.isolation.proofs.Machine.Invariant.{Inv}
 use Rattle.isolation.proofs.Machine.Readings.{known_at}

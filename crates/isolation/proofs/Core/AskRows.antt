@@ -10,12 +10,12 @@ use Rattle.protocol.specs.Messages.{Get}
 use Rattle.protocol.specs.Lines.{is_enough}
 use Rattle.protocol.specs.Hart.{Hart, PutOut, has_put_of, stamp_of, log_of}
 use Rattle.protocol.specs.Requests.{ask_row}
-use Rattle.one_block.proofs.Model.State.{at_hart}
-use Rattle.one_block.proofs.Model.Core.{fresh, ask, Due}
-use Rattle.one_block.proofs.Model.Step.{Asks}
-use Rattle.one_block.proofs.Invariant.Each.{Good}
-use Rattle.one_block.proofs.Facts.Runs.{goes_on}
-use Rattle.one_block.proofs.Uses.SameStates.{good_as, good_still}
+use Rattle.isolation.proofs.OneBlock.Model.State.{at_hart}
+use Rattle.isolation.proofs.OneBlock.Model.Core.{fresh, ask, Due}
+use Rattle.isolation.proofs.OneBlock.Model.Step.{Asks}
+use Rattle.isolation.proofs.OneBlock.Invariant.Each.{Good}
+use Rattle.isolation.proofs.OneBlock.Facts.Runs.{goes_on}
+use Rattle.isolation.proofs.OneBlock.Uses.SameStates.{good_as, good_still}
 use Rattle.isolation.proofs.Machine.Slots.{slot, Mail, slot_test}
 use Rattle.isolation.proofs.Machine.World.{World, as_get, wait_at, put_out_at, tx_at, images_of, access_at, local_at, project}
 use Rattle.isolation.proofs.Machine.Invariant.{HartIs, Inv, hart_beside}

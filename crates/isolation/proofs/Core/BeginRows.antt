@@ -10,12 +10,12 @@ use Rattle.flat.specs.Effects.{hart_after, begun, tx_by, mem_by}
 use Rattle.flat.specs.Reasons.{Past, past_begun}
 use Rattle.protocol.specs.Hart.{Hart, Transaction}
 use Rattle.protocol.specs.Core.{begin_row, tx_begun, no_memory, word_of}
-use Rattle.one_block.proofs.Model.State.{Aborting, at_hart}
-use Rattle.one_block.proofs.Model.Core.{retire}
-use Rattle.one_block.proofs.Model.Step.{Begins}
-use Rattle.one_block.proofs.Invariant.Each.{Good}
-use Rattle.one_block.proofs.Facts.Runs.{goes_on}
-use Rattle.one_block.proofs.Uses.SameStates.{good_as}
+use Rattle.isolation.proofs.OneBlock.Model.State.{Aborting, at_hart}
+use Rattle.isolation.proofs.OneBlock.Model.Core.{retire}
+use Rattle.isolation.proofs.OneBlock.Model.Step.{Begins}
+use Rattle.isolation.proofs.OneBlock.Invariant.Each.{Good}
+use Rattle.isolation.proofs.OneBlock.Facts.Runs.{goes_on}
+use Rattle.isolation.proofs.OneBlock.Uses.SameStates.{good_as}
 use Rattle.isolation.proofs.Machine.World.{World, wait_at, tx_at, own_at, access_at, local_at, project}
 use Rattle.isolation.proofs.Machine.Invariant.{InPast, Inv}
 use Rattle.isolation.proofs.Machine.Transactions.{Inside, inside, in_past, outside, past_outside, due_none, not_aborting}

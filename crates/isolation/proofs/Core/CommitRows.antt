@@ -9,11 +9,11 @@ use Rattle.flat.specs.Reasons.{Past}
 use Rattle.protocol.specs.Lines.{words_at, line_cleared}
 use Rattle.protocol.specs.Hart.{Hart, Transaction}
 use Rattle.protocol.specs.Core.{retire_row, no_memory, word_of}
-use Rattle.one_block.proofs.Model.State.{Aborting, at_hart, lay}
-use Rattle.one_block.proofs.Model.Core.{commit}
-use Rattle.one_block.proofs.Model.Step.{with_flat, Commits}
-use Rattle.one_block.proofs.Invariant.Each.{Good}
-use Rattle.one_block.proofs.Facts.Runs.{goes_on}
+use Rattle.isolation.proofs.OneBlock.Model.State.{Aborting, at_hart, lay}
+use Rattle.isolation.proofs.OneBlock.Model.Core.{commit}
+use Rattle.isolation.proofs.OneBlock.Model.Step.{with_flat, Commits}
+use Rattle.isolation.proofs.OneBlock.Invariant.Each.{Good}
+use Rattle.isolation.proofs.OneBlock.Facts.Runs.{goes_on}
 use Rattle.isolation.proofs.Machine.World.{World, wait_at, tx_by_cause, tx_at, writes_at, access_at, local_at, project}
 use Rattle.isolation.proofs.Machine.Invariant.{InPast, Inv}
 use Rattle.isolation.proofs.Machine.Tables.{cleared_same}

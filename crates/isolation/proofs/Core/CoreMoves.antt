@@ -24,8 +24,8 @@ use Rattle.words.specs.LineStates.{is_owned}
 use Rattle.protocol.specs.Lines.{Line, is_enough, byte_in, line_used, line_cleared}
 use Rattle.protocol.specs.Hart.{Hart, Transaction, LogRecord, flat_hart, is_running, log_of, with_line}
 use Rattle.protocol.specs.Core.{Move, Rests, Makes, Lacks, abort_move, undo_move, trap_row, start_abort_row, access_move, access_row, effect_move, instruction_move, transaction_move, tx_move, core_move, kind_of, is_log_due, word_of, begin_row, commit_row, tabort_row, retire_row, no_memory, undo_row, tx_used}
-use Rattle.one_block.proofs.Model.State.{Tx, Outside, Aborting, Running as Inside_tx}
-use Rattle.one_block.proofs.Model.Core.{Due}
+use Rattle.isolation.proofs.OneBlock.Model.State.{Tx, Outside, Aborting, Running as Inside_tx}
+use Rattle.isolation.proofs.OneBlock.Model.Core.{Due}
 use Rattle.isolation.proofs.Machine.World.{World, tx_by_cause, tx_at, images_of, access_at}
 use Rattle.isolation.proofs.Machine.Invariant.{SameTx, Inv}
 use Rattle.isolation.proofs.Machine.Tables.{record_here}

@@ -13,12 +13,12 @@ use Rattle.words.specs.Marks.{is_marked}
 use Rattle.protocol.specs.Lines.{Line}
 use Rattle.protocol.specs.Hart.{Hart, PutOut, HartResult}
 use Rattle.protocol.specs.Evict.{without_line, spill_of, drop_row, write_back_row, write_back_row_if_none_out, evict_by, evict_line, evict_row}
-use Rattle.one_block.proofs.Model.State.{Absent, Has, Outside, at_hart}
-use Rattle.one_block.proofs.Model.Core.{spill, write_back}
-use Rattle.one_block.proofs.Model.Step.{Drops, Evicts, Spills_elsewhere}
-use Rattle.one_block.proofs.Invariant.Each.{Good}
-use Rattle.one_block.proofs.Facts.Runs.{goes_on}
-use Rattle.one_block.proofs.Uses.SameStates.{good_as, good_still}
+use Rattle.isolation.proofs.OneBlock.Model.State.{Absent, Has, Outside, at_hart}
+use Rattle.isolation.proofs.OneBlock.Model.Core.{spill, write_back}
+use Rattle.isolation.proofs.OneBlock.Model.Step.{Drops, Evicts, Spills_elsewhere}
+use Rattle.isolation.proofs.OneBlock.Invariant.Each.{Good}
+use Rattle.isolation.proofs.OneBlock.Facts.Runs.{goes_on}
+use Rattle.isolation.proofs.OneBlock.Uses.SameStates.{good_as, good_still}
 use Rattle.isolation.proofs.Machine.Slots.{slot, Mail, slot_test}
 use Rattle.isolation.proofs.Machine.World.{World, as_put, copy_of, put_out_at, tx_at, own_at, local_at, project}
 use Rattle.isolation.proofs.Machine.Invariant.{HartIs, HasBytes, Inv}

@@ -10,7 +10,7 @@ use Rattle.protocol.specs.Hart.{Hart, HartResult, has_put_of, log_of}
 use Rattle.protocol.specs.Requests.{ask_row}
 use Rattle.protocol.specs.Evict.{evict_row}
 use Rattle.protocol.specs.Core.{no_longer_fresh, ask_with_room, victim_for, fetch_row}
-use Rattle.one_block.proofs.Model.Core.{Due}
+use Rattle.isolation.proofs.OneBlock.Model.Core.{Due}
 use Rattle.isolation.proofs.Machine.World.{World, tx_at, images_of, access_at}
 use Rattle.isolation.proofs.Machine.Invariant.{Inv, hart_beside}
 use Rattle.isolation.proofs.Core.HartResults.{Made}

@@ -6,8 +6,8 @@ use Rattle.flat.specs.State.{FlatHart}
 use Rattle.flat.specs.Reasons.{Past}
 use Rattle.protocol.specs.Messages.{Message}
 use Rattle.protocol.specs.Hart.{Hart, HartResult}
-use Rattle.one_block.proofs.Model.State.{Copy, Own, Local, at_hart}
-use Rattle.one_block.proofs.Invariant.Each.{Good}
+use Rattle.isolation.proofs.OneBlock.Model.State.{Copy, Own, Local, at_hart}
+use Rattle.isolation.proofs.OneBlock.Invariant.Each.{Good}
 use Rattle.isolation.proofs.Machine.World.{World, local_at, project}
 use Rattle.isolation.proofs.Machine.Invariant.{HartIs, HasBytes, Inv}
 use Rattle.isolation.proofs.HartMessages.OneHartMoves.{SentFits, put_same, posted, Moves}

@@ -15,12 +15,12 @@ use Rattle.flat.proofs.Maps.{put_there, put_elsewhere}
 use Rattle.protocol.specs.Lines.{Line, byte_in, words_at, words_put, state_put, line_used}
 use Rattle.protocol.specs.Hart.{Hart, with_line}
 use Rattle.protocol.specs.Core.{retire_row, word_of}
-use Rattle.one_block.proofs.Model.State.{Has, Outside, Local, at_hart}
-use Rattle.one_block.proofs.Model.Core.{retire}
-use Rattle.one_block.proofs.Model.Step.{with_flat, with_own, Retires}
-use Rattle.one_block.proofs.Invariant.Each.{Good}
-use Rattle.one_block.proofs.Facts.Runs.{goes_on}
-use Rattle.one_block.proofs.Uses.AccessSteps.{Suffices, used, flat_used, used_good}
+use Rattle.isolation.proofs.OneBlock.Model.State.{Has, Outside, Local, at_hart}
+use Rattle.isolation.proofs.OneBlock.Model.Core.{retire}
+use Rattle.isolation.proofs.OneBlock.Model.Step.{with_flat, with_own, Retires}
+use Rattle.isolation.proofs.OneBlock.Invariant.Each.{Good}
+use Rattle.isolation.proofs.OneBlock.Facts.Runs.{goes_on}
+use Rattle.isolation.proofs.OneBlock.Uses.AccessSteps.{Suffices, used, flat_used, used_good}
 use Rattle.isolation.proofs.Machine.World.{World, copy_of, tx_at, access_at, local_at, project}
 use Rattle.isolation.proofs.Machine.Transactions.{outside, due_free, past_refused}
 use Rattle.isolation.proofs.Words.Bytes.{write_same, retire_same, words_stored, words_elsewhere}

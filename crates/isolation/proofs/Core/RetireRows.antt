@@ -19,11 +19,11 @@ use Rattle.protocol.specs.Lines.{words_at}
 use Rattle.protocol.specs.Hart.{Hart, flat_hart}
 use Rattle.protocol.specs.Core.{retire_row, word_of}
 use Rattle.protocol.specs.Machine.{stamps_after}
-use Rattle.one_block.proofs.Model.State.{Aborting, at_hart}
-use Rattle.one_block.proofs.Model.Core.{retire}
-use Rattle.one_block.proofs.Model.Step.{with_flat, with_own, Acts, Retires as Retires_here}
-use Rattle.one_block.proofs.Invariant.Each.{Good}
-use Rattle.one_block.proofs.Facts.Runs.{goes_on}
+use Rattle.isolation.proofs.OneBlock.Model.State.{Aborting, at_hart}
+use Rattle.isolation.proofs.OneBlock.Model.Core.{retire}
+use Rattle.isolation.proofs.OneBlock.Model.Step.{with_flat, with_own, Acts, Retires as Retires_here}
+use Rattle.isolation.proofs.OneBlock.Invariant.Each.{Good}
+use Rattle.isolation.proofs.OneBlock.Facts.Runs.{goes_on}
 use Rattle.isolation.proofs.Machine.World.{World, wait_at, tx_at, local_at, project, access_at}
 use Rattle.isolation.proofs.Machine.Invariant.{TxIs, AbortIsDue, PastIs, Inv}
 use Rattle.isolation.proofs.Words.BytesKept.{bytes_kept}

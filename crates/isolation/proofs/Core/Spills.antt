@@ -11,8 +11,8 @@ use Rattle.flat.specs.Steps.{CarriesSome}
 use Rattle.flat.specs.Reasons.{Past, History}
 use Rattle.protocol.specs.Hart.{Hart, Transaction}
 use Rattle.protocol.specs.Evict.{tx_spilled}
-use Rattle.one_block.proofs.Model.State.{Outside, Own}
-use Rattle.one_block.proofs.Model.Core.{spill}
+use Rattle.isolation.proofs.OneBlock.Model.State.{Outside, Own}
+use Rattle.isolation.proofs.OneBlock.Model.Core.{spill}
 use Rattle.isolation.proofs.Machine.World.{World, tx_at, own_at}
 use Rattle.isolation.proofs.Machine.Invariant.{TxIs, AbortIsDue, PastIs, told_some, HasReason}
 use Rattle.isolation.proofs.HartMessages.OneHartMoves.{put_same}

@@ -9,7 +9,7 @@ use Rattle.flat.specs.Causes.{next_of}
 use Rattle.flat.specs.Steps.{CarriesSome}
 use Rattle.protocol.specs.Hart.{Hart}
 use Rattle.protocol.specs.Core.{trap_row}
-use Rattle.one_block.proofs.Uses.SameStates.{good_still}
+use Rattle.isolation.proofs.OneBlock.Uses.SameStates.{good_still}
 use Rattle.isolation.proofs.Machine.World.{World}
 use Rattle.isolation.proofs.Machine.Invariant.{Inv}
 use Rattle.isolation.proofs.Machine.Transactions.{outside, due_free}

@@ -19,12 +19,12 @@ use Rattle.words.specs.declared.marks.Marks.{Marks}
 use Rattle.protocol.specs.Lines.{Line, byte_in, words_at, words_put, state_put, line_used}
 use Rattle.protocol.specs.Hart.{Hart, Transaction, LogRecord, with_line}
 use Rattle.protocol.specs.Core.{retire_row, word_of, is_log_due, tx_used}
-use Rattle.one_block.proofs.Model.State.{Copy, Has, Aborting, Own, Local, at_hart, lay}
-use Rattle.one_block.proofs.Model.Core.{retire}
-use Rattle.one_block.proofs.Model.Step.{with_flat, with_own, Retires}
-use Rattle.one_block.proofs.Invariant.Each.{Good}
-use Rattle.one_block.proofs.Facts.Runs.{goes_on}
-use Rattle.one_block.proofs.Uses.AccessSteps.{Suffices, used, flat_used, used_good}
+use Rattle.isolation.proofs.OneBlock.Model.State.{Copy, Has, Aborting, Own, Local, at_hart, lay}
+use Rattle.isolation.proofs.OneBlock.Model.Core.{retire}
+use Rattle.isolation.proofs.OneBlock.Model.Step.{with_flat, with_own, Retires}
+use Rattle.isolation.proofs.OneBlock.Invariant.Each.{Good}
+use Rattle.isolation.proofs.OneBlock.Facts.Runs.{goes_on}
+use Rattle.isolation.proofs.OneBlock.Uses.AccessSteps.{Suffices, used, flat_used, used_good}
 use Rattle.isolation.proofs.Machine.World.{World, copy_of, tx_at, writes_at, own_at, access_at, local_at, project}
 use Rattle.isolation.proofs.Machine.Invariant.{InPast}
 use Rattle.isolation.proofs.Machine.Transactions.{Inside, inside, in_past, due_none, not_aborting}

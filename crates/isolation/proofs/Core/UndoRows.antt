@@ -8,12 +8,12 @@ use Rattle.words.specs.LineStates.{is_owned}
 use Rattle.protocol.specs.Lines.{Line, line_undone}
 use Rattle.protocol.specs.Hart.{Hart, Transaction, LogRecord}
 use Rattle.protocol.specs.Core.{undo_row}
-use Rattle.one_block.proofs.Model.State.{Own, at_hart}
-use Rattle.one_block.proofs.Model.Core.{put_back}
-use Rattle.one_block.proofs.Model.Step.{Undoes}
-use Rattle.one_block.proofs.Invariant.Each.{Good}
-use Rattle.one_block.proofs.Facts.Runs.{goes_on}
-use Rattle.one_block.proofs.Uses.SameStates.{good_as, good_still}
+use Rattle.isolation.proofs.OneBlock.Model.State.{Own, at_hart}
+use Rattle.isolation.proofs.OneBlock.Model.Core.{put_back}
+use Rattle.isolation.proofs.OneBlock.Model.Step.{Undoes}
+use Rattle.isolation.proofs.OneBlock.Invariant.Each.{Good}
+use Rattle.isolation.proofs.OneBlock.Facts.Runs.{goes_on}
+use Rattle.isolation.proofs.OneBlock.Uses.SameStates.{good_as, good_still}
 use Rattle.isolation.proofs.Machine.World.{World, copy_of, wait_at, tx_by_cause, tx_at, images_of, own_at, local_at, project}
 use Rattle.isolation.proofs.Machine.Invariant.{TxIs, AbortIsDue, HartIs, Inv}
 use Rattle.isolation.proofs.Machine.Tables.{owned_enough, record_here, record_off}

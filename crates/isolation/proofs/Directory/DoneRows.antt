@@ -8,11 +8,11 @@ use Rattle.words.specs.declared.message.LineState.{LineState}
 use Rattle.protocol.specs.Messages.{Block, Done}
 use Rattle.protocol.specs.Directory.{Owner, Busy, owner_done, sharer_done, memory_done, done_row, done_refused_row, done_of, unchanged}
 use Rattle.protocol.specs.Machine.{Machine, served_change, ComesAbout}
-use Rattle.one_block.proofs.Model.Directory.{take_done, owner_after, sharer_after, memory_after, on_done, on_done_refused}
-use Rattle.one_block.proofs.Model.Step.{Done_comes, Done_refused_comes}
-use Rattle.one_block.proofs.Invariant.Each.{Good}
-use Rattle.one_block.proofs.Facts.Runs.{goes_on}
-use Rattle.one_block.proofs.Uses.SameStates.{good_like}
+use Rattle.isolation.proofs.OneBlock.Model.Directory.{take_done, owner_after, sharer_after, memory_after, on_done, on_done_refused}
+use Rattle.isolation.proofs.OneBlock.Model.Step.{Done_comes, Done_refused_comes}
+use Rattle.isolation.proofs.OneBlock.Invariant.Each.{Good}
+use Rattle.isolation.proofs.OneBlock.Facts.Runs.{goes_on}
+use Rattle.isolation.proofs.OneBlock.Uses.SameStates.{good_like}
 use Rattle.isolation.proofs.Machine.Slots.{slot, Mail, slot_test}
 use Rattle.isolation.proofs.Machine.World.{World, as_done, busy_of, project}
 use Rattle.isolation.proofs.Machine.Invariant.{Inv, Next}

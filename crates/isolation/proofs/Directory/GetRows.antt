@@ -10,12 +10,12 @@ use Rattle.protocol.specs.Messages.{Granted, Message, Get, Grant, Forward}
 use Rattle.protocol.specs.Directory.{DirEntry, Busy, Served, given_now, expected_now, forwards, get_row, unless_busy}
 use Rattle.protocol.specs.Directory as machine
 use Rattle.protocol.specs.Machine.{Machine, served_change, ComesAbout}
-use Rattle.one_block.proofs.Model.State.{Local}
-use Rattle.one_block.proofs.Model.Directory.{expected, take_get, tell, give_now, granted_now, on_get}
-use Rattle.one_block.proofs.Model.Step.{Get_comes}
-use Rattle.one_block.proofs.Invariant.Each.{Good}
-use Rattle.one_block.proofs.Facts.Runs.{goes_on}
-use Rattle.one_block.proofs.Uses.SameStates.{good_like}
+use Rattle.isolation.proofs.OneBlock.Model.State.{Local}
+use Rattle.isolation.proofs.OneBlock.Model.Directory.{expected, take_get, tell, give_now, granted_now, on_get}
+use Rattle.isolation.proofs.OneBlock.Model.Step.{Get_comes}
+use Rattle.isolation.proofs.OneBlock.Invariant.Each.{Good}
+use Rattle.isolation.proofs.OneBlock.Facts.Runs.{goes_on}
+use Rattle.isolation.proofs.OneBlock.Uses.SameStates.{good_like}
 use Rattle.isolation.proofs.Machine.Slots.{Slot, slot, at_slot, Mail, slot_test}
 use Rattle.isolation.proofs.Machine.Sends.{Fit, with_all}
 use Rattle.isolation.proofs.Machine.World.{World, as_get, as_put, as_done, as_grant, as_forward, as_put_ack, as_ack, as_nack, busy_of, project}

@@ -6,8 +6,8 @@ use Rattle.words.specs.declared.message.Kind.{Kind}
 use Rattle.protocol.specs.Messages.{Granted}
 use Rattle.protocol.specs.Directory.{Owner, Nobody, Owned, Sticky, DirEntry, is_alone, must_answer, given_now, expected_now}
 use Rattle.protocol.specs.Directory as machine
-use Rattle.one_block.proofs.Model.State.{One}
-use Rattle.one_block.proofs.Model.Directory.{standing, must_tell, no_other, give_for, expected, give_now, granted_now}
+use Rattle.isolation.proofs.OneBlock.Model.State.{One}
+use Rattle.isolation.proofs.OneBlock.Model.Directory.{standing, must_tell, no_other, give_for, expected, give_now, granted_now}
 
 -- whether no other hart shares the block
 pub alone_is : (n r : ℕ) (sharers : ℕ → Bool) → is_alone n r sharers ≡ no_other n r sharers

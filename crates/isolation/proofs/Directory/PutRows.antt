@@ -6,12 +6,12 @@ use Rattle.words.specs.declared.entry.Entry.{Entry}
 use Rattle.protocol.specs.Messages.{Block, Put, PutAck}
 use Rattle.protocol.specs.Directory.{Owner, Owned, Busy, Served, is_owned_by, owner_put, put_row, unless_busy}
 use Rattle.protocol.specs.Machine.{Machine, served_change, ComesAbout}
-use Rattle.one_block.proofs.Model.State.{at_hart}
-use Rattle.one_block.proofs.Model.Directory.{take_put, put_owner, on_put}
-use Rattle.one_block.proofs.Model.Step.{Put_comes, Stale_put_comes}
-use Rattle.one_block.proofs.Invariant.Each.{Good}
-use Rattle.one_block.proofs.Facts.Runs.{goes_on}
-use Rattle.one_block.proofs.Uses.SameStates.{good_like}
+use Rattle.isolation.proofs.OneBlock.Model.State.{at_hart}
+use Rattle.isolation.proofs.OneBlock.Model.Directory.{take_put, put_owner, on_put}
+use Rattle.isolation.proofs.OneBlock.Model.Step.{Put_comes, Stale_put_comes}
+use Rattle.isolation.proofs.OneBlock.Invariant.Each.{Good}
+use Rattle.isolation.proofs.OneBlock.Facts.Runs.{goes_on}
+use Rattle.isolation.proofs.OneBlock.Uses.SameStates.{good_like}
 use Rattle.isolation.proofs.Machine.Slots.{slot, Mail, slot_test}
 use Rattle.isolation.proofs.Machine.World.{World, as_put, as_put_ack, busy_of, project}
 use Rattle.isolation.proofs.Machine.Invariant.{Inv, Next, still_next}

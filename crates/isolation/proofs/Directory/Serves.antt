@@ -9,8 +9,8 @@ use Rattle.protocol.specs.Lines.{words_at}
 use Rattle.protocol.specs.Directory.{DirEntry, Served}
 use Rattle.protocol.specs.Network.{taken}
 use Rattle.protocol.specs.Machine.{Machine, served_change, ComesAbout}
-use Rattle.one_block.proofs.Model.State.{One}
-use Rattle.one_block.proofs.Invariant.Each.{Good}
+use Rattle.isolation.proofs.OneBlock.Model.State.{One}
+use Rattle.isolation.proofs.OneBlock.Invariant.Each.{Good}
 use Rattle.isolation.proofs.Machine.Slots.{Slot, slot, slot_of, at_slot, at_else, Mail}
 use Rattle.isolation.proofs.Machine.Sends.{Fit, with_all, take_carried, send_carried}
 use Rattle.isolation.proofs.Machine.World.{World, busy_of, local_at, project}

@@ -7,11 +7,11 @@ use Rattle.protocol.specs.Hart.{Hart, Request}
 use Rattle.protocol.specs.Requests.{ack_row, with_ack}
 use Rattle.protocol.specs.Network.{taken}
 use Rattle.protocol.specs.Machine.{Machine, hart_change, ComesAbout}
-use Rattle.one_block.proofs.Model.State.{Wait, Local}
-use Rattle.one_block.proofs.Model.Messages.{keep_ack, take_ack}
-use Rattle.one_block.proofs.Model.Step.{Ack_comes}
-use Rattle.one_block.proofs.Invariant.Laws.{Known}
-use Rattle.one_block.proofs.Facts.Runs.{goes_on}
+use Rattle.isolation.proofs.OneBlock.Model.State.{Wait, Local}
+use Rattle.isolation.proofs.OneBlock.Model.Messages.{keep_ack, take_ack}
+use Rattle.isolation.proofs.OneBlock.Model.Step.{Ack_comes}
+use Rattle.isolation.proofs.OneBlock.Invariant.Laws.{Known}
+use Rattle.isolation.proofs.OneBlock.Facts.Runs.{goes_on}
 use Rattle.isolation.proofs.Machine.Slots.{slot, at_slot, at_here}
 use Rattle.isolation.proofs.Machine.World.{World, as_ack, wait_of, local_at, project}
 use Rattle.isolation.proofs.Machine.Invariant.{Inv, Next}

@@ -12,11 +12,11 @@ use Rattle.protocol.specs.Hart.{Hart, overflow_of}
 use Rattle.protocol.specs.HartMessages.{acknowledge_row, content_held}
 use Rattle.protocol.specs.Network.{taken}
 use Rattle.protocol.specs.Machine.{Machine, hart_change, ComesAbout}
-use Rattle.one_block.proofs.Model.State.{Fwd}
-use Rattle.one_block.proofs.Model.Messages.{acknowledge}
-use Rattle.one_block.proofs.Model.Step.{Fwd_acknowledged}
-use Rattle.one_block.proofs.Facts.Runs.{goes_on}
-use Rattle.one_block.proofs.Uses.SameStates.{good_still}
+use Rattle.isolation.proofs.OneBlock.Model.State.{Fwd}
+use Rattle.isolation.proofs.OneBlock.Model.Messages.{acknowledge}
+use Rattle.isolation.proofs.OneBlock.Model.Step.{Fwd_acknowledged}
+use Rattle.isolation.proofs.OneBlock.Facts.Runs.{goes_on}
+use Rattle.isolation.proofs.OneBlock.Uses.SameStates.{good_still}
 use Rattle.isolation.proofs.Machine.Slots.{slot, at_slot, Mail, at_here}
 use Rattle.isolation.proofs.Machine.World.{World, as_forward, as_ack, copy_of, local_at, project}
 use Rattle.isolation.proofs.Machine.Invariant.{Inv, Next, hart_beside}

@@ -9,13 +9,13 @@ use Rattle.protocol.specs.Messages.{Granted, Message}
 use Rattle.protocol.specs.Hart.{Hart, Transaction, Request, HartResult, quiet}
 use Rattle.protocol.specs.Requests.{line_granted, granted_row, refused_row, granted_so_far, answer_row}
 use Rattle.protocol.specs.Network.{Network}
-use Rattle.one_block.proofs.Model.State.{Running, Aborting, Local, One, at_hart}
-use Rattle.one_block.proofs.Model.Core.{conflict_elsewhere}
-use Rattle.one_block.proofs.Model.Messages.{fail_own}
-use Rattle.one_block.proofs.Model.Step.{Conflicts_elsewhere}
-use Rattle.one_block.proofs.Invariant.Each.{Good}
-use Rattle.one_block.proofs.Facts.Runs.{goes_on}
-use Rattle.one_block.proofs.Uses.SameStates.{good_still}
+use Rattle.isolation.proofs.OneBlock.Model.State.{Running, Aborting, Local, One, at_hart}
+use Rattle.isolation.proofs.OneBlock.Model.Core.{conflict_elsewhere}
+use Rattle.isolation.proofs.OneBlock.Model.Messages.{fail_own}
+use Rattle.isolation.proofs.OneBlock.Model.Step.{Conflicts_elsewhere}
+use Rattle.isolation.proofs.OneBlock.Invariant.Each.{Good}
+use Rattle.isolation.proofs.OneBlock.Facts.Runs.{goes_on}
+use Rattle.isolation.proofs.OneBlock.Uses.SameStates.{good_still}
 use Rattle.isolation.proofs.Machine.Slots.{slot, slot_of, at_slot, Mail}
 use Rattle.isolation.proofs.Machine.World.{World, copy_of, wait_at, tx_at, cycle_of, own_at, local_at, project}
 use Rattle.isolation.proofs.Machine.Invariant.{HartIs, Inv, hart_beside}

@@ -6,9 +6,9 @@ use Rattle.protocol.specs.Hart.{Hart, Request, HartResult}
 use Rattle.protocol.specs.Requests.{granted_so_far, answer_row}
 use Rattle.protocol.specs.Network.{Network, taken}
 use Rattle.protocol.specs.Machine.{Machine, hart_change, ComesAbout}
-use Rattle.one_block.proofs.Model.State.{Wait, Local, at_hart}
-use Rattle.one_block.proofs.Model.Messages.{with_grant, finish}
-use Rattle.one_block.proofs.Invariant.Each.{Good}
+use Rattle.isolation.proofs.OneBlock.Model.State.{Wait, Local, at_hart}
+use Rattle.isolation.proofs.OneBlock.Model.Messages.{with_grant, finish}
+use Rattle.isolation.proofs.OneBlock.Invariant.Each.{Good}
 use Rattle.isolation.proofs.Machine.Slots.{slot, slot_of, at_slot, Mail, at_else}
 use Rattle.isolation.proofs.Machine.World.{World, wait_of, local_at, project}
 use Rattle.isolation.proofs.Machine.Invariant.{Inv, Next}

@@ -9,9 +9,9 @@ use Rattle.protocol.specs.Messages.{Message}
 use Rattle.protocol.specs.Hart.{Hart, HartResult}
 use Rattle.protocol.specs.Network.{Network, taken}
 use Rattle.protocol.specs.Machine.{Machine, hart_change, ComesAbout}
-use Rattle.one_block.proofs.Model.State.{Local}
-use Rattle.one_block.proofs.Invariant.Each.{Good}
-use Rattle.one_block.proofs.Steps.FromOneHart.{same_harts}
+use Rattle.isolation.proofs.OneBlock.Model.State.{Local}
+use Rattle.isolation.proofs.OneBlock.Invariant.Each.{Good}
+use Rattle.isolation.proofs.OneBlock.Steps.FromOneHart.{same_harts}
 use Rattle.isolation.proofs.Machine.Slots.{slot_of, at_slot, Mail}
 use Rattle.isolation.proofs.Machine.Sends.{take_carried, send_carried}
 use Rattle.isolation.proofs.Machine.World.{World, local_at, project}

@@ -10,10 +10,10 @@ use Rattle.protocol.specs.Messages.{Message}
 use Rattle.protocol.specs.Hart.{HartResult}
 use Rattle.protocol.specs.Network.{Network, taken}
 use Rattle.protocol.specs.Machine.{Machine, hart_change, ComesAbout}
-use Rattle.one_block.proofs.Model.State.{Local, One, at_hart}
-use Rattle.one_block.proofs.Model.State as one
-use Rattle.one_block.proofs.Invariant.Each.{Good}
-use Rattle.one_block.proofs.Uses.SameStates.{by_one, by_two}
+use Rattle.isolation.proofs.OneBlock.Model.State.{Local, One, at_hart}
+use Rattle.isolation.proofs.OneBlock.Model.State as one
+use Rattle.isolation.proofs.OneBlock.Invariant.Each.{Good}
+use Rattle.isolation.proofs.OneBlock.Uses.SameStates.{by_one, by_two}
 use Rattle.isolation.proofs.Machine.Slots.{Slot, slot, slot_of, at_slot, Mail, at_else}
 use Rattle.isolation.proofs.Machine.Sends.{with_all}
 use Rattle.isolation.proofs.Machine.World.{World, local_at, project}

@@ -7,12 +7,12 @@ use Rattle.protocol.specs.Hart.{Hart, Request, HartResult}
 use Rattle.protocol.specs.Requests.{granted_so_far, grant_row, with_grant as keeps_grant}
 use Rattle.protocol.specs.Network.{Network, taken}
 use Rattle.protocol.specs.Machine.{Machine, hart_change, ComesAbout}
-use Rattle.one_block.proofs.Model.State.{Wait, Local}
-use Rattle.one_block.proofs.Model.Messages.{keep_grant, on_grant, with_grant, finish}
-use Rattle.one_block.proofs.Model.Step.{Grant_comes}
-use Rattle.one_block.proofs.Invariant.Laws.{Known}
-use Rattle.one_block.proofs.Invariant.Each.{Good}
-use Rattle.one_block.proofs.Facts.Runs.{goes_on}
+use Rattle.isolation.proofs.OneBlock.Model.State.{Wait, Local}
+use Rattle.isolation.proofs.OneBlock.Model.Messages.{keep_grant, on_grant, with_grant, finish}
+use Rattle.isolation.proofs.OneBlock.Model.Step.{Grant_comes}
+use Rattle.isolation.proofs.OneBlock.Invariant.Laws.{Known}
+use Rattle.isolation.proofs.OneBlock.Invariant.Each.{Good}
+use Rattle.isolation.proofs.OneBlock.Facts.Runs.{goes_on}
 use Rattle.isolation.proofs.Machine.Slots.{slot, at_slot, Mail, at_here}
 use Rattle.isolation.proofs.Machine.World.{World, as_grant, wait_of, local_at, project}
 use Rattle.isolation.proofs.Machine.Invariant.{Inv, Next}

@@ -9,11 +9,11 @@ use Rattle.protocol.specs.Hart.{Hart, Request, stamp_of}
 use Rattle.protocol.specs.Requests.{nack_row, with_nack}
 use Rattle.protocol.specs.Network.{taken}
 use Rattle.protocol.specs.Machine.{Machine, hart_change, ComesAbout}
-use Rattle.one_block.proofs.Model.State.{sooner, Wait, Local}
-use Rattle.one_block.proofs.Model.Messages.{keep_nack, take_nack}
-use Rattle.one_block.proofs.Model.Step.{Nack_comes}
-use Rattle.one_block.proofs.Invariant.Laws.{Known, Denied}
-use Rattle.one_block.proofs.Facts.Runs.{goes_on}
+use Rattle.isolation.proofs.OneBlock.Model.State.{sooner, Wait, Local}
+use Rattle.isolation.proofs.OneBlock.Model.Messages.{keep_nack, take_nack}
+use Rattle.isolation.proofs.OneBlock.Model.Step.{Nack_comes}
+use Rattle.isolation.proofs.OneBlock.Invariant.Laws.{Known, Denied}
+use Rattle.isolation.proofs.OneBlock.Facts.Runs.{goes_on}
 use Rattle.isolation.proofs.Machine.Slots.{slot, at_slot, at_here}
 use Rattle.isolation.proofs.Machine.World.{World, as_nack, wait_of, local_at, project}
 use Rattle.isolation.proofs.Machine.Invariant.{Inv, Next}

@@ -12,9 +12,9 @@ use Rattle.protocol.specs.Lines.{words_at}
 use Rattle.protocol.specs.Hart.{Hart, HartResult}
 use Rattle.protocol.specs.Network.{Network, Sends}
 use Rattle.protocol.specs.Machine.{stamps_after}
-use Rattle.one_block.proofs.Model.State.{at_hart}
-use Rattle.one_block.proofs.Model.Step.{with_flat}
-use Rattle.one_block.proofs.Invariant.Each.{Good}
+use Rattle.isolation.proofs.OneBlock.Model.State.{at_hart}
+use Rattle.isolation.proofs.OneBlock.Model.Step.{with_flat}
+use Rattle.isolation.proofs.OneBlock.Invariant.Each.{Good}
 use Rattle.isolation.proofs.Machine.Slots.{Slot, slot, slot_of, same, same_is, at_slot, at_else, Mail}
 use Rattle.isolation.proofs.Machine.Sends.{Fit, with_all, Carried, send_carried}
 use Rattle.isolation.proofs.Machine.World.{World, as_get, as_put, as_done, as_grant, as_forward, as_put_ack, as_ack, as_nack, local_at, project}

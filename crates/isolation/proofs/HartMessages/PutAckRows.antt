@@ -9,10 +9,10 @@ use Rattle.protocol.specs.Hart.{Hart, PutOut, HartResult, quiet, has_put_of}
 use Rattle.protocol.specs.HartMessages.{put_ack_row}
 use Rattle.protocol.specs.Network.{taken}
 use Rattle.protocol.specs.Machine.{Machine, hart_change, ComesAbout}
-use Rattle.one_block.proofs.Model.Messages.{put_over}
-use Rattle.one_block.proofs.Model.Step.{Put_ack_comes}
-use Rattle.one_block.proofs.Facts.Runs.{goes_on}
-use Rattle.one_block.proofs.Uses.SameStates.{good_still}
+use Rattle.isolation.proofs.OneBlock.Model.Messages.{put_over}
+use Rattle.isolation.proofs.OneBlock.Model.Step.{Put_ack_comes}
+use Rattle.isolation.proofs.OneBlock.Facts.Runs.{goes_on}
+use Rattle.isolation.proofs.OneBlock.Uses.SameStates.{good_still}
 use Rattle.isolation.proofs.Machine.Slots.{slot, at_slot, Mail, at_here}
 use Rattle.isolation.proofs.Machine.World.{World, as_put_ack, put_out_at, local_at, project}
 use Rattle.isolation.proofs.Machine.Invariant.{Inv, Next, hart_beside}

@@ -19,7 +19,7 @@ use Rattle.flat.specs.State.{Flat, has_read, has_written}
 use Rattle.flat.specs.Reasons.{Past, History, is_older, told, StandsAgainst, WantsKept}
 use Rattle.protocol.specs.Hart.{Transaction, stamp_of}
 use Rattle.protocol.specs.Core.{kind_of}
-use Rattle.one_block.proofs.Model.State.{Outside}
+use Rattle.isolation.proofs.OneBlock.Model.State.{Outside}
 use Rattle.isolation.proofs.Machine.World.{tx_at, act_at, access_at}
 use Rattle.isolation.proofs.Machine.Invariant.{PastIs}
 

@@ -17,15 +17,15 @@ use Rattle.protocol.specs.Hart.{Hart, HartResult, overflow_of, stamp_of}
 use Rattle.protocol.specs.HartMessages.{refuse_row}
 use Rattle.protocol.specs.Network.{Network, taken}
 use Rattle.protocol.specs.Machine.{Machine, hart_change, ComesAbout}
-use Rattle.one_block.proofs.Model.State.{Outside, Own, Fwd, Local, One, at_hart}
-use Rattle.one_block.proofs.Model.State as one
-use Rattle.one_block.proofs.Model.Core.{refuse_elsewhere, refused_elsewhere}
-use Rattle.one_block.proofs.Model.Messages.{refuse, note, refuses as one_refuses}
-use Rattle.one_block.proofs.Model.Step.{Fwd_refused, Refuses_elsewhere, Refused_elsewhere}
-use Rattle.one_block.proofs.Invariant.Laws.{Known, Asked}
-use Rattle.one_block.proofs.Invariant.Each.{Good}
-use Rattle.one_block.proofs.Facts.Runs.{goes_on}
-use Rattle.one_block.proofs.Uses.SameStates.{good_still, by_two}
+use Rattle.isolation.proofs.OneBlock.Model.State.{Outside, Own, Fwd, Local, One, at_hart}
+use Rattle.isolation.proofs.OneBlock.Model.State as one
+use Rattle.isolation.proofs.OneBlock.Model.Core.{refuse_elsewhere, refused_elsewhere}
+use Rattle.isolation.proofs.OneBlock.Model.Messages.{refuse, note, refuses as one_refuses}
+use Rattle.isolation.proofs.OneBlock.Model.Step.{Fwd_refused, Refuses_elsewhere, Refused_elsewhere}
+use Rattle.isolation.proofs.OneBlock.Invariant.Laws.{Known, Asked}
+use Rattle.isolation.proofs.OneBlock.Invariant.Each.{Good}
+use Rattle.isolation.proofs.OneBlock.Facts.Runs.{goes_on}
+use Rattle.isolation.proofs.OneBlock.Uses.SameStates.{good_still, by_two}
 use Rattle.isolation.proofs.Machine.Slots.{slot, Mail}
 use Rattle.isolation.proofs.Machine.World.{World, as_forward, copy_of, wait_at, tx_at, own_at, local_at, project}
 use Rattle.isolation.proofs.Machine.Invariant.{HartIs, Inv, Next}

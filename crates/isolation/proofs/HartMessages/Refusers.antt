@@ -10,8 +10,8 @@ use Rattle.flat.specs.Reasons.{Past}
 use Rattle.protocol.specs.Messages.{Forward, Nack}
 use Rattle.protocol.specs.Hart.{Hart, Transaction, stamp_of, overflow_of, log_of}
 use Rattle.protocol.specs.HartMessages.{tx_refusing, refuse_row}
-use Rattle.one_block.proofs.Model.State.{sooner, Own}
-use Rattle.one_block.proofs.Model.Messages.{refuse}
+use Rattle.isolation.proofs.OneBlock.Model.State.{sooner, Own}
+use Rattle.isolation.proofs.OneBlock.Model.Messages.{refuse}
 use Rattle.isolation.proofs.Machine.Slots.{slot, at_slot, Mail, at_here}
 use Rattle.isolation.proofs.Machine.World.{as_forward, as_nack, tx_at, conflict_at, cycle_of, images_of, own_at, local_at}
 use Rattle.isolation.proofs.Machine.Invariant.{TxIs, AbortIsDue, PastIs, HartIs}

@@ -10,8 +10,8 @@ use Rattle.flat.proofs.Maps.{put_there}
 use Rattle.protocol.specs.Messages.{Granted, Done}
 use Rattle.protocol.specs.Hart.{Hart, Transaction, Request, HartResult, quiet, overflow_of, stamp_of, log_of}
 use Rattle.protocol.specs.Requests.{have_answered, content_back, gives_way, line_granted, granted_row, refused_row, end_row, granted_so_far}
-use Rattle.one_block.proofs.Model.State.{Wait, Aborting, Local}
-use Rattle.one_block.proofs.Model.Messages.{fail_own, end_refused, end_granted, end_request, ends_if, with_grant, finish, filled}
+use Rattle.isolation.proofs.OneBlock.Model.State.{Wait, Aborting, Local}
+use Rattle.isolation.proofs.OneBlock.Model.Messages.{fail_own, end_refused, end_granted, end_request, ends_if, with_grant, finish, filled}
 use Rattle.isolation.proofs.Machine.Slots.{slot, Mail, at_here}
 use Rattle.isolation.proofs.Machine.World.{as_done, copy_of, wait_of, tx_at, conflict_at, cycle_of, images_of, own_at, local_at}
 use Rattle.isolation.proofs.Machine.Invariant.{TxIs, AbortIsDue, PastIs, HartIs}

@@ -14,7 +14,7 @@ use Rattle.protocol.specs.Messages.{Message}
 use Rattle.protocol.specs.Hart.{Hart, Transaction, Request, PutOut}
 use Rattle.protocol.specs.Machine.{Machine, no_change, ComesAbout}
 use Rattle.protocol.specs.Lines.{Line}
-use Rattle.one_block.proofs.Invariant.Each.{Good}
+use Rattle.isolation.proofs.OneBlock.Invariant.Each.{Good}
 use Rattle.isolation.proofs.Machine.Slots.{Slot, Mail}
 use Rattle.isolation.proofs.Machine.Sends.{Carried}
 use Rattle.isolation.proofs.Machine.World.{World, project}

@@ -10,9 +10,9 @@ use Rattle.protocol.specs.Messages.{Block, Message, Done}
 use Rattle.protocol.specs.Lines.{Line}
 use Rattle.protocol.specs.Hart.{Hart, Transaction, Request, PutOut}
 use Rattle.protocol.specs.Directory.{Busy}
-use Rattle.one_block.proofs.Model.State.{Absent, Wait, Aborting}
-use Rattle.one_block.proofs.Invariant.Laws.{Known}
-use Rattle.one_block.proofs.Facts.Runs.{known}
+use Rattle.isolation.proofs.OneBlock.Model.State.{Absent, Wait, Aborting}
+use Rattle.isolation.proofs.OneBlock.Invariant.Laws.{Known}
+use Rattle.isolation.proofs.OneBlock.Facts.Runs.{known}
 use Rattle.isolation.specs.Belongs.{IsAborting}
 use Rattle.isolation.specs.Facts.{IsInFlight}
 use Rattle.isolation.proofs.Machine.Slots.{slot, slot_of}

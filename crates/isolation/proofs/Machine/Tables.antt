@@ -13,9 +13,9 @@ use Rattle.words.specs.LineStates.{is_owned}
 use Rattle.protocol.specs.Lines.{Line, is_enough, line_given, line_filled, line_cleared, owned_content, refuses as line_refuses}
 use Rattle.protocol.specs.Hart.{PutOut, put_content, LogRecord}
 use Rattle.protocol.specs.Requests.{have_answered, content_back}
-use Rattle.one_block.proofs.Model.State.{sooner, value_of}
-use Rattle.one_block.proofs.Model.Core.{enough, clear_marks}
-use Rattle.one_block.proofs.Model.Messages.{refuses, carried, after_fwd, first_of_two, filled, sent_back, complete}
+use Rattle.isolation.proofs.OneBlock.Model.State.{sooner, value_of}
+use Rattle.isolation.proofs.OneBlock.Model.Core.{enough, clear_marks}
+use Rattle.isolation.proofs.OneBlock.Model.Messages.{refuses, carried, after_fwd, first_of_two, filled, sent_back, complete}
 use Rattle.isolation.proofs.Machine.World.{copy_of, put_out_at, images_of}
 
 -- whether a hart refuses a forward

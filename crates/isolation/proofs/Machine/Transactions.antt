@@ -9,7 +9,7 @@ use Rattle.flat.specs.Causes.{next_of}
 use Rattle.flat.specs.Steps.{MayAbort}
 use Rattle.flat.specs.Reasons.{Past}
 use Rattle.protocol.specs.Hart.{Hart, Transaction}
-use Rattle.one_block.proofs.Model.State.{Aborting}
+use Rattle.isolation.proofs.OneBlock.Model.State.{Aborting}
 use Rattle.isolation.proofs.Machine.World.{tx_by_cause, tx_at, own_at}
 use Rattle.isolation.proofs.Machine.Invariant.{SameTx, TxIs, CauseIsDue, AbortIsDue, InPast, PastIs, HartIs}
 

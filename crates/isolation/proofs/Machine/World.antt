@@ -19,7 +19,7 @@ use Rattle.protocol.specs.Hart.{Hart, Transaction, Request, PutOut, LogRecord, l
 use Rattle.protocol.specs.Core.{kind_of}
 use Rattle.protocol.specs.Directory.{Busy}
 use Rattle.protocol.specs.Machine.{Machine}
-use Rattle.one_block.proofs.Model.State.{Copy, Absent, Has, Wait, Tx, Outside, Running, Aborting, Own, Fwd, Local, One}
+use Rattle.isolation.proofs.OneBlock.Model.State.{Copy, Absent, Has, Wait, Tx, Outside, Running, Aborting, Own, Fwd, Local, One}
 use Rattle.isolation.proofs.Machine.Slots.{slot, Mail}
 
 -- a machine, the flat state that belongs to it, what the entries so far say, and the messages in flight by slot

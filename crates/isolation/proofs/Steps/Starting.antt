@@ -8,10 +8,10 @@ use Rattle.flat.specs.Reasons.{no_history}
 use Rattle.protocol.specs.Lines.{words_at}
 use Rattle.protocol.specs.Network.{no_messages}
 use Rattle.protocol.specs.Start.{start}
-use Rattle.one_block.proofs.Model.Start.{at_rest}
-use Rattle.one_block.proofs.Model.Start as one_block
-use Rattle.one_block.proofs.Invariant.Each.{Good}
-use Rattle.one_block.proofs.Facts.Runs.{begins}
+use Rattle.isolation.proofs.OneBlock.Model.Start.{at_rest}
+use Rattle.isolation.proofs.OneBlock.Model.Start as one_block
+use Rattle.isolation.proofs.OneBlock.Invariant.Each.{Good}
+use Rattle.isolation.proofs.OneBlock.Facts.Runs.{begins}
 use Rattle.table.specs.Program.{AreBytes}
 use Rattle.isolation.proofs.Machine.Sends.{Carried}
 use Rattle.isolation.proofs.Machine.World.{World, writes_at, access_at, project}

@@ -13,7 +13,7 @@ use Rattle.flat.proofs.Laid.{laid_elsewhere, in_one_block}
 use Rattle.flat.proofs.Maps.{put_there, put_elsewhere}
 use Rattle.protocol.specs.Messages.{Block}
 use Rattle.protocol.specs.Lines.{byte_in, words_at, words_put}
-use Rattle.one_block.proofs.Model.State.{lay}
+use Rattle.isolation.proofs.OneBlock.Model.State.{lay}
 use Rattle.isolation.proofs.Machine.World.{writes_at}
 use Rattle.isolation.proofs.Machine.Invariant.{IsByte, written_byte}
 use Rattle.isolation.proofs.Words.Bytes.{byte_back, byte_small, words_same}

@@ -1,8 +1,7 @@
 //! Programs on the plain machine, turn by turn. These say nothing of what they answer, so that no test's proof has to carry it.
 
-use elf_samples::program;
 use flat::Engine;
-use reference::Machine;
+use reference::{Machine, program};
 use std::alloc::{AllocError, Global};
 use std::test::Fail;
 use words::{Access, Addr, Entry, HartId, Status, Step, Width};

@@ -5,7 +5,7 @@ use super::checks::{
     check_register, check_retired, check_run, check_status,
 };
 use super::moves::{accepted, access, booted, go, make, one, step, zero};
-use elf_samples::{ABORTS, ADDS, COMMITS, COUNTS};
+use reference::{ABORTS, ADDS, COMMITS, COUNTS};
 use std::process::Abort;
 use std::test::Fail;
 use words::{AbortCause, Addr, BlockNo, Entry, Reg, Status, Step};

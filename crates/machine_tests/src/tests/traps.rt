@@ -2,9 +2,8 @@
 
 use super::checks::{check_count, check_entry, check_register, check_run, check_status};
 use super::moves::{booted, go, one, zero};
-use elf_samples::{COMMITS, program};
 use flat::{BootFault, Engine};
-use reference::Machine;
+use reference::{COMMITS, Machine, program};
 use std::alloc::Global;
 use std::process::Abort;
 use std::test::Fail;

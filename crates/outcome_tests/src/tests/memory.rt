@@ -6,10 +6,10 @@ ghost use Rattle.outcomes.specs.Searches.{IsSearch};
 use super::encode::{A0, A7, ECALL, T0, TCOMMIT, ZERO, addi, li, lw, sw, tbegin};
 use super::searches::{SIZE, count, is_witnessed, searched};
 use super::sources::text_alone;
-use elf_samples::program;
 use flat::BootFault;
 use interleavings::{Order, all_ends};
 use outcomes::{Outcomes, Untold, begin};
+use reference::program;
 use std::process::Abort;
 use std::test::Fail;
 

@@ -2,10 +2,10 @@
 
 ghost use Rattle.std.specs.Prelude.{◌≤◌};
 
-use elf_samples::program;
 use flat::BootFault;
 use interleavings::Source;
 use loader::{Program, read_elf};
+use reference::program;
 use std::alloc::{AllocError, Global};
 
 /// A program without data.

@@ -2,9 +2,9 @@
 
 ghost use Rattle.std.specs.Prelude.{◌<◌, ◌*◌, ◌^◌};
 
-use elf_samples::elf_file;
 use loader::read_elf;
 use machine::Machine;
+use reference::elf_file;
 use std::alloc::Global;
 use std::process::Abort;
 use std::test::Fail;

@@ -1,8 +1,8 @@
 //! Steps by chance: a run played again by its history, the same seed twice, and other seeds.
 
 use super::booted::booted_in;
-use elf_samples::COUNTS;
 use machine::{Machine, Silent};
+use reference::COUNTS;
 use schedule::{Chance, Choice, KeptChance, Mix, Turns, play, put_history, read};
 use std::process::Abort;
 use std::str;

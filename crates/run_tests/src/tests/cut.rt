@@ -2,30 +2,32 @@
 use super::booted::{LOADS_AND_STORES, booted_in};
 use debugger::commands::{Command, DebugFault, command_of};
 use debugger::{Flow, Session};
-use elf_samples::{Breaking, COMMITS, EXIT};
+use disassembler::Symbols;
+use reference::{Breaking, COMMITS, EXIT};
 use std::alloc::Global;
 use std::process::Abort;
 use std::test::Fail;
 use words::Taken;
 
 /// What a line spells.
-fn read(rt: &impl Abort, line: &str) -> Command {
-    command_of(line).expect(rt, "a command")
+fn read(rt: &impl Abort, alloc: Global, line: &str) -> Command {
+    command_of(&Symbols::none(alloc), line).expect(rt, "a command")
 }
 
 /// Does a command, and once more where memory ran out.
 fn do_command(
     rt: &impl Abort,
+    names: &Symbols<'_>,
     session: &mut Session<16, 4>,
     command: Command,
     sink: &mut Taken,
 ) -> Result<Flow, DebugFault> {
-    let answer = session.command(command, sink);
+    let answer = session.command(names, command, sink);
     if answer != Err(DebugFault::NoMemory) {
         return answer;
     }
     assert!(rt; sink.bytes.is_empty());
-    session.command(command, sink)
+    session.command(names, command, sink)
 }
 
 /// That a command, done once more where memory ran out, tells these lines.
@@ -36,12 +38,12 @@ fn check_done(
     line: &str,
     told: &str,
 ) -> Result<(), Fail> {
-    let command = read(rt, line);
+    let command = read(rt, alloc, line);
     let mut sink = Taken {
         bytes: Vec::with_capacity(alloc, 256)?,
         failed: 0,
     };
-    let answer = do_command(rt, session, command, &mut sink);
+    let answer = do_command(rt, &Symbols::none(alloc), session, command, &mut sink);
     assert_eq!(rt; answer, Ok(Flow::Go), "at {line}");
     assert_eq!(rt; sink.bytes.as_slice(), told.as_bytes(), "at {line}");
     Ok(())
@@ -54,9 +56,9 @@ fn go(
     session: &mut Session<16, 4>,
     line: &str,
 ) -> Result<(), Fail> {
-    let command = read(rt, line);
+    let command = read(rt, alloc, line);
     let mut sink = Breaking::new(alloc, 20);
-    let answer = session.command(command, &mut sink);
+    let answer = session.command(&Symbols::none(alloc), command, &mut sink);
     if answer == Err(DebugFault::NoMemory) {
         Err("memory ran out")?;
     }
@@ -98,9 +100,9 @@ fn is_cut(
     told: &str,
     left: u32,
 ) -> Result<bool, Fail> {
-    let command = read(rt, line);
+    let command = read(rt, alloc, line);
     let mut sink = Breaking::new(alloc, left);
-    let answer = session.command(command, &mut sink);
+    let answer = session.command(&Symbols::none(alloc), command, &mut sink);
     let cut = answer == Err(DebugFault::Device);
     assert!(rt; cut || answer == Ok(Flow::Go), "at {line}");
     check_sink(rt, &sink, cut, told, line);
@@ -302,7 +304,14 @@ fn a_step_by_hand_that_is_cut_is_done(rt: HostRuntime) -> Result<(), Fail> {
 fn what_tells_nothing_meets_no_fault(rt: HostRuntime) -> Result<(), Fail> {
     let mut session: Session<16, 4> = Session::new(booted_in(rt.alloc(), &EXIT, 1, 131_072)?);
     let mut sink = Breaking::new(rt.alloc(), 0);
-    assert_eq!(rt; session.command(Command::Quit, &mut sink), Ok(Flow::Quit));
-    assert_eq!(rt; session.command(Command::Comment, &mut sink), Ok(Flow::Go));
+    let names = Symbols::none(rt.alloc());
+    assert_eq!(rt;
+        session.command(&names, Command::Quit, &mut sink),
+        Ok(Flow::Quit)
+    );
+    assert_eq!(rt;
+        session.command(&names, Command::Comment, &mut sink),
+        Ok(Flow::Go)
+    );
     Ok(())
 }

@@ -1,8 +1,9 @@
 //! Looks at programs on the coherent machine, with each put refused in turn.
 use super::booted::{STORES_ONCE, booted_in};
 use debugger::commands::{DebugFault, Look, help, look};
-use elf_samples::{Breaking, COMMITS};
+use disassembler::Symbols;
 use machine::Machine;
+use reference::{Breaking, COMMITS};
 use std::alloc::{AllocError, Global};
 use std::process::Abort;
 use std::test::Fail;
@@ -80,7 +81,7 @@ fn check_cut<const SETS: usize, const WAYS: usize>(
         let mut whole = false;
         for left in 0..200 {
             let mut sink = Breaking::new(rt.alloc(), left);
-            let answer = look(machine, *what, &mut sink);
+            let answer = look(machine, &Symbols::none(rt.alloc()), *what, &mut sink);
             whole = answer == Ok(());
             assert!(rt; whole || answer == Err(DebugFault::Device), "{shown}");
             assert_eq!(rt; sink.failed == 0, whole, "{shown}");

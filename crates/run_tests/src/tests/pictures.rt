@@ -1,7 +1,7 @@
 //! Pictures of programs that store 7 to 0x2000 in a transaction: the store misses, and its hart asks the directory for the block.
 use super::booted::booted;
 use super::refusing::Refusing;
-use elf_samples::{ABORTS, COMMITS};
+use reference::{ABORTS, COMMITS};
 use schedule::{Halt, Turns};
 use std::alloc::Global;
 use std::process::Abort;

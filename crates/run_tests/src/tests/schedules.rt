@@ -1,7 +1,7 @@
 //! Lines with what they spell, and the steps of a machine.
 use super::booted::booted;
-use elf_samples::COMMITS;
 use machine::{Machine, Silent};
+use reference::COMMITS;
 use schedule::{Choice, Name, ScheduleFault, Sort, Turns, choice, name_of, play, read};
 use std::process::Abort;
 use words::{Addr, BlockNo, HartId, Message, Status, Step};

@@ -1,9 +1,8 @@
-//! Lines with what they spell, and the texts of faults.
-use debugger::commands::{Command, DebugFault, Look, command_of};
+//! Lines with what they spell.
+use debugger::commands::{Command, Look, command_of};
+use disassembler::Symbols;
 use schedule::Sort;
-use std::alloc::AllocError;
 use std::process::Abort;
-use words::SinkFault;
 
 static COMMANDS: [(&str, Command); 29] = [
     ("step", Command::Step),
@@ -38,8 +37,12 @@ static COMMANDS: [(&str, Command); 29] = [
 ];
 
 /// That a line spells this command.
-fn check_read(rt: &impl Abort, line: &str, want: Command) {
-    assert_eq!(rt; command_of(line), Some(want), "at {line}");
+fn check_read(rt: &(impl Abort + AllocGlobal), line: &str, want: Command) {
+    assert_eq!(rt;
+        command_of(&Symbols::none(rt.alloc()), line),
+        Some(want),
+        "at {line}"
+    );
 }
 
 #[test]
@@ -47,23 +50,4 @@ fn commands_are_read(rt: HostRuntime) {
     for (line, want) in &COMMANDS {
         check_read(&rt, line, *want);
     }
-}
-
-/// That a fault has this text.
-fn check_fault(
-    rt: &(impl Abort + AllocGlobal),
-    fault: DebugFault,
-    text: &str,
-) -> Result<(), AllocError> {
-    assert_eq!(rt; fault.to_string(rt.alloc())?.as_str(), text);
-    Ok(())
-}
-
-#[test]
-fn faults_are_told(rt: HostRuntime) -> Result<(), AllocError> {
-    check_fault(&rt, DebugFault::Unknown, "1 Unknown")?;
-    check_fault(&rt, DebugFault::Stopped, "4 Stopped")?;
-    check_fault(&rt, DebugFault::from(SinkFault), "7 Device")?;
-    assert_eq!(rt; DebugFault::from(AllocError).text(), "6 NoMemory");
-    Ok(())
 }

@@ -1,6 +1,7 @@
 //! Lines that are typed, with what the user is told and how often they are asked for.
 use debugger::commands::{Command, DebugFault};
 use debugger::{ConsoleFault, Debugged, Typed, play};
+use disassembler::Symbols;
 use std::alloc::Global;
 use std::io;
 use std::io::{ErrorKind, Read};
@@ -14,9 +15,14 @@ struct Steps;
 impl Debugged for Steps {
     ghost use Rattle.std.specs.Prelude.{⊤};
 
-    ghost answers = { λ _ _ _ _ _ _. ⊤ };
+    ghost answers = { λ _ _ _ _ _ _ _. ⊤ };
 
-    fn command<S: Sink>(&mut self, command: Command, sink: &mut S) -> Result<bool, DebugFault> {
+    fn command<S: Sink>(
+        &mut self,
+        _names: &Symbols<'_>,
+        command: Command,
+        sink: &mut S,
+    ) -> Result<bool, DebugFault> {
         match command {
             Command::Step => {
                 sink.put(b"stepped\n")?;
@@ -79,7 +85,14 @@ fn check(rt: &(impl Abort + AllocGlobal), typed: &[u8], asked: &[u8], told: &str
     };
     let mut prompts = taken(rt.alloc());
     let mut out = taken(rt.alloc());
-    let end = play(&mut Steps, &mut input, "?", &mut prompts, &mut out);
+    let end = play(
+        &Symbols::none(rt.alloc()),
+        &mut Steps,
+        &mut input,
+        "?",
+        &mut prompts,
+        &mut out,
+    );
     assert_eq!(rt; end, Ok(()));
     assert_eq!(rt; prompts.bytes.as_slice(), asked);
     assert_eq!(rt; out.bytes.as_slice(), told.as_bytes());
@@ -126,7 +139,14 @@ fn check_unwritten(rt: &(impl Abort + AllocGlobal), typed: &str, closed: &mut Cl
         bytes: typed.as_bytes().bytes(),
         failed: 0,
     };
-    let end = play(&mut Steps, &mut input, "", &mut taken(rt.alloc()), closed);
+    let end = play(
+        &Symbols::none(rt.alloc()),
+        &mut Steps,
+        &mut input,
+        "",
+        &mut taken(rt.alloc()),
+        closed,
+    );
     assert_eq!(rt; end, Err(ConsoleFault::Unwritten));
 }
 
@@ -144,7 +164,14 @@ fn check_unreadable(rt: &(impl Abort + AllocGlobal), out: &mut Taken) {
         bytes: Torn { given: 0 }.bytes(),
         failed: 0,
     };
-    let end = play(&mut Steps, &mut input, "", &mut taken(rt.alloc()), out);
+    let end = play(
+        &Symbols::none(rt.alloc()),
+        &mut Steps,
+        &mut input,
+        "",
+        &mut taken(rt.alloc()),
+        out,
+    );
     assert_eq!(rt; end, Err(ConsoleFault::Unreadable));
     assert_eq!(rt; out.bytes.as_slice(), b"stepped\n".as_slice());
 }
@@ -155,12 +182,19 @@ fn what_cannot_be_read_ends_it(rt: HostRuntime) {
 }
 
 /// That a session whose prompt cannot be put ends before its first line, and tells nothing more.
-fn check_unprompted(rt: &impl Abort, closed: &mut Closed, out: &mut Taken) {
+fn check_unprompted(rt: &(impl Abort + AllocGlobal), closed: &mut Closed, out: &mut Taken) {
     let mut input = Typed {
         bytes: b"step\n".as_slice().bytes(),
         failed: 0,
     };
-    let end = play(&mut Steps, &mut input, "?", closed, out);
+    let end = play(
+        &Symbols::none(rt.alloc()),
+        &mut Steps,
+        &mut input,
+        "?",
+        closed,
+        out,
+    );
     assert_eq!(rt; end, Err(ConsoleFault::Unwritten));
     assert_eq!(rt; out.bytes.as_slice(), b"stepped\n".as_slice());
 }

@@ -1,7 +1,7 @@
 //! What programs of a few words count as.
 use super::booted::booted;
-use elf_samples::{ABORTS, COMMITS};
 use machine::Silent;
+use reference::{ABORTS, COMMITS};
 use schedule::Turns;
 use std::process::Abort;
 use watch::{Kind, Tally, count_run};

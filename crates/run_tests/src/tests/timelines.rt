@@ -1,9 +1,9 @@
 //! The timeline of a program that stores 7 to 0x2000 in a transaction, and exits: the store misses, and its hart asks the directory for the block.
 use super::booted::booted;
 use super::refusing::Refusing;
-use elf_samples::{ABORTS, COMMITS};
 use json::{Scratch, is_valid};
 use machine::Silent;
+use reference::{ABORTS, COMMITS};
 use schedule::{Halt, Turns};
 use std::alloc::Global;
 use std::process::Abort;

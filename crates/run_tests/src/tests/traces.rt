@@ -1,8 +1,9 @@
 //! The trace of a program that stores 7 to 0x2000 in a transaction, and exits.
 use super::booted::booted;
 use super::refusing::Refusing;
-use elf_samples::COMMITS;
+use disassembler::Symbols;
 use machine::Silent;
+use reference::COMMITS;
 use schedule::{Choice, Halt, Turns};
 use std::process::Abort;
 use watch::put_trace;
@@ -26,7 +27,15 @@ fn traced<S: Sink>(
     let choices = [Choice::Core(HartId::new(0)); 3];
     let choices = &choices[..chosen.min(3)];
     let mut machine = booted(rt, &COMMITS, 1);
-    put_trace(&mut machine, choices, 100, &mut Turns, sink, &mut Silent)
+    put_trace(
+        &Symbols::none(rt.alloc()),
+        &mut machine,
+        choices,
+        100,
+        &mut Turns,
+        sink,
+        &mut Silent,
+    )
 }
 
 #[test]

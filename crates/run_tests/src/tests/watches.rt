@@ -2,9 +2,9 @@
 ghost use Rattle.std.specs.Prelude.{⊤};
 
 use super::booted::booted;
-use elf_samples::COMMITS;
 use machine::{Machine, Silent};
 use network::Flight;
+use reference::COMMITS;
 use schedule::{Choice, Halt, Observer, Turns, Unseen, run};
 use std::process::Abort;
 use words::{Addr, Entry, HartId, Step};

@@ -2,8 +2,8 @@
 use super::paper::Paper;
 use command_line::{Request, parse};
 use debugger::Typed;
-use elf_samples::elf_file;
 use machine::Silent;
+use reference::elf_file;
 use simulate::{Live, carry_out};
 use std::alloc::{AllocError, Global};
 use std::io;

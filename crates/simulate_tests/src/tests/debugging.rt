@@ -3,7 +3,7 @@ use super::calls::{Sheets, file_of, input_of, played, request_of};
 use super::checks::check_told;
 use super::paper::Paper;
 use command_line::Request;
-use elf_samples::COMMITS;
+use reference::COMMITS;
 use std::process::Abort;
 use std::sync::Wait;
 use std::test::Fail;

@@ -1,8 +1,8 @@
-//! Timelines and pictures that cannot be put.
+//! Timelines, pictures and pages that cannot be put.
 use super::calls::{Sheets, file_of};
 use super::checks::{Viewed, check, check_each_view_put};
 use super::paper::Paper;
-use elf_samples::COMMITS;
+use reference::COMMITS;
 use std::process::Abort;
 use std::sync::Wait;
 use std::test::Fail;
@@ -20,6 +20,8 @@ const TIMELINE: &str = r#"{"traceEvents":[
 "#;
 
 static TIMED: [&str; 6] = ["logtm", "run", "f", "--steps", "2", "--timeline=t.json"];
+
+static PAGED: [&str; 6] = ["logtm", "run", "f", "--steps", "2", "--timeline=t.html"];
 
 static DRAWN: [&str; 6] = ["logtm", "run", "f", "--steps", "2", "--timeline=t.svg"];
 
@@ -66,6 +68,16 @@ fn a_picture_that_is_cut_is_told(rt: HostRuntime) -> Result<(), Fail> {
     for page in [Paper::new(rt.alloc(), 10), Paper::stuck(rt.alloc())] {
         let unmade = "logtm: cannot write t.svg\n";
         check_cut(&rt, DRAWN.as_slice(), &file, page, unmade);
+    }
+    Ok(())
+}
+
+#[test]
+fn a_page_that_is_cut_is_told(rt: HostRuntime) -> Result<(), Fail> {
+    let file = file_of(rt.alloc(), &COMMITS)?;
+    for page in [Paper::new(rt.alloc(), 10), Paper::stuck(rt.alloc())] {
+        let unmade = "logtm: cannot write t.html\n";
+        check_cut(&rt, PAGED.as_slice(), &file, page, unmade);
     }
     Ok(())
 }

@@ -5,7 +5,7 @@ use super::paper::Paper;
 use super::running::{LISTING, PRINTS, REPORT};
 use super::searching::PRINTED;
 use super::threads::{COUNTED, COUNTER, TWO};
-use elf_samples::EXIT;
+use reference::EXIT;
 use std::process::Abort;
 use std::sync::Wait;
 use std::test::Fail;
@@ -109,6 +109,8 @@ fn shows_or_wants_memory(rt: HostRuntime) {
     check_page(&rt, &words, "{\"traceEvents\":[\n", "]}\n");
     let words = ["logtm", "run", "f.s", "--steps=9", "--timeline=t.svg"];
     check_page(&rt, &words, "<svg ", "</svg>\n");
+    let words = ["logtm", "run", "f.s", "--steps=9", "--timeline=t.html"];
+    check_page(&rt, &words, "<!DOCTYPE html>\n", "</html>\n");
 }
 
 #[test]

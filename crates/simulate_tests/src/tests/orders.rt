@@ -1,5 +1,7 @@
 //! What the words of a command line ask for, and how they are refused.
-use command_line::{Cache, OrderFault, Request, Run, Setup, Show, Stats, View, Way, parse};
+use command_line::{
+    Argument, Cache, OrderFault, Request, Run, Setup, Show, Stats, View, Way, parse,
+};
 use std::alloc::Global;
 use texts::number;
 
@@ -264,10 +266,10 @@ fn refuses_as_clap_does(rt: HostRuntime) {
     }
 }
 
-/// The malformed value.
-fn bad_value(alloc: Global, words: &'static [&'static str]) -> Option<&'static str> {
+/// The malformed value of `--cache`.
+fn bad_cache(alloc: Global, words: &'static [&'static str]) -> Option<&'static str> {
     match parse(alloc, words) {
-        Err(OrderFault::Value(value)) => Some(value),
+        Err(OrderFault::Value(Argument::Cache, value)) => Some(value),
         _ => None,
     }
 }
@@ -275,7 +277,7 @@ fn bad_value(alloc: Global, words: &'static [&'static str]) -> Option<&'static s
 #[test]
 fn a_blank_is_no_part_of_a_name(rt: HostRuntime) {
     let words = &["logtm", "run", "f", "--cache", "normal "];
-    assert_eq!(rt; bad_value(rt.alloc(), words), Some("normal "));
+    assert_eq!(rt; bad_cache(rt.alloc(), words), Some("normal "));
 }
 
 /// Whether the words give an order with so many words, or memory ran out.
@@ -285,9 +287,9 @@ fn gives(alloc: Global, words: &'static [&'static str], count: usize) -> bool {
         Ok(_request) => false,
         Err(fault) => match fault {
             OrderFault::NoMemory => true,
-            OrderFault::Value(_value) => false,
-            OrderFault::TwoViews | OrderFault::LongPicture | OrderFault::ThreadsAlone => false,
-            OrderFault::MixAlone | OrderFault::TwoFiles => false,
+            OrderFault::Value(..) => false,
+            OrderFault::TwoViews | OrderFault::LongPicture | OrderFault::LongPage => false,
+            OrderFault::ThreadsAlone | OrderFault::MixAlone | OrderFault::TwoFiles => false,
             OrderFault::Refused(_text) => false,
         },
     }
@@ -300,9 +302,9 @@ fn assembles(alloc: Global, words: &'static [&'static str], from: &str, to: &str
         Ok(_request) => false,
         Err(fault) => match fault {
             OrderFault::NoMemory => true,
-            OrderFault::Value(_value) => false,
-            OrderFault::TwoViews | OrderFault::LongPicture | OrderFault::ThreadsAlone => false,
-            OrderFault::MixAlone | OrderFault::TwoFiles => false,
+            OrderFault::Value(..) => false,
+            OrderFault::TwoViews | OrderFault::LongPicture | OrderFault::LongPage => false,
+            OrderFault::ThreadsAlone | OrderFault::MixAlone | OrderFault::TwoFiles => false,
             OrderFault::Refused(_text) => false,
         },
     }
@@ -315,9 +317,9 @@ fn fails(alloc: Global, words: &'static [&'static str], part: &str) -> bool {
         Ok(_request) => false,
         Err(fault) => match fault {
             OrderFault::NoMemory => true,
-            OrderFault::TwoViews | OrderFault::LongPicture | OrderFault::ThreadsAlone => false,
-            OrderFault::MixAlone | OrderFault::TwoFiles => false,
-            OrderFault::Value(value) => value == part,
+            OrderFault::TwoViews | OrderFault::LongPicture | OrderFault::LongPage => false,
+            OrderFault::ThreadsAlone | OrderFault::MixAlone | OrderFault::TwoFiles => false,
+            OrderFault::Value(_argument, value) => value == part,
             OrderFault::Refused(text) => text.contains(part),
         },
     }
@@ -448,6 +450,25 @@ fn reads_where_a_picture_goes(rt: HostRuntime) {
     ];
     for (words, path) in cases {
         assert_eq!(rt; path_of(rt.alloc(), words, View::Picture), path);
+    }
+}
+
+#[test]
+fn reads_where_a_page_goes(rt: HostRuntime) {
+    let cases: [(&[&str], Option<&str>); 4] = [
+        (
+            &["logtm", "run", "f", "--steps=20000", "--timeline=t.html"],
+            Some("t.html"),
+        ),
+        (
+            &["logtm", "run", "f", "--steps=20001", "--timeline=t.html"],
+            None,
+        ),
+        (&["logtm", "run", "f", "--timeline=t.html"], None),
+        (&["logtm", "run", "f", "--trace=t.html", "--steps=1"], None),
+    ];
+    for (words, path) in cases {
+        assert_eq!(rt; path_of(rt.alloc(), words, View::Page), path);
     }
 }
 

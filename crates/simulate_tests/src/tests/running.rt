@@ -3,7 +3,7 @@ use super::calls::{Sheets, carried, file_of, request_of};
 use super::checks::{check_each_put, check_told};
 use super::paper::Paper;
 use command_line::Request;
-use elf_samples::EXIT;
+use reference::EXIT;
 use simulate::Fault;
 use std::process::Abort;
 use std::sync::Wait;

@@ -2,7 +2,7 @@
 use super::calls::{Sheets, carried, file_of, request_of};
 use super::checks::{Viewed, check, check_each_put, check_each_view_put};
 use super::paper::Paper;
-use elf_samples::COMMITS;
+use reference::COMMITS;
 use std::process::Abort;
 use std::test::Fail;
 

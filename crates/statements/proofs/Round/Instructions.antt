@@ -12,7 +12,7 @@ use Rattle.table.specs.declared.instr.AluOp.{AluOp}
 use Rattle.table.specs.declared.instr.AmoOp.{AmoOp}
 use Rattle.disassembler.specs.Mnemonics.{register as register_text}
 use Rattle.disassembler.specs.Canonical.{signed, upper as upper_text}
-use Rattle.source_operands.specs.Operands.{Find, register, immediate, upper, based, indirect, offset}
+use Rattle.statements.specs.Operands.{Find, register, immediate, upper, based, indirect, offset}
 use Rattle.statements.specs.Instructions.{two, three, last, op_of, op_imm_of, shift_imm_of, load_of, store_of, amo_of, upper_of, branch_of, jal_of, jalr_of, tbegin_of}
 use Rattle.statements.proofs.Round.Numbers.{decimal_number, signed_number}
 use Rattle.statements.proofs.Round.Operands.{bound, register_read, register_token, decimal_token, signed_token, upper_token, immediate_read, upper_read, offset_read, in_parentheses, based_token, based_read, indirect_token, indirect_read}

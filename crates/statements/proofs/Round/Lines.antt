@@ -4,12 +4,12 @@ use Rattle.std.specs.List.{list_all}
 use Rattle.std.specs.Str.Lines.{strip_carriage_return}
 use Rattle.std.proofs.lemmas.Bool.{and_parts, le-leb, ne_eqb}
 use Rattle.std.proofs.lemmas.List.Folds.{list_all_at}
-use Rattle.source_operands.specs.declared.fault.AsmFault.{AsmFault}
-use Rattle.source_operands.specs.declared.fault.AsmFault.TheVariants.{TooLarge}
-use Rattle.source_operands.specs.declared.place.Place.{Place}
-use Rattle.source_operands.specs.Cutting.{Cut, cut, Parts, is_blank, is_empty, trim_start, cut_word, or_empty, parts_at, parts_of}
-use Rattle.source_operands.specs.Operands.{◌>>=◌, checked}
-use Rattle.source_operands.specs.Places.{Labels}
+use Rattle.statements.specs.declared.fault.AsmFault.{AsmFault}
+use Rattle.statements.specs.declared.fault.AsmFault.TheVariants.{TooLarge}
+use Rattle.statements.specs.declared.place.Place.{Place}
+use Rattle.statements.specs.Cutting.{Cut, cut, Parts, is_blank, is_empty, trim_start, cut_word, or_empty, parts_at, parts_of}
+use Rattle.statements.specs.Operands.{◌>>=◌, checked}
+use Rattle.statements.specs.Places.{Labels}
 use Rattle.statements.specs.Forms.{form_named}
 use Rattle.statements.specs.Statements.{by_name, statement_of}
 use Rattle.statements.specs.Statements.Made.{Nothing}

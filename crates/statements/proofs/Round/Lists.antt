@@ -1,6 +1,6 @@
 -- Operands behind a mnemonic are found one by one.
 use Rattle.std.proofs.Common.{◌≡◌, ℕ, ◌==◌, List, ◌∷◌, ◌++◌, Ok, refl, ap, ◌∙◌}
-use Rattle.source_operands.specs.Cutting.{Cut, trim}
+use Rattle.statements.specs.Cutting.{Cut, trim}
 use Rattle.statements.specs.Instructions.{before_comma, without_comma, first, last, two, three}
 use Rattle.statements.proofs.Round.Tokens.{solid_no_comma, cut_at, cut_nowhere, IsToken, token_tight, tight_trim}
 use Rattle.statements.proofs.Round.Operands.{bound}

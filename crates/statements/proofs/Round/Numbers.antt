@@ -9,8 +9,8 @@ use Rattle.std.proofs.lemmas.Fmt.{decimal_is_IsNumeral}
 use Rattle.texts.specs.Numerals.{hex_digit, hexadecimal}
 use Rattle.texts.proofs.Digits.{agree, hexadecimal-length}
 use Rattle.disassembler.specs.Canonical.{signed, trimmed, upper}
-use Rattle.source_operands.specs.Cutting.{is_empty}
-use Rattle.source_operands.specs.Numbers.{Number, number, digits_after, digits_in, magnitude_of, number_of, is_from_to, wrapped}
+use Rattle.statements.specs.Cutting.{is_empty}
+use Rattle.statements.specs.Numbers.{Number, number, digits_after, digits_in, magnitude_of, number_of, is_from_to, wrapped}
 
 -- a text is a number from -low to high, and n modulo 2^32
 pub record IsNumberText (low high n : ℕ) (t : List ℕ) : Type 0 where

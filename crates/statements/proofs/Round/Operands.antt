@@ -14,12 +14,12 @@ use Rattle.texts.specs.Numerals.{hex_digit, hexadecimal}
 use Rattle.texts.proofs.Digits.{passes, agree, hexadecimal-length}
 use Rattle.disassembler.specs.Mnemonics.{register as register_text}
 use Rattle.disassembler.specs.Canonical.{signed, trimmed, upper as upper_text}
-use Rattle.source_operands.specs.declared.fault.AsmFault.{AsmFault}
-use Rattle.source_operands.specs.declared.fault.AsmFault.TheVariants.{Operand, Range, Alignment}
-use Rattle.source_operands.specs.Cutting.{Cut, is_empty}
-use Rattle.source_operands.specs.Numbers.{Number, number_of, is_from_to, wrapped}
-use Rattle.source_operands.specs.Registers.{register_named}
-use Rattle.source_operands.specs.Operands.{◌>>=◌, checked, Find, register, immediate, upper, closed, opened, enclosed, based, indirect, number_or_named, target, in_range, offset, value, named_of}
+use Rattle.statements.specs.declared.fault.AsmFault.{AsmFault}
+use Rattle.statements.specs.declared.fault.AsmFault.TheVariants.{Operand, Range, Alignment}
+use Rattle.statements.specs.Cutting.{Cut, is_empty}
+use Rattle.statements.specs.Numbers.{Number, number_of, is_from_to, wrapped}
+use Rattle.statements.specs.Registers.{register_named}
+use Rattle.statements.specs.Operands.{◌>>=◌, checked, Find, register, immediate, upper, closed, opened, enclosed, based, indirect, number_or_named, target, in_range, offset, value, named_of}
 use Rattle.statements.proofs.Round.Tokens.{is_solid, all_weaker, all_both, cut_at, IsToken}
 use Rattle.statements.proofs.Round.Numbers.{IsNumberText, signed_number, upper_number}
 

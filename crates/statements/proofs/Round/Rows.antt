@@ -32,13 +32,13 @@ use Rattle.disassembler.specs.Canonical.{signed, upper as upper_text, one as tex
 use Rattle.disassembler.proofs.Rows.{named-row}
 use Rattle.disassembler.proofs.Apart.{unordered, full}
 use Rattle.disassembler.proofs.Differing.{fence-text}
-use Rattle.source_operands.specs.declared.fault.AsmFault.{AsmFault}
-use Rattle.source_operands.specs.declared.fault.AsmFault.TheVariants.{Directive}
-use Rattle.source_operands.specs.declared.place.Place.{Place}
-use Rattle.source_operands.specs.declared.place.Section.TheVariants.{Text}
-use Rattle.source_operands.specs.Cutting.{is_empty}
-use Rattle.source_operands.specs.Operands.{guarded}
-use Rattle.source_operands.specs.Places.{Labels, find}
+use Rattle.statements.specs.declared.fault.AsmFault.{AsmFault}
+use Rattle.statements.specs.declared.fault.AsmFault.TheVariants.{Directive}
+use Rattle.statements.specs.declared.place.Place.{Place}
+use Rattle.statements.specs.declared.place.Section.TheVariants.{Text}
+use Rattle.statements.specs.Cutting.{is_empty}
+use Rattle.statements.specs.Operands.{guarded}
+use Rattle.statements.specs.Places.{Labels, find}
 use Rattle.statements.specs.declared.form.Form.TheVariants as form
 use Rattle.statements.specs.Forms.{forms, form_of, form_named}
 use Rattle.statements.specs.Instructions.{by_row}

@@ -3,7 +3,7 @@ use Rattle.std.proofs.Common.{◌≡◌, ℕ, ◌+◌, ◌≤◌, Bool, true, fa
 use Rattle.std.specs.List.{list_all}
 use Rattle.std.proofs.lemmas.Bool.{and_parts, and_from, not-true}
 use Rattle.std.proofs.lemmas.List.Folds.{list_all-append}
-use Rattle.source_operands.specs.Cutting.{cut, with_front, is_blank, is_empty, trim_start, trim_end, trim}
+use Rattle.statements.specs.Cutting.{cut, with_front, is_blank, is_empty, trim_start, trim_end, trim}
 
 -- a byte of a statement: no `#`, colon or carriage return
 abbrev pub is_plain : ℕ → Bool

@@ -9,15 +9,15 @@ use Rattle.texts.specs.Numerals.{hexadecimal}
 use Rattle.table.specs.Table.{instr}
 use Rattle.disassembler.specs.Canonical.{plain, canonical}
 use Rattle.disassembler.proofs.Differing.{spelt-or_plain}
-use Rattle.source_operands.specs.declared.fault.AsmFault.{AsmFault}
-use Rattle.source_operands.specs.declared.fault.AsmFault.TheVariants.{Alignment, Label}
-use Rattle.source_operands.specs.declared.place.Place.{Place}
-use Rattle.source_operands.specs.declared.place.Section.TheVariants.{Text}
-use Rattle.source_operands.specs.Cutting.{trim}
-use Rattle.source_operands.specs.Numbers.{Number, number_of}
-use Rattle.source_operands.specs.Operands.{checked, guarded, Find, lacks_label, named_of, is_lost}
-use Rattle.source_operands.specs.Places.{Labels, find}
-use Rattle.source_operands.proofs.Cuts.{last_part}
+use Rattle.statements.specs.declared.fault.AsmFault.{AsmFault}
+use Rattle.statements.specs.declared.fault.AsmFault.TheVariants.{Alignment, Label}
+use Rattle.statements.specs.declared.place.Place.{Place}
+use Rattle.statements.specs.declared.place.Section.TheVariants.{Text}
+use Rattle.statements.specs.Cutting.{trim}
+use Rattle.statements.specs.Numbers.{Number, number_of}
+use Rattle.statements.specs.Operands.{checked, guarded, Find, lacks_label, named_of, is_lost}
+use Rattle.statements.specs.Places.{Labels, find}
+use Rattle.statements.proofs.Cuts.{last_part}
 use Rattle.table.specs.Table.{row_named}
 use Rattle.statements.specs.Forms.{form_named}
 use Rattle.statements.specs.Statements.{Made, datum, read_data, operands, all_found, at_multiple, data_of, directive_of}

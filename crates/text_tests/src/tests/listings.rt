@@ -1,8 +1,8 @@
 //! Listings that cannot be put.
 
-use disassembler::{listing, texts_differ};
-use elf_samples::{Breaking, EXIT, elf_file};
+use disassembler::{Symbols, listing, texts_differ};
 use loader::{Program, read_elf};
+use reference::{Breaking, EXIT, elf_file};
 use std::alloc::Global;
 use std::test::Fail;
 
@@ -22,7 +22,7 @@ fn each_put_fails_in_turn(rt: HostRuntime) -> Result<(), Fail> {
     let program = program(&elf_file(rt.alloc(), &EXIT)?, rt.alloc())?;
     for left in 0..21 {
         let mut out = Breaking::new(rt.alloc(), left);
-        let answer = listing(&program, &mut out);
+        let answer = listing(&program, &Symbols::none(rt.alloc()), &mut out);
         assert!(rt; answer.is_err(), "{left}");
         assert_eq!(rt; out.failed, 1, "{left}");
         assert!(rt; EXIT_LISTING.as_bytes().starts_with(&out.bytes), "{left}");

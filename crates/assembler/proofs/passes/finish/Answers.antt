@@ -1,5 +1,5 @@
 use Rattle.std.proofs.Common.{sym, ap, ◌∙◌, arith}
-use Rattle.source_operands.specs.Places.{labels_of}
+use Rattle.statements.specs.Places.{labels_of}
 use Rattle.assembler.specs.declared.progress.Progress.{Progress}
 use Rattle.assembler.proofs.Sizes.{ends_same}
 use Rattle.assembler.proofs.passes.finish.Goals as goal

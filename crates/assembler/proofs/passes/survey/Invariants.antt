@@ -1,5 +1,5 @@
 use Rattle.std.proofs.Common.{◌≡◌, ◌≤◌, ◌+◌, length, option_map}
-use Rattle.source_operands.specs.Places.{places_in}
+use Rattle.statements.specs.Places.{places_in}
 use Rattle.assembler.specs.Passes.{pass, survey, survey_line}
 use Rattle.assembler.proofs.Passing.{left, remaining}
 use Rattle.assembler.proofs.passes.survey.Given as goal

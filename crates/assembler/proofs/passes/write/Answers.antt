@@ -1,5 +1,5 @@
 use Rattle.std.proofs.Common.{sym, ◌∙◌, refl, ap, [], option_map, length, arith}
-use Rattle.source_operands.specs.Places.{labels_of}
+use Rattle.statements.specs.Places.{labels_of}
 use Rattle.assembler.specs.Progress.{start}
 use Rattle.assembler.specs.Passes.{lay, lay_line}
 use Rattle.assembler.proofs.Passing.{pass_on, pass_fails, fewer}

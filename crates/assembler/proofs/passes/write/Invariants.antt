@@ -1,5 +1,5 @@
 use Rattle.std.proofs.Common.{◌≡◌, ◌≤◌, ◌+◌, length, option_map}
-use Rattle.source_operands.specs.Places.{labels_of}
+use Rattle.statements.specs.Places.{labels_of}
 use Rattle.assembler.specs.Passes.{Layout, pass, lay, lay_line}
 use Rattle.assembler.specs.Programs.{IsImageOf}
 use Rattle.assembler.proofs.Passing.{left, remaining}

@@ -1,7 +1,7 @@
 use Rattle.std.proofs.Common.{sym, ◌∙◌}
 use Rattle.std.proofs.lemmas.Result.{err_from_is_err_and}
 use Rattle.statements.specs.Statements.{made}
-use Rattle.source_operands.specs.Places.{labels_of}
+use Rattle.statements.specs.Places.{labels_of}
 use Rattle.assembler.proofs.Laying.{laid, not_made, not_laid}
 use Rattle.assembler.proofs.passes.write_line.Goals as goal
 

@@ -2,12 +2,13 @@ use Rattle.std.proofs.Common.{◌∙◌, refl}
 use Rattle.clap.specs.Words.{found_of}
 use Rattle.clap.proofs.WalkLemmas.{first_value-rows}
 use Rattle.command_line.specs.Reading.{cache_of}
+use Rattle.command_line.specs.declared.argument.Argument.TheVariants as argument
 use Rattle.command_line.proofs.Values.{option_read}
 use Rattle.command_line.proofs.reading.cache_given.Goals as goal
 
 pub returns-in-Some : goal.returns-in-Some
 returns-in-Some c =
-    option_read cache_of c.args.default _ c.in-Some.text c.cache_named.result c.ok_or.result
+    option_read argument.Cache cache_of c.args.default _ c.in-Some.text c.cache_named.result c.ok_or.result
     (c.in-Some.ensures ∙ first_value-rows (found_of c.args.matches.now) c.args.id.now) c.cache_named.ensures c.ok_or.ensures.value
 
 pub returns-in-None : goal.returns-in-None

@@ -7,7 +7,7 @@ use Rattle.command_line.proofs.reading.number_given.Goals as goal
 
 pub returns-in-Some : goal.returns-in-Some
 returns-in-Some c =
-    option_read number_of c.args.default _ c.in-Some.text c.number.result c.ok_or.result
+    option_read c.args.argument number_of c.args.default _ c.in-Some.text c.number.result c.ok_or.result
     (c.in-Some.ensures ∙ first_value-rows (found_of c.args.matches.now) c.args.id.now) c.number.ensures c.ok_or.ensures.value
 
 pub returns-in-None : goal.returns-in-None

@@ -4,7 +4,7 @@ use Rattle.debugger.proofs.playing.play.Goals as goal
 
 pub returns-in-Ok-false : goal.returns-in-Ok-false
 returns-in-Ok-false g c =
-    played g.D.Debugged.answers g.I.LineInput.gives c.args.prompt.now c.loop-count._count
+    played c.args.names.now (g.D.Debugged.answers c.args.names.now) g.I.LineInput.gives c.args.prompt.now c.loop-count._count
     (record { session = c.args.session.now; input = c.args.input.now; told = g.S.Sink.state c.args.out.now; asked = g.P.Sink.state c.args.prompts.now })
     (record { session = c.loop-count.session; input = c.loop-count.input; told = g.S.Sink.state c.loop-count.out; asked = g.P.Sink.state c.loop-count.prompts })
     (record { session = c.exchange.new.session; input = c.exchange.new.input; told = g.S.Sink.state c.exchange.new.out; asked = g.P.Sink.state c.exchange.new.prompts })
@@ -12,7 +12,7 @@ returns-in-Ok-false g c =
 
 pub returns-in-Err : goal.returns-in-Err
 returns-in-Err g c =
-    broken g.D.Debugged.answers g.I.LineInput.gives c.args.prompt.now c.loop-count._count
+    broken c.args.names.now (g.D.Debugged.answers c.args.names.now) g.I.LineInput.gives c.args.prompt.now c.loop-count._count
     (record { session = c.args.session.now; input = c.args.input.now; told = g.S.Sink.state c.args.out.now; asked = g.P.Sink.state c.args.prompts.now })
     (record { session = c.loop-count.session; input = c.loop-count.input; told = g.S.Sink.state c.loop-count.out; asked = g.P.Sink.state c.loop-count.prompts })
     (record { session = c.exchange.new.session; input = c.exchange.new.input; told = g.S.Sink.state c.exchange.new.out; asked = g.P.Sink.state c.exchange.new.prompts })
@@ -20,7 +20,7 @@ returns-in-Err g c =
 
 pub loop-count-preserved : goal.loop-count-preserved
 loop-count-preserved g c =
-    plays_more g.D.Debugged.answers g.I.LineInput.gives c.args.prompt.now c.loop-count._count
+    plays_more c.args.names.now (g.D.Debugged.answers c.args.names.now) g.I.LineInput.gives c.args.prompt.now c.loop-count._count
     _
     (record { session = c.loop-count.session; input = c.loop-count.input; told = g.S.Sink.state c.loop-count.out; asked = g.P.Sink.state c.loop-count.prompts })
     (record { session = c.exchange.new.session; input = c.exchange.new.input; told = g.S.Sink.state c.exchange.new.out; asked = g.P.Sink.state c.exchange.new.prompts })
@@ -29,7 +29,7 @@ loop-count-preserved g c =
 pub returns : goal.returns
 returns g c =
     let all : c.loop-count._count ≡ 18446744073709551615 = omega (arith, c.loop-count-test.false, c.loop-count.auto._count-end) in
-    used_up g.D.Debugged.answers g.I.LineInput.gives c.args.prompt.now c.loop-count._count
+    used_up c.args.names.now (g.D.Debugged.answers c.args.names.now) g.I.LineInput.gives c.args.prompt.now c.loop-count._count
     (record { session = c.args.session.now; input = c.args.input.now; told = g.S.Sink.state c.args.out.now; asked = g.P.Sink.state c.args.prompts.now })
     (record { session = c.loop-count.session; input = c.loop-count.input; told = g.S.Sink.state c.loop-count.out; asked = g.P.Sink.state c.loop-count.prompts })
     c.loop-count.invariant all

@@ -2,11 +2,9 @@ use Rattle.std.proofs.Common.{◌≡◌, ◌<◌, ◌++◌, ◌∷◌, [], arith
 use Rattle.words.specs.Harts.{names, IsNext}
 use Rattle.protocol.specs.Messages.{Forward}
 use Rattle.protocol.specs.Directory.{forwards}
-use Rattle.protocol.specs.Network.{Sends}
 use Rattle.directory.proofs.Forwards.{forwards-more, forwards-next, forwards-end, asked-named, asked-below}
-use Rattle.machine.specs.Mail.{in_flight}
+use Rattle.machine.specs.Mail.{SendsOn, mail_of}
 use Rattle.machine.proofs.Sending.{IsSent, sends_on, sends_one}
-use Rattle.machine.proofs.Numbering.{numbers_go_on, numbers_of_sent}
 use Rattle.machine.proofs.mail.forward.Goals as goal
 
 pub send-from-requires : goal.send-from-requires
@@ -21,29 +19,27 @@ loop-to-preserved c =
     let expect = names c.args.expect.now in
     let asked = c.below-asked.result in
     let to = c.in-Some.to in
-    let net = c.send-from.new.self in
+    let first = c.args.net.now in
+    let old = c.loop-to.net in
+    let new = c.send-from.new.self in
     let next : IsNext asked c.loop-to.from to = c.in-Some.ensures.some in
     let named : expect to ≡ true = asked-named expect c.args.harts asked c.below-asked.ensures to next.named in
     let below : to < c.args.harts = asked-below expect c.args.harts asked c.below-asked.ensures to next.named in
     let skipped : forwards to expect q.block q.kind q.requester q.stamp ≡ forwards c.loop-to.from expect q.block q.kind q.requester q.stamp = forwards-next expect q.block q.kind q.requester q.stamp c.args.harts asked c.below-asked.ensures c.loop-to.from to next in
     let told = forwards to expect q.block q.kind q.requester q.stamp in
-    let before : Sends (in_flight c.args.net.now.slots) told (in_flight c.loop-to.net.slots) = rw skipped c.loop-to.invariant.1 in
-    let sent : IsSent c.loop-to.net.slots net.slots c.send-from.result _ = record { free = c.send-from.ensures.free; sent = c.send-from.ensures.sent; others = c.send-from.ensures.others } in
-    let more : Sends (in_flight c.args.net.now.slots) (told ++ Forward to q.block q.kind q.requester q.stamp ∷ []) (in_flight net.slots) =
-    sends_on told (Forward to q.block q.kind q.requester q.stamp ∷ []) (in_flight c.args.net.now.slots) (in_flight c.loop-to.net.slots) (in_flight net.slots) before
-    (sends_one c.loop-to.net.slots net.slots c.send-from.result _ sent) in
+    let before : SendsOn (mail_of first.slots) first.next told (mail_of old.slots) old.next = rw skipped c.loop-to.invariant.1 in
+    let sent : IsSent old.slots new.slots c.send-from.result _ = record { free = c.send-from.ensures.free; sent = c.send-from.ensures.sent; others = c.send-from.ensures.others } in
+    let more : SendsOn (mail_of first.slots) first.next (told ++ Forward to q.block q.kind q.requester q.stamp ∷ []) (mail_of new.slots) new.next =
+    sends_on told (Forward to q.block q.kind q.requester q.stamp ∷ []) (mail_of first.slots) (mail_of old.slots) (mail_of new.slots) first.next old.next new.next before
+    (sends_one old.slots new.slots c.send-from.result _ old.next new.next sent refl c.send-from.ensures.number) in
     rw c.index-from.ensures.value (
       omega (arith, c.send-from.ensures.room, c.loop-to.invariant.0, next.from),
-      subst (λ ms. Sends (in_flight c.args.net.now.slots) ms (in_flight net.slots)) (forwards-more expect q.block q.kind q.requester q.stamp to [] told named refl) more,
-      numbers_go_on _ _ _ _ _ _ c.loop-to.invariant.2 (numbers_of_sent _ _ c.send-from.result _ _ _ sent refl c.send-from.ensures.number c.send-from.ensures.count),
+      subst (λ ms. SendsOn (mail_of first.slots) first.next ms (mail_of new.slots) new.next) (forwards-more expect q.block q.kind q.requester q.stamp to [] told named refl) more,
       omega arith,
     )
 
-pub returns-clause-sends : goal.returns-clause-sends
-returns-clause-sends c =
+pub returns : goal.returns
+returns c =
     let q = c.args.request.now in
     let expect = names c.args.expect.now in
-    rw (forwards-end expect q.block q.kind q.requester q.stamp c.args.harts c.below-asked.result c.below-asked.ensures c.loop-to.from c.loop-to.invariant.3 c.in_default.ensures.none) c.loop-to.invariant.1
-
-pub returns-clause-numbers : goal.returns-clause-numbers
-returns-clause-numbers c = c.loop-to.invariant.2
+    rw (forwards-end expect q.block q.kind q.requester q.stamp c.args.harts c.below-asked.result c.below-asked.ensures c.loop-to.from c.loop-to.invariant.2 c.in_default.ensures.none) c.loop-to.invariant.1

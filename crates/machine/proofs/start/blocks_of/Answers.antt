@@ -1,6 +1,6 @@
 use Rattle.std.proofs.Common.{◌≡◌, ◌++◌, ◌∷◌, [], arith, length, sym, ap, ◌∙◌}
 use Rattle.std.proofs.lemmas.List.FromFn.{length-map-range_with_len, map-range_with_len_more}
-use Rattle.boot.specs.Memory.{mem_of}
+use Rattle.loader.specs.Memory.{mem_of}
 use Rattle.protocol.specs.Lines.{words_at}
 use Rattle.machine.specs.States.{words_of}
 use Rattle.machine.proofs.Blocks.{blocks_in, words_in}

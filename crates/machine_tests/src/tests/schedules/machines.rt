@@ -3,9 +3,9 @@
 ghost use Rattle.std.specs.Prelude.{◌<◌, ◌*◌, ◌^◌};
 
 use directory::DirEntry;
-use elf_samples::elf_file;
 use loader::read_elf;
 use machine::{Machine, TxInfo};
+use reference::elf_file;
 use std::alloc::{AllocError, Global};
 use std::test::Fail;
 use words::{Addr, BlockNo, Entry, HartId, Message, Regs, Status, Step};

@@ -3,10 +3,9 @@
 use super::machines::{
     all_stopped, entry, harts, has_line, make, message, next_message, next_turn,
 };
-use elf_samples::elf_file;
 use loader::read_elf;
 use machine::Machine;
-use reference::Machine as Checker;
+use reference::{Machine as Checker, elf_file};
 use std::alloc::{AllocError, Global};
 use std::test::Fail;
 use words::{BlockNo, Entry, HartId, Message, Step};

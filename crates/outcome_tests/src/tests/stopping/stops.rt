@@ -5,9 +5,9 @@ use crate::tests::encode::{
     tbegin,
 };
 use crate::tests::ends::{End, ends_of};
-use elf_samples::{EXIT, program};
 use flat::BootFault;
 use outcomes::begin;
+use reference::{EXIT, program};
 use std::alloc::Global;
 use std::process::Abort;
 use std::test::Fail;

@@ -1,7 +1,7 @@
 use Rattle.std.proofs.Common.{◌≡◌, ◌≤◌, ◌-◌, ◌*◌, false, [], ◌∷◌, ℕ, arith, length, refl, sym, ◌∙◌}
 use Rattle.flat.specs.State.{Setting}
 use Rattle.flat.specs.Start.{first_state}
-use Rattle.boot.proofs.Segments.{all_end_by}
+use Rattle.loader.proofs.Segments.{all_end_by}
 use Rattle.outcomes.specs.declared.breadth_first.Outcomes.{Outcomes}
 use Rattle.outcomes.specs.Searches.{setting_at, flat_at}
 use Rattle.outcomes.proofs.Found.{only_one, begins}

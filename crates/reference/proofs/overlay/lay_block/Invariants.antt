@@ -1,5 +1,5 @@
 use Rattle.std.proofs.Common.{◌≡◌, ℕ, length}
-use Rattle.boot.specs.Memory.{mem_of}
+use Rattle.loader.specs.Memory.{mem_of}
 use Rattle.reference.specs.Overlays.{block_laid}
 use Rattle.reference.proofs.overlay.lay_block.Given as goal
 

@@ -2,8 +2,8 @@
 
 use super::play::{TEN, booted, zero};
 use board::{Board, Desk, End, Gate, Lease, Refusal, serve, work};
-use elf_samples::program;
 use loader::Program;
+use reference::program;
 use std::alloc::AllocError;
 use std::cell::RefCell;
 use std::process::Abort;

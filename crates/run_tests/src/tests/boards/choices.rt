@@ -3,8 +3,8 @@
 use super::gates::Runs;
 use super::play::{SIZE, WAITS};
 use board::{Board, Code, End, Finished, Lease, Refusal, Unkept, Untraced, serve};
-use elf_samples::program;
 use machine::{Machine, Silent};
+use reference::program;
 use schedule::{Choice, History, Turns, put_history, read};
 use std::alloc::{AllocError, Global};
 use std::process::Abort;

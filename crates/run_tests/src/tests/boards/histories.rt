@@ -1,5 +1,5 @@
 //! Histories of a few choices, as text, and read again.
-use elf_samples::Breaking;
+use reference::Breaking;
 use schedule::{
     Choice, History, Name, ScheduleFault, Sort, put_history, read, written_choices_are_read,
 };

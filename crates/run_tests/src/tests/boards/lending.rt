@@ -2,7 +2,7 @@
 
 use super::play::{Small, TEN, booted, check_again, make, one, zero};
 use board::Lease;
-use elf_samples::program;
+use reference::program;
 use std::process::Abort;
 use std::test::Fail;
 use words::{HartId, Step};

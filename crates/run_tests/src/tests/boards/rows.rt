@@ -3,7 +3,7 @@
 use super::gates::{Meeting, Runs};
 use super::play::{Small, TEN, booted, one, zero};
 use board::{End, serve};
-use elf_samples::program;
+use reference::program;
 use std::process::Abort;
 use std::sync::Mutex;
 use std::test::Fail;

@@ -2,8 +2,8 @@
 
 use super::play::{Small, booted, check_again, make, one, zero};
 use board::{Lease, Refusal, is_hart};
-use elf_samples::{COMMITS, program};
 use loader::Program;
+use reference::{COMMITS, program};
 use std::process::Abort;
 use std::test::Fail;
 use words::{HartId, Step};

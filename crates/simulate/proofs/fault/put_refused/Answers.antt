@@ -1,5 +1,5 @@
 use Rattle.std.proofs.Common.{◌∙◌, ◌++◌, ◌∷◌, [], ap, sym, option_map}
-use Rattle.source_operands.specs.Faults.{fault_number as asm_number}
+use Rattle.statements.specs.Faults.{fault_number as asm_number}
 use Rattle.texts.proofs.Putting.{puts-both, puts-cut, puts-nothing, puts-same}
 use Rattle.simulate.specs.Faults.{refused_text}
 use Rattle.simulate.specs.Quotes.{quotation}

@@ -1,5 +1,5 @@
 use Rattle.std.proofs.Common.{◌≡◌, take}
-use Rattle.reports.specs.Reports.{AllReadable}
+use Rattle.render.specs.Reports.{AllReadable}
 use Rattle.simulate.specs.Runs.{addresses}
 use Rattle.simulate.proofs.readable.readable.Given as goal
 

@@ -4,4 +4,4 @@ use Rattle.texts.specs.Puts.{Puts}
 use Rattle.simulate.proofs.search.put_entries.Given as goal
 
 abbrev pub invariant-loop-entry : goal.invariant-loop-entry
-invariant-loop-entry g l = Puts (g.S.Sink.state l.initial.sink) (g.S.Sink.state l.sink) (lines_of (take l.entry-index l.entries)) (Ok tt)
+invariant-loop-entry g l = Puts (g.S.Sink.state l.initial.sink) (g.S.Sink.state l.sink) (lines_of l.names (take l.entry-index l.entries)) (Ok tt)

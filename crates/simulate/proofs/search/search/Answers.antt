@@ -2,7 +2,7 @@ use Rattle.std.proofs.Common.{◌≡◌, None, List, inl, inr, refl, sym, ap, su
 use Rattle.std.proofs.lemmas.Result.{err_from_is_err_and}
 use Rattle.flat.specs.Boots.{boot_fault}
 use Rattle.flat.specs.State.{Flat, Setting}
-use Rattle.reports.specs.Reports.{AllReadable}
+use Rattle.render.specs.Reports.{AllReadable}
 use Rattle.outcomes.specs.Standings.{setting_of}
 use Rattle.command_line.specs.declared.request.Word.{Word}
 use Rattle.simulate.specs.Ends.{search_start}

@@ -1,7 +1,7 @@
 use Rattle.std.proofs.Common.{List, ℕ, Some, arith, sym, subst}
 use Rattle.std.proofs.lemmas.Result.{err_from_is_err_and}
 use Rattle.machine.specs.States.{geometry, setting_of}
-use Rattle.reports.specs.Reports.{AllReadable}
+use Rattle.render.specs.Reports.{AllReadable}
 use Rattle.simulate.proofs.ThreadedRuns.{come_to, concluded_kept, end_by, few_harts, stopped, unready}
 use Rattle.simulate.proofs.threads.run_kept.Goals as goal
 

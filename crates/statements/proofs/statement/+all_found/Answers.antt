@@ -1,8 +1,8 @@
 use Rattle.std.proofs.Common.{not, sym, ap, ◌∙◌}
-use Rattle.source_operands.specs.Cutting.{trim}
-use Rattle.source_operands.specs.Operands as source
-use Rattle.source_operands.specs.Places.{find_in}
-use Rattle.statements.proofs.Parts.{none_more, some_more, not_first}
+use Rattle.statements.specs.Cutting.{trim}
+use Rattle.statements.specs.Operands as source
+use Rattle.statements.specs.Places.{find_in}
+use Rattle.statements.proofs.Pieces.{none_more, some_more, not_first}
 use Rattle.statements.proofs.statement.+all_found.Goals as goal
 
 pub returns-then-is_lost : goal.returns-then-is_lost

@@ -1,7 +1,7 @@
 use Rattle.std.proofs.Common.{Ok, sym, ap, ◌∙◌, option_map}
 use Rattle.std.proofs.lemmas.Result.{err_from_is_err_and}
-use Rattle.source_operands.specs.Places.{find_in}
-use Rattle.statements.proofs.Parts.{data_fault, data_last, data_more}
+use Rattle.statements.specs.Places.{find_in}
+use Rattle.statements.proofs.Pieces.{data_fault, data_last, data_more}
 use Rattle.statements.proofs.statement.+push_data.Goals as goal
 
 pub returns-in_err-datum : goal.returns-in_err-datum

@@ -226,19 +226,6 @@ fn any_byte_may_be_any_value(rt: HostRuntime) {
     assert!(rt; read > 0);
 }
 
-#[test]
-fn faults_are_numbered(rt: HostRuntime) -> Result<(), Fail> {
-    let cases = [
-        (LoadFault::Truncated, "1 Truncated"),
-        (LoadFault::BadEntry, "10 BadEntry"),
-        (LoadFault::NoMemory, "11 NoMemory"),
-    ];
-    for (fault, want) in cases {
-        assert_eq!(rt; fault.to_string(rt.alloc())?.as_str(), want);
-    }
-    Ok(())
-}
-
 /// Whether two programs are the same.
 fn check_same(rt: &impl Abort, program: &Program, other: &Program, want: bool) {
     assert_eq!(rt; program.same(other), want);

@@ -1,8 +1,9 @@
 ghost use Rattle.std.specs.Prelude.{◌<◌};
 
 use directory::{Busy, DirEntry, Owner};
-use elf_samples::Breaking;
-use lines::{
+use disassembler::Symbols;
+use reference::Breaking;
+use render::{
     cached_text, directory_text, message_text, put_cached, put_directory, put_entry, put_message,
     put_registers, put_word, status_text,
 };
@@ -34,7 +35,7 @@ fn taken(alloc: Global) -> Taken {
 
 fn check_entry(rt: &(impl Abort + AllocGlobal), entry: Entry, want: &str) {
     let mut sink = taken(rt.alloc());
-    assert!(rt; put_entry(&entry, &mut sink).is_ok());
+    assert!(rt; put_entry(&Symbols::none(rt.alloc()), &entry, &mut sink).is_ok());
     assert_eq!(rt; sink.bytes.as_slice(), want.as_bytes());
 }
 
@@ -381,7 +382,16 @@ fn numbered() -> Regs {
 fn registers_stand_four_on_a_line(rt: HostRuntime) -> Result<(), Fail> {
     let mut sink = taken(rt.alloc());
     let regs = numbered();
-    assert!(rt; put_registers(&regs, Addr::new(0x1004), Status::Running, &mut sink).is_ok());
+    assert!(rt;
+        put_registers(
+            &Symbols::none(rt.alloc()),
+            &regs,
+            Addr::new(0x1004),
+            Status::Running,
+            &mut sink
+        )
+        .is_ok()
+    );
     assert_eq!(rt; sink.bytes.as_slice(), REGISTERS.as_bytes());
     assert_eq!(rt; status_text(Status::Exited(3)).as_str(), "exit 3");
     let stopped = Status::Stopped(Cause::OutsideTransaction, Addr::new(0x1004));
@@ -394,7 +404,13 @@ fn each_put_fails_in_turn(rt: HostRuntime) -> Result<(), Fail> {
     let regs = numbered();
     for left in 0..133 {
         let mut sink = Breaking::new(rt.alloc(), left);
-        let answer = put_registers(&regs, Addr::new(0x1004), Status::Running, &mut sink);
+        let answer = put_registers(
+            &Symbols::none(rt.alloc()),
+            &regs,
+            Addr::new(0x1004),
+            Status::Running,
+            &mut sink,
+        );
         assert!(rt; answer.is_err(), "{left}");
         assert_eq!(rt; sink.failed, 1, "{left}");
         assert!(rt; REGISTERS.as_bytes().starts_with(&sink.bytes), "{left}");

@@ -7,7 +7,7 @@ use Rattle.debugger.proofs.commands.harts.put_harts.Goals as goal
 
 pub returns-in_err-put_hart : goal.returns-in_err-put_hart
 returns-in_err-put_hart g c =
-    let line = line_of_hart (shown g.row.SETS c.args.machine.now) in
+    let line = line_of_hart c.args.names.now (shown g.row.SETS c.args.machine.now) in
     let inside : c.loop-number.number < (setting_of c.args.machine.now).count = omega (arith, c.harts-number-end.ensures.value) in
     record {
       text = flat_map line (range_with_len 0 (setting_of c.args.machine.now).count);
@@ -17,12 +17,12 @@ returns-in_err-put_hart g c =
 
 pub loop-number-preserved : goal.loop-number-preserved
 loop-number-preserved g c =
-    let line = line_of_hart (shown g.row.SETS c.args.machine.now) in
+    let line = line_of_hart c.args.names.now (shown g.row.SETS c.args.machine.now) in
     puts-one_first line c.loop-number.invariant (puts-same {r = Ok tt} (ap line c.new.ensures) c.in_ok-put_hart.ensures)
 
 pub returns : goal.returns
 returns g c =
-    let line = line_of_hart (shown g.row.SETS c.args.machine.now) in
+    let line = line_of_hart c.args.names.now (shown g.row.SETS c.args.machine.now) in
     let end : c.loop-number.number ≡ (setting_of c.args.machine.now).count = omega (arith, c.harts-number-end.ensures.value) in
     record {
       text = flat_map line (range_with_len 0 (setting_of c.args.machine.now).count);

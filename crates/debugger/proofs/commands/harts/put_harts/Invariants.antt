@@ -8,4 +8,4 @@ use Rattle.debugger.proofs.commands.harts.put_harts.Given as goal
 abbrev pub invariant-loop-number : goal.invariant-loop-number
 invariant-loop-number g l =
     Puts (g.S.Sink.state l.initial.sink) (g.S.Sink.state l.sink)
-    (flat_map (line_of_hart (shown g.row.SETS l.machine)) (range_with_len 0 l.number)) (Ok tt)
+    (flat_map (line_of_hart l.names (shown g.row.SETS l.machine)) (range_with_len 0 l.number)) (Ok tt)

@@ -4,7 +4,7 @@ use Rattle.debugger.proofs.commands.memory.put_instruction.Goals as goal
 
 pub returns : goal.returns
 returns g c = record {
-  text = line c.args.addr c.unwrap.result;
+  text = line c.args.names.now c.args.addr c.unwrap.result;
   is = rw (← c.text.ensures.value, ← c.word.ensures, c.unwrap.ensures) refl;
   puts = c.put_line.ensures;
 }

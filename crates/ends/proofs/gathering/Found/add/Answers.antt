@@ -1,8 +1,8 @@
 use Rattle.std.proofs.Common.{arith, sym, ap, subst, ◌∙◌}
 use Rattle.std.proofs.lemmas.Result.{on_ok_weaker}
 use Rattle.flat.specs.State.{Flat}
-use Rattle.endings.specs.Walks.{IsEnded}
-use Rattle.reports.specs.Reports.{AllReadable, report_of}
+use Rattle.isolation.specs.Walks.{IsEnded}
+use Rattle.render.specs.Reports.{AllReadable, report_of}
 use Rattle.ends.specs.Ends.{IsEndWith}
 use Rattle.ends.proofs.Gathered.{stands_there, among_same, among_more}
 use Rattle.ends.proofs.gathering.Found.add.Goals as goal

@@ -1,4 +1,4 @@
-use Rattle.std.proofs.Common.{◌≡◌, ◌∙◌, ◌/◌, ℕ, true, not, Some, ap, sym}
+use Rattle.std.proofs.Common.{◌≡◌, ◌∙◌, ◌/◌, ℕ, true, not, Some, ap, sym, subst}
 use Rattle.protocol.specs.Hart.{Hart, with_line}
 use Rattle.protocol.specs.Lines.{byte_in, line_used}
 use Rattle.protocol.specs.Core.{start_abort_row, retire_row, tx_used}
@@ -7,6 +7,8 @@ use Rattle.hart.specs.Parts.{Parts}
 use Rattle.hart.specs.Shown.{shown_line, shown_tx, running, shown_hart}
 use Rattle.hart.proofs.Logs.{runs}
 use Rattle.hart.proofs.Rows.{access-full, access-fits}
+use Rattle.hart.specs.Places.{KeepsWays}
+use Rattle.hart.proofs.Places.{none_moves}
 use Rattle.hart.proofs.hart.Hart.access_in_transaction.Goals as goal
 
 pub returns-then-not-log_line-clause-row : goal.returns-then-not-log_line-clause-row
@@ -31,3 +33,9 @@ returns-clause-row g c = λ output.
     ∙ ap (λ (i : ℕ). retire_row i view a.word a.effect.now (at (record h { tx = Some (tx_used a.m.now l t) }))) (sym c.log_line.ensures.stays.index)
     ∙ ap (λ k. retire_row c.log_line.new.self.index view a.word a.effect.now (at k)) (sym (c.log_line.ensures.ok c.if-not-log_line.false output))
     ∙ c.access_logged.ensures.row output
+
+pub returns-then-not-log_line-clause-ways : goal.returns-then-not-log_line-clause-ways
+returns-then-not-log_line-clause-ways g c = none_moves g.row.SETS c.args.self.now.cache c.start_abort.new.self.cache (c.start_abort.ensures.cache ∙ c.log_line.ensures.cache)
+
+pub returns-clause-ways : goal.returns-clause-ways
+returns-clause-ways g c = subst (λ sets. KeepsWays g.row.SETS sets c.access_logged.new.self.cache) c.log_line.ensures.cache c.access_logged.ensures.ways

@@ -1,8 +1,9 @@
-use Rattle.std.proofs.Common.{ℕ, ◌/◌, ◌∙◌, Some, ap, sym}
+use Rattle.std.proofs.Common.{ℕ, ◌/◌, ◌∙◌, Some, ap, sym, subst}
 use Rattle.protocol.specs.Hart.{with_line}
 use Rattle.protocol.specs.Lines.{byte_in, line_used}
 use Rattle.protocol.specs.Core.{retire_row}
 use Rattle.hart.specs.Shown.{shown_line, shown_hart}
+use Rattle.hart.specs.Places.{KeepsWays}
 use Rattle.hart.proofs.hart.Hart.access_logged.Goals as goal
 
 pub returns-clause-row : goal.returns-clause-row
@@ -13,3 +14,6 @@ returns-clause-row g c = λ output.
     ap (λ (i : ℕ). retire_row i view a.word a.effect.now h) (sym c.use_line.ensures.stays.index)
     ∙ ap (retire_row c.use_line.new.self.index view a.word a.effect.now) (sym (c.use_line.ensures.hart output))
     ∙ c.retire_access.ensures.row output
+
+pub returns-clause-ways : goal.returns-clause-ways
+returns-clause-ways g c = subst (KeepsWays g.row.SETS c.args.self.now.cache) (sym c.retire_access.ensures.cache) c.use_line.ensures.ways

@@ -1,8 +1,11 @@
-use Rattle.std.proofs.Common.{◌≡◌, ◌∙◌, ◌==◌, ◌-◌, ap, sym, cond, Some, None, true, false}
+use Rattle.std.proofs.Common.{◌≡◌, ◌∙◌, ◌==◌, ◌-◌, ap, sym, cond, Some, None, true, false, subst}
 use Rattle.hart.specs.Shown.{shown_tx, shown_hart}
 use Rattle.hart.proofs.Views.{parts}
 use Rattle.hart.proofs.Lines.{lines-cleared}
 use Rattle.hart.proofs.Rows.{commits-outer, commits-inner}
+use Rattle.hart.specs.Parts.{Parts}
+use Rattle.hart.specs.Places.{KeepsWays}
+use Rattle.hart.proofs.Places.{marks_cleared, none_moves}
 use Rattle.hart.proofs.hart.Hart.commit.Goals as goal
 
 pub returns-then-commit-clause-row : goal.returns-then-commit-clause-row
@@ -36,3 +39,13 @@ returns-clause-row g c = λ output.
     let less : shown_tx new ≡ Some (record t { depth = t.depth - 1 }) = (done.inside t e).1 ∙ ap (λ b. cond b None (Some (record t { depth = t.depth - 1 }))) more in
     (more, λ j. record h { tx = less j; kept_stamp = done.stamp j }))
     ∙ c.retire-2.ensures.row output)
+
+-- lines stay in their ways
+
+pub returns-then-commit-clause-ways : goal.returns-then-commit-clause-ways
+returns-then-commit-clause-ways g c =
+    subst (λ (p : Parts). KeepsWays g.row.SETS p.cache c.retire.new.self.cache) c.self.view_is
+    (subst (KeepsWays g.row.SETS c.self.inside.cache) (sym c.retire.ensures.cache) (marks_cleared g.row.SETS c.self.inside.cache c.clear_marks.new.self c.clear_marks.ensures.ways))
+
+pub returns-clause-ways : goal.returns-clause-ways
+returns-clause-ways g c = subst (λ (p : Parts). KeepsWays g.row.SETS p.cache c.retire-2.new.self.cache) c.self.view_is (none_moves g.row.SETS c.self.inside.cache c.retire-2.new.self.cache c.retire-2.ensures.cache)

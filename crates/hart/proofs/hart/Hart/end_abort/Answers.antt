@@ -1,4 +1,4 @@
-use Rattle.std.proofs.Common.{◌≡◌, ◌∙◌, Some, false, sym, ap}
+use Rattle.std.proofs.Common.{◌≡◌, ◌∙◌, Some, false, sym, ap, subst}
 use Rattle.std.proofs.lemmas.Option.{same_Some}
 use Rattle.words.specs.declared.entry.Entry.TheVariants.{Abort}
 use Rattle.flat.specs.Steps.{status_for}
@@ -10,6 +10,8 @@ use Rattle.hart.specs.Rows.{stepped}
 use Rattle.hart.proofs.Views.{parts}
 use Rattle.hart.proofs.Lines.{lines-cleared}
 use Rattle.hart.proofs.Logs.{shown-running}
+use Rattle.hart.specs.Places.{KeepsWays}
+use Rattle.hart.proofs.Places.{marks_cleared}
 use Rattle.hart.proofs.hart.Hart.end_abort.Goals as goal
 
 pub returns-clause-row : goal.returns-clause-row
@@ -43,3 +45,6 @@ returns-clause-row g c = λ output t cause is why.
       lines = lines j;
       fresh = false;
     })))
+
+pub returns-clause-ways : goal.returns-clause-ways
+returns-clause-ways g c = subst (λ (p : Parts). KeepsWays g.row.SETS p.cache c.clear_marks.new.self) c.self.view_is (marks_cleared g.row.SETS c.self.inside.cache c.clear_marks.new.self c.clear_marks.ensures.ways)

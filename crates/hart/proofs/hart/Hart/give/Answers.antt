@@ -10,6 +10,9 @@ use Rattle.protocol.specs.Hart.{with_line}
 use Rattle.hart.specs.Shown.{shown_line, shown_hart, lines_of}
 use Rattle.hart.proofs.Views.{parts}
 use Rattle.hart.proofs.Lines.{lines-set}
+use Rattle.hart.specs.Parts.{Parts}
+use Rattle.hart.specs.Places.{KeepsWays}
+use Rattle.hart.proofs.Places.{line_removed, line_replaced}
 use Rattle.hart.proofs.hart.Hart.give.Goals as goal
 
 -- the line is shared
@@ -42,3 +45,12 @@ returns-in-Write-clause-hart g c = λ output.
     let lines = lines-set (holds b) S old.cache c.invalidate.new.self b None c.invalidate.ensures.line in
     (λ j. record (shown_hart S output (parts old)) { lines = lines j })
     ∙ (λ j. with_line b (given j) (shown_hart S output (c.self.view_is j)))
+
+-- lines stay in their ways
+
+pub returns-in-Read-clause-ways : goal.returns-in-Read-clause-ways
+returns-in-Read-clause-ways g c = subst (λ (p : Parts). KeepsWays g.row.SETS p.cache c.replace.new.self) c.self.view_is (line_replaced g.row.SETS c.self.inside.cache c.replace.new.self _ c.replace.ensures.line)
+
+pub returns-in-Write-clause-ways : goal.returns-in-Write-clause-ways
+returns-in-Write-clause-ways g c =
+    subst (λ (p : Parts). KeepsWays g.row.SETS p.cache c.invalidate.new.self) c.self.view_is (line_removed g.row.SETS c.self.inside.cache c.invalidate.new.self c.args.block c.invalidate.ensures.line)

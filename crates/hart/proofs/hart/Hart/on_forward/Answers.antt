@@ -9,6 +9,7 @@ use Rattle.protocol.specs.HartMessages.{acknowledge_row}
 use Rattle.hart.specs.Parts.{Parts}
 use Rattle.hart.specs.Shown.{shown_line, shown_tx, shown_hart, lines_of}
 use Rattle.hart.proofs.Rows.{forward-refused, forward-met, acknowledged}
+use Rattle.hart.proofs.Places.{none_moves}
 use Rattle.hart.proofs.hart.Hart.on_forward.Goals as goal
 
 -- what the block's line answers, the hart answers
@@ -30,3 +31,6 @@ returns-clause-row g c = λ output.
     (of_line g.row.SETS a.self.now a.block a.kind c.line-line.result c.line-line.ensures.value ∙ sym c.refuses.ensures ∙ c.if-refuses.false)
     ∙ ap (λ i. acknowledge_row i a.block a.kind a.requester h) index
     ∙ acknowledged c.self.inside.index a.block a.kind a.requester h _ _ (c.give.ensures.hart output) (c.content_held-content.ensures output)
+
+pub returns-then-refuses-clause-ways : goal.returns-then-refuses-clause-ways
+returns-then-refuses-clause-ways g c = none_moves g.row.SETS c.args.self.now.cache c.refuse.new.self.cache c.refuse.ensures.cache

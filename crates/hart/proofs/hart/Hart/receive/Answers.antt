@@ -1,4 +1,4 @@
-use Rattle.std.proofs.Common.{◌∙◌, Option, Some, None, ap}
+use Rattle.std.proofs.Common.{◌∙◌, Option, Some, None, ap, subst, sym, refl}
 use Rattle.std.specs.Option.{option_map}
 use Rattle.cache.specs.Ways.{holds, is_free}
 use Rattle.protocol.specs.Lines.{Line, line_filled}
@@ -6,6 +6,10 @@ use Rattle.protocol.specs.Hart.{overflow_of, with_line}
 use Rattle.hart.specs.Shown.{shown_line, shown_tx, shown_hart}
 use Rattle.hart.proofs.Views.{parts}
 use Rattle.hart.proofs.Lines.{lines-set}
+use Rattle.hart.specs.Parts.{Parts}
+use Rattle.hart.specs.Places.{KeepsWays}
+use Rattle.hart.proofs.Places.{line_replaced, line_comes}
+use Rattle.cache.specs.Sets.{line_at}
 use Rattle.hart.proofs.hart.Hart.receive.Goals as goal
 
 pub returns-in-Some-clause-hart : goal.returns-in-Some-clause-hart
@@ -30,3 +34,13 @@ returns-in-None-clause-hart g c = λ output.
     let lines = lines-set is_free S old.cache c.fill.new.self a.block _ c.fill.ensures in
     (λ j. record (shown_hart S output (parts old)) { lines = lines j })
     ∙ (λ j. with_line a.block (filled j) (shown_hart S output (c.self.view_is j)))
+
+-- lines stay in their ways, and a new one gets the lowest free way
+
+pub returns-in-Some-clause-ways : goal.returns-in-Some-clause-ways
+returns-in-Some-clause-ways g c = subst (λ (p : Parts). KeepsWays g.row.SETS p.cache c.replace.new.self) c.self.view_is (line_replaced g.row.SETS c.self.inside.cache c.replace.new.self _ c.replace.ensures.line)
+
+pub returns-in-None-clause-ways : goal.returns-in-None-clause-ways
+returns-in-None-clause-ways g c =
+    subst (λ (p : Parts). KeepsWays g.row.SETS p.cache c.fill.new.self) c.self.view_is
+    (line_comes g.row.SETS c.self.inside.cache c.fill.new.self c.args.block _ (ap (λ (p : Parts). line_at g.row.SETS p.cache c.args.block) c.self.view_is ∙ sym c.in-None.ensures.value) refl c.fill.ensures)

@@ -1,4 +1,4 @@
-use Rattle.std.proofs.Common.{◌∙◌, ap, None}
+use Rattle.std.proofs.Common.{◌∙◌, ap, None, subst}
 use Rattle.std.specs.Option.{option_map}
 use Rattle.cache.specs.Ways.{holds}
 use Rattle.protocol.specs.Evict.{tx_spilled, without_line}
@@ -6,6 +6,8 @@ use Rattle.hart.specs.Parts.{Parts}
 use Rattle.hart.specs.Shown.{shown_line, shown_tx, shown_hart}
 use Rattle.hart.proofs.Views.{parts}
 use Rattle.hart.proofs.Lines.{lines-set}
+use Rattle.hart.specs.Places.{KeepsWays}
+use Rattle.hart.proofs.Places.{line_removed}
 use Rattle.hart.proofs.hart.Hart.remove.Goals as goal
 
 pub returns-clause-hart : goal.returns-clause-hart
@@ -17,3 +19,7 @@ returns-clause-hart g c = λ output.
     let lines = lines-set (holds line.block) S old.cache c.invalidate.new.self line.block None c.invalidate.ensures.line in
     (λ j. record (shown_hart S output (parts old)) { tx = tx j; kept_stamp = c.note_spill.ensures.stamp j; lines = lines j })
     ∙ ap (λ (p : Parts). without_line line.block (shown_line line) (shown_hart S output p)) c.self.view_is
+
+pub returns-clause-ways : goal.returns-clause-ways
+returns-clause-ways g c =
+    subst (λ (p : Parts). KeepsWays g.row.SETS p.cache c.invalidate.new.self) c.self.view_is (line_removed g.row.SETS c.self.inside.cache c.invalidate.new.self c.args.line.now.block c.invalidate.ensures.line)

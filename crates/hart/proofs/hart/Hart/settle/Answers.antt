@@ -8,6 +8,7 @@ use Rattle.hart.specs.Parts.{Parts}
 use Rattle.hart.specs.Shown.{shown_granted, shown_request, shown_hart}
 use Rattle.hart.proofs.Keeping.{is_out}
 use Rattle.hart.proofs.Rows.{ends-refused, ends-granted}
+use Rattle.hart.proofs.Places.{none_moves}
 use Rattle.hart.proofs.hart.Hart.settle.Goals as goal
 
 pub returns-then-request-clause-row : goal.returns-then-request-clause-row
@@ -32,3 +33,6 @@ returns-clause-row g c = λ output r is.
     ∙ ap (λ w. sends (Done c.args.self.now.index q.block true (content_back give q.content)) (with_line q.block (Some (line_filled give (overflow_of h.tx) w (h.lines q.block))) (record h { request = None; fresh = true }))) (sym c.unwrap_or-content.ensures)
     ∙ ap (λ w. sends (Done c.args.self.now.index q.block true w) (with_line q.block (Some (line_filled give (overflow_of h.tx) c.unwrap_or-content.result (h.lines q.block))) (record h { request = None; fresh = true }))) (sym c.content_back-back.ensures)
     ∙ c.end_granted.ensures.row output)
+
+pub returns-then-request-clause-ways : goal.returns-then-request-clause-ways
+returns-then-request-clause-ways g c = none_moves g.row.SETS c.args.self.now.cache c.end_refused.new.self.cache c.end_refused.ensures.cache

@@ -11,6 +11,8 @@ use Rattle.hart.proofs.Views.{parts}
 use Rattle.hart.proofs.Lines.{lines-set}
 use Rattle.hart.proofs.Logs.{rest-shown}
 use Rattle.hart.proofs.Rows.{undone}
+use Rattle.hart.specs.Places.{KeepsWays}
+use Rattle.hart.proofs.Places.{line_replaced}
 use Rattle.hart.proofs.hart.Hart.undo.Goals as goal
 
 pub returns-clause-row : goal.returns-clause-row
@@ -26,3 +28,6 @@ returns-clause-row g c = λ output t rest is this.
     let lines = lines-set (holds line.block) S old.cache c.replace.new.self line.block _ c.replace.ensures.line
     ∙ ap (λ b. put_at b (Some (line_undone r.before (shown_line line))) (lines_of S old.cache)) c.requires.block in
     rw (c.quiet.ensures, ← c.self.view_is) (undone t (shown_record r) rest (shown_line line) (shown_hart S output (parts old)) (shown_tx new) (kept_stamp new) (lines_of S c.replace.new.self) tx c.pop_record.ensures.stamp lines)
+
+pub returns-clause-ways : goal.returns-clause-ways
+returns-clause-ways g c = subst (λ (p : Parts). KeepsWays g.row.SETS p.cache c.replace.new.self) c.self.view_is (line_replaced g.row.SETS c.self.inside.cache c.replace.new.self _ c.replace.ensures.line)

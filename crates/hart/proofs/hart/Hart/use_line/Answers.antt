@@ -1,4 +1,4 @@
-use Rattle.std.proofs.Common.{◌≡◌, ◌/◌, ◌%◌, ◌∙◌, ℕ, Some, sym, ap}
+use Rattle.std.proofs.Common.{◌≡◌, ◌/◌, ◌%◌, ◌∙◌, ℕ, Some, sym, ap, subst, refl}
 use Rattle.flat.specs.Bytes.{put_at}
 use Rattle.protocol.specs.Lines.{line_used}
 use Rattle.cache.specs.Line.{put_into}
@@ -7,6 +7,8 @@ use Rattle.hart.specs.Parts.{Parts}
 use Rattle.hart.specs.Shown.{shown_line, shown_hart, lines_of}
 use Rattle.hart.proofs.Views.{parts}
 use Rattle.hart.proofs.Stores.{stores-line, loads-line, absent-before}
+use Rattle.hart.specs.Places.{KeepsWays}
+use Rattle.hart.proofs.Places.{line_put}
 use Rattle.hart.proofs.hart.Hart.use_line.Goals as goal
 
 -- a store
@@ -49,3 +51,13 @@ returns-in_default-clause-hart g c = λ output.
     c.marks_after-marks.ensures in
     ap (λ ls. record (shown_hart S output (parts c.self.inside)) { lines = ls }) lines
     ∙ ap (λ (p : Parts). record (shown_hart S output p) { lines = put_at (a.m.now.addr / 32) (Some (line_used a.in_transaction a.m.now (shown_line a.line.now))) (lines_of S p.cache) }) c.self.view_is
+
+-- lines stay in their ways
+
+pub returns-clause-ways : goal.returns-clause-ways
+returns-clause-ways g c =
+    subst (λ (p : Parts). KeepsWays g.row.SETS p.cache c.put_word.new.self) c.self.view_is (line_put g.row.SETS c.self.inside.cache c.put_word.new.self c.args.line.now.block _ (λ l. refl) c.put_word.ensures.line)
+
+pub returns-in_default-clause-ways : goal.returns-in_default-clause-ways
+returns-in_default-clause-ways g c =
+    subst (λ (p : Parts). KeepsWays g.row.SETS p.cache c.mark.new.self) c.self.view_is (line_put g.row.SETS c.self.inside.cache c.mark.new.self c.args.line.now.block _ (λ l. refl) c.mark.ensures.line)

@@ -1,12 +1,11 @@
-use Rattle.std.proofs.Common.{◌≡◌, ◌≤◌, arith, length, None, Some, refl, sym, ap, subst}
+use Rattle.std.proofs.Common.{◌≡◌, ◌≤◌, arith, length, None, Some, refl, sym, ap, subst, subst₂}
 use Rattle.std.specs.Prelude.{slice_set, option_to_list, IfNone}
 use Rattle.std.specs.Option.{option_map}
 use Rattle.words.specs.declared.entry.Step.TheVariants.{Core}
 use Rattle.protocol.specs.Messages.{shown as shown_message}
-use Rattle.protocol.specs.Network.{Sends}
-use Rattle.protocol.specs.Machine.{Steps}
-use Rattle.machine.specs.Mail.{in_flight}
-use Rattle.machine.specs.States.{State, shown, geometry, IsSound}
+use Rattle.machine.specs.Making.{MakesStep}
+use Rattle.machine.specs.Mail.{SendsOn, mail_of}
+use Rattle.machine.specs.States.{State, geometry, IsSound}
 use Rattle.machine.proofs.Acting.{Acts, rests_still}
 use Rattle.machine.proofs.Cores.{MakesOf, core_makes, core_rests, core_of_none}
 use Rattle.machine.proofs.machine.Machine.core.Given.{Over}
@@ -29,7 +28,7 @@ abbrev after : (g : Over) (c : goal.After-send g) → State
 after g c = record (before g c) { seats = slice_set (before g c).seats c.index-i.result c.core_step.new.self; flights = c.send.new.net.slots; sent = c.send.new.net.next; stamps = c.stamps_after-self-inside.result }
 
 makes : (g : Over) (c : goal.After-send g)
-    → Steps (geometry g.row.SETS g.row.WAYS) (shown g.row.SETS (before g c)) (Core c.index-i.result) c.in-Some.made.entry (shown g.row.SETS (after g c)) × IsSound g.row.SETS g.row.WAYS (after g c)
+    → MakesStep (geometry g.row.SETS g.row.WAYS) (before g c) (Core c.index-i.result) c.in-Some.made.entry (after g c) × IsSound g.row.SETS g.row.WAYS (after g c)
 makes g c =
     let acts : Acts c.index-i.result (before g c) (after g c) c.index_mut.result.now c.core_step.new.self = record {
       number = omega (arith, c.len.ensures, c.if-i-len.false);
@@ -42,17 +41,17 @@ makes g c =
     let row : MakesOf g.row.SETS (before g c).program.segments (before g c).stamps c.index_mut.result.now c.core_step.new.self (Some c.in-Some.made) =
     subst (λ made. MakesOf g.row.SETS (before g c).program.segments (before g c).stamps c.index_mut.result.now c.core_step.new.self made) c.in-Some.is
     (subst (λ segments. MakesOf g.row.SETS segments (before g c).stamps c.index_mut.result.now c.core_step.new.self c.in_ok-core_step.field-0) c.text.ensures c.in_ok-core_step.ensures.row) in
-    core_makes g.row.SETS g.row.WAYS c.index-i.result (before g c) (after g c) c.index_mut.result.now c.core_step.new.self c.self.invariant acts c.in-Some.made c.in_ok-core_step.ensures.victim row
+    core_makes g.row.SETS g.row.WAYS c.index-i.result (before g c) (after g c) c.index_mut.result.now c.core_step.new.self c.self.invariant acts c.in-Some.made c.in_ok-core_step.ensures.victim c.core_step.ensures.ways row
     c.stamps_after-self-inside.ensures
-    (subst (λ f. Sends (in_flight f) (option_to_list (option_map shown_message c.in-Some.made.message)) (in_flight (after g c).flights)) c.reserve.ensures.same c.send.ensures.sends)
+    (subst₂ (λ f n. SendsOn (mail_of f) n (option_to_list (option_map shown_message c.in-Some.made.message)) (mail_of (after g c).flights) (after g c).sent) c.reserve.ensures.same c.reserve.ensures.number c.send.ensures)
 
 pub invariant_of-self-in-Some : goal.invariant_of-self-in-Some
 invariant_of-self-in-Some g c = (makes g c).1
 
 pub returns-in-Some-clause-steps : goal.returns-in-Some-clause-steps
 returns-in-Some-clause-steps g c =
-    subst (λ m. Steps (geometry g.row.SETS g.row.WAYS) (shown g.row.SETS m) (Core c.args.id) c.in-Some.made.entry (shown g.row.SETS (after g c))) c.self.view_is
-    (subst (λ n. Steps (geometry g.row.SETS g.row.WAYS) (shown g.row.SETS (before g c)) (Core n) c.in-Some.made.entry (shown g.row.SETS (after g c))) c.index-i.ensures.value (makes g c).0)
+    subst (λ m. MakesStep (geometry g.row.SETS g.row.WAYS) m (Core c.args.id) c.in-Some.made.entry (after g c)) c.self.view_is
+    (subst (λ n. MakesStep (geometry g.row.SETS g.row.WAYS) (before g c) (Core n) c.in-Some.made.entry (after g c)) c.index-i.ensures.value (makes g c).0)
 
 -- No step is enabled
 
@@ -87,7 +86,7 @@ returns-in-None-clause-steps g c =
     let row : MakesOf g.row.SETS (still g c).program.segments (still g c).stamps c.index_mut.result.now c.core_step.new.self None =
     subst (λ made. MakesOf g.row.SETS (still g c).program.segments (still g c).stamps c.index_mut.result.now c.core_step.new.self made) c.in-None.is
     (subst (λ segments. MakesOf g.row.SETS segments (still g c).stamps c.index_mut.result.now c.core_step.new.self c.in_ok-core_step.field-0) c.text.ensures c.in_ok-core_step.ensures.row) in
-    subst (λ m. Steps (geometry g.row.SETS g.row.WAYS) (shown g.row.SETS m) (Core c.args.id) None (shown g.row.SETS (left g c))) c.self.view_is
-    (subst (λ n. Steps (geometry g.row.SETS g.row.WAYS) (shown g.row.SETS (still g c)) (Core n) None (shown g.row.SETS (left g c))) c.index-i.ensures.value
-    (subst (λ m. Steps (geometry g.row.SETS g.row.WAYS) (shown g.row.SETS (still g c)) (Core c.index-i.result) None (shown g.row.SETS m)) (sym (stays g c))
+    subst (λ m. MakesStep (geometry g.row.SETS g.row.WAYS) m (Core c.args.id) None (left g c)) c.self.view_is
+    (subst (λ n. MakesStep (geometry g.row.SETS g.row.WAYS) (still g c) (Core n) None (left g c)) c.index-i.ensures.value
+    (subst (λ m. MakesStep (geometry g.row.SETS g.row.WAYS) (still g c) (Core c.index-i.result) None m) (sym (stays g c))
     (core_rests g.row.SETS g.row.WAYS c.index-i.result (still g c) (left g c) c.index_mut.result.now c.core_step.new.self c.self.invariant (acts_none g c) c.in_ok-core_step.ensures.victim row)))

@@ -1,13 +1,13 @@
-use Rattle.std.proofs.Common.{◌≡◌, Some, None, sym, ap, refl, subst, ◌∙◌}
+use Rattle.std.proofs.Common.{◌≡◌, Some, None, sym, ap, refl, subst, subst₂, ◌∙◌}
 use Rattle.std.specs.Option.{option_map}
 use Rattle.words.specs.declared.entry.Step.TheVariants.{Deliver}
+use Rattle.flat.specs.Bytes.{put_at}
 use Rattle.protocol.specs.Messages.{shown as shown_message, block_of, receiver_of}
-use Rattle.protocol.specs.Network.{Sends, taken}
-use Rattle.protocol.specs.Machine.{Steps}
+use Rattle.machine.specs.Making.{MakesStep}
 use Rattle.directory.specs.Blocks.{row_of, Answers}
 use Rattle.directory.specs.Sends.{messages_in}
-use Rattle.machine.specs.Mail.{in_flight}
-use Rattle.machine.specs.States.{State, shown, geometry, IsSound}
+use Rattle.machine.specs.Mail.{SendsOn, in_flight, mail_of}
+use Rattle.machine.specs.States.{State, geometry, IsSound}
 use Rattle.machine.proofs.Deliveries.{goes_to}
 use Rattle.machine.proofs.Served.{block_inside, sender_inside, held, follows}
 use Rattle.machine.proofs.machine.Machine.deliver_to_directory.Given.{Over}
@@ -34,21 +34,23 @@ here : (g : Over) (c : goal.After-send_answer g) → in_flight (before g c).flig
 here g c = ap (λ f. in_flight f c.args.key) (sym c.in_ok-reserve.ensures.same) ∙ ap (option_map shown_message) (sym c.in-Some.ensures)
 
 serves : (g : Over) (c : goal.After-send_answer g)
-    → Steps (geometry g.row.SETS g.row.WAYS) (shown g.row.SETS (before g c)) (Deliver c.args.key) None (shown g.row.SETS (after g c)) × IsSound g.row.SETS g.row.WAYS (after g c)
+    → MakesStep (geometry g.row.SETS g.row.WAYS) (before g c) (Deliver c.args.key) None (after g c) × IsSound g.row.SETS g.row.WAYS (after g c)
 serves g c =
     follows g.row.SETS g.row.WAYS c.args.key (before g c) (after g c) c.in-Some.message.now c.in-Some-2.answer c.self.invariant
     (here g c) (goes_to _ _ _ (here g c) (ap (λ (m : State). option_map receiver_of (in_flight m.flights c.args.key)) c.self.view_is ∙ c.requires))
     (subst (λ r. Answers r (row_of (before g c).directory (shown_message c.in-Some.message.now)) (block_of (shown_message c.in-Some.message.now)) (before g c).directory (after g c).directory) c.in-Some-2.is c.in_ok-serve.ensures.ok)
     refl refl refl
-    (subst (λ f. Sends (taken c.args.key (in_flight f)) (messages_in c.self.inside.directory.harts c.in-Some-2.answer) (in_flight (after g c).flights)) c.in_ok-reserve.ensures.same
-    (subst (λ n. Sends n (messages_in c.self.inside.directory.harts c.in-Some-2.answer) (in_flight (after g c).flights)) c.take.ensures.flight
-    (subst (λ h. Sends (in_flight c.take.new.net.slots) (messages_in h c.in-Some-2.answer) (in_flight (after g c).flights)) (c.harts.ensures.value ∙ c.serve.ensures.harts) c.send_answer.ensures.sends)))
+    (subst₂ (λ f n. SendsOn (put_at c.args.key None (mail_of f)) n (messages_in c.self.inside.directory.harts c.in-Some-2.answer) (mail_of (after g c).flights) (after g c).sent)
+    c.in_ok-reserve.ensures.same c.in_ok-reserve.ensures.number
+    (subst₂ (λ mail n. SendsOn mail n (messages_in c.self.inside.directory.harts c.in-Some-2.answer) (mail_of (after g c).flights) (after g c).sent) c.take.ensures.mail c.take.ensures.number
+    (subst (λ h. SendsOn (mail_of c.take.new.net.slots) c.take.new.net.next (messages_in h c.in-Some-2.answer) (mail_of (after g c).flights) (after g c).sent) (c.harts.ensures.value ∙ c.serve.ensures.harts)
+    c.send_answer.ensures)))
 
 pub invariant_of-self-in-Some-2 : goal.invariant_of-self-in-Some-2
 invariant_of-self-in-Some-2 g c = (serves g c).1
 
 pub returns-in-Some-2-clause-steps : goal.returns-in-Some-2-clause-steps
-returns-in-Some-2-clause-steps g c = subst (λ m. Steps (geometry g.row.SETS g.row.WAYS) (shown g.row.SETS m) (Deliver c.args.key) None (shown g.row.SETS (after g c))) c.self.view_is (serves g c).0
+returns-in-Some-2-clause-steps g c = subst (λ m. MakesStep (geometry g.row.SETS g.row.WAYS) m (Deliver c.args.key) None (after g c)) c.self.view_is (serves g c).0
 
 -- or of one that is held
 pub returns-in-None-clause-steps : goal.returns-in-None-clause-steps
@@ -59,6 +61,6 @@ returns-in-None-clause-steps g c =
     let follows : Answers None (row_of v.directory (shown_message c.in-Some.message.now)) (block_of (shown_message c.in-Some.message.now)) v.directory w.directory =
     subst (λ r. Answers r (row_of v.directory (shown_message c.in-Some.message.now)) (block_of (shown_message c.in-Some.message.now)) v.directory w.directory) c.in-None.is c.in_ok-serve.ensures.ok in
     let same : w ≡ v = λ k. record v { directory = follows.1 k; flights = c.in_ok-reserve.ensures.same k; sent = c.in_ok-reserve.ensures.number k } in
-    subst (λ m. Steps (geometry g.row.SETS g.row.WAYS) (shown g.row.SETS m) (Deliver c.args.key) None (shown g.row.SETS w)) c.self.view_is
-    (subst (λ m. Steps (geometry g.row.SETS g.row.WAYS) (shown g.row.SETS v) (Deliver c.args.key) None (shown g.row.SETS m)) (sym same)
+    subst (λ m. MakesStep (geometry g.row.SETS g.row.WAYS) m (Deliver c.args.key) None w) c.self.view_is
+    (subst (λ m. MakesStep (geometry g.row.SETS g.row.WAYS) v (Deliver c.args.key) None m) (sym same)
     (held g.row.SETS g.row.WAYS c.args.key v c.in-Some.message.now w.directory c.self.invariant at (goes_to _ _ _ at (ap (λ (m : State). option_map receiver_of (in_flight m.flights c.args.key)) c.self.view_is ∙ c.requires)) follows))

@@ -1,15 +1,15 @@
-use Rattle.std.proofs.Common.{◌≡◌, ◌<◌, ◌≤◌, arith, length, None, get_or, refl, sym, ap, subst}
+use Rattle.std.proofs.Common.{◌≡◌, ◌<◌, ◌≤◌, arith, length, None, get_or, refl, sym, ap, subst, subst₂}
 use Rattle.std.specs.Prelude.{slice_set}
 use Rattle.words.specs.declared.entry.Step.TheVariants.{Evict}
-use Rattle.protocol.specs.Machine.{Steps}
-use Rattle.machine.specs.States.{State, Seat, shown, geometry, IsSound}
+use Rattle.machine.specs.Making.{MakesStep}
+use Rattle.machine.specs.States.{State, Seat, geometry, IsSound}
 use Rattle.machine.proofs.Acting.{Acts, rests_still}
 use Rattle.machine.proofs.Steps.{of_none, evicts, evicts_nothing}
 use Rattle.std.specs.Prelude.{option_to_list}
 use Rattle.std.specs.Option.{option_map}
-use Rattle.protocol.specs.Network.{Sends}
 use Rattle.protocol.specs.Messages.{shown as shown_message}
-use Rattle.machine.specs.Mail.{in_flight}
+use Rattle.machine.specs.Mail.{SendsOn, mail_of}
+use Rattle.machine.proofs.Staying.{seats_stay}
 use Rattle.machine.proofs.machine.Machine.evict.Given.{Over}
 use Rattle.machine.proofs.machine.Machine.evict.Goals as goal
 
@@ -18,7 +18,7 @@ returns-then-i-len-clause-steps g c =
     let v : State = c.args.self.now in
     let count : length c.self.inside.seats.items ≡ length v.seats = ap (λ (m : State). length m.seats) c.self.view_is in
     let past : length v.seats ≤ c.args.id = omega (arith, c.len.ensures, c.index-i.ensures.value, c.if-i-len.true, count) in
-    (λ b. None, tt {0}, of_none c.args.id (shown g.row.SETS v) _ past)
+    record { may = tt {0}; made = of_none g.row.SETS c.args.id v _ past; ways = seats_stay g.row.SETS v v refl }
 
 -- the machine before and after, and the seat
 abbrev before : (g : Over) (c : goal.After-send g) → State
@@ -34,7 +34,7 @@ abbrev after : (g : Over) (c : goal.After-send g) → State
 after g c = record (before g c) { seats = slice_set (before g c).seats c.index-i.result (new_seat g c); flights = c.send.new.net.slots; sent = c.send.new.net.next }
 
 -- the line is given up
-gives_up : (g : Over) (c : goal.After-send g) → Steps (geometry g.row.SETS g.row.WAYS) (shown g.row.SETS (before g c)) (Evict c.index-i.result c.args.block) c.in-Some.reply.entry (shown g.row.SETS (after g c)) × IsSound g.row.SETS g.row.WAYS (after g c)
+gives_up : (g : Over) (c : goal.After-send g) → MakesStep (geometry g.row.SETS g.row.WAYS) (before g c) (Evict c.index-i.result c.args.block) c.in-Some.reply.entry (after g c) × IsSound g.row.SETS g.row.WAYS (after g c)
 gives_up g c =
     let acts : Acts c.index-i.result (before g c) (after g c) (old_seat g c) (new_seat g c) = record {
       number = omega (arith, c.len.ensures, c.if-i-len.false);
@@ -44,16 +44,16 @@ gives_up g c =
       directory = refl;
       stays = c.evict.ensures.stays;
     } in
-    evicts g.row.SETS g.row.WAYS c.index-i.result c.args.block (before g c) (after g c) (old_seat g c) (new_seat g c) c.in-Some.reply c.self.invariant acts refl refl c.in-Some.ensures.row
-    (subst (λ f. Sends (in_flight f) (option_to_list (option_map shown_message c.in-Some.reply.message)) (in_flight (after g c).flights)) c.reserve.ensures.same c.send.ensures.sends)
+    evicts g.row.SETS g.row.WAYS c.index-i.result c.args.block (before g c) (after g c) (old_seat g c) (new_seat g c) c.in-Some.reply c.self.invariant acts refl refl c.evict.ensures.ways c.in-Some.ensures.row
+    (subst₂ (λ f n. SendsOn (mail_of f) n (option_to_list (option_map shown_message c.in-Some.reply.message)) (mail_of (after g c).flights) (after g c).sent) c.reserve.ensures.same c.reserve.ensures.number c.send.ensures)
 
 pub invariant_of-self-in-Some : goal.invariant_of-self-in-Some
 invariant_of-self-in-Some g c = (gives_up g c).1
 
 pub returns-in-Some-clause-steps : goal.returns-in-Some-clause-steps
 returns-in-Some-clause-steps g c =
-    subst (λ m. Steps (geometry g.row.SETS g.row.WAYS) (shown g.row.SETS m) (Evict c.args.id c.args.block) c.in-Some.reply.entry (shown g.row.SETS (after g c))) c.self.view_is
-    (subst (λ n. Steps (geometry g.row.SETS g.row.WAYS) (shown g.row.SETS (before g c)) (Evict n c.args.block) c.in-Some.reply.entry (shown g.row.SETS (after g c))) c.index-i.ensures.value (gives_up g c).0)
+    subst (λ m. MakesStep (geometry g.row.SETS g.row.WAYS) m (Evict c.args.id c.args.block) c.in-Some.reply.entry (after g c)) c.self.view_is
+    (subst (λ n. MakesStep (geometry g.row.SETS g.row.WAYS) (before g c) (Evict n c.args.block) c.in-Some.reply.entry (after g c)) c.index-i.ensures.value (gives_up g c).0)
 
 -- no line is given up
 pub returns-in-None-clause-steps : goal.returns-in-None-clause-steps
@@ -67,7 +67,7 @@ returns-in-None-clause-steps g c =
     let same : new ≡ old = λ k. record old { hart = c.in-None.ensures.none k } in
     let acts : Acts c.index-i.result v w old new = record { number = lt; before = at; after = refl; program = refl; directory = refl; stays = c.evict.ensures.stays } in
     let rests : w ≡ v = rests_still c.index-i.result v w old new acts same c.reserve.ensures.same c.reserve.ensures.number refl in
-    subst (λ m. Steps (geometry g.row.SETS g.row.WAYS) (shown g.row.SETS m) (Evict c.args.id c.args.block) None (shown g.row.SETS w)) c.self.view_is
-    (subst (λ n. Steps (geometry g.row.SETS g.row.WAYS) (shown g.row.SETS v) (Evict n c.args.block) None (shown g.row.SETS w)) c.index-i.ensures.value
-    (subst (λ m. Steps (geometry g.row.SETS g.row.WAYS) (shown g.row.SETS v) (Evict c.index-i.result c.args.block) None (shown g.row.SETS m)) (sym rests)
+    subst (λ m. MakesStep (geometry g.row.SETS g.row.WAYS) m (Evict c.args.id c.args.block) None w) c.self.view_is
+    (subst (λ n. MakesStep (geometry g.row.SETS g.row.WAYS) v (Evict n c.args.block) None w) c.index-i.ensures.value
+    (subst (λ m. MakesStep (geometry g.row.SETS g.row.WAYS) v (Evict c.index-i.result c.args.block) None m) (sym rests)
     (evicts_nothing g.row.SETS g.row.WAYS c.index-i.result c.args.block v w old new c.self.invariant acts c.in-None.ensures.row)))

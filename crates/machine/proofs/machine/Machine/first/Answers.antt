@@ -3,7 +3,7 @@ use Rattle.words.specs.Limits.{block_bytes}
 use Rattle.table.specs.Program.{image_at}
 use Rattle.flat.specs.State.{Setting}
 use Rattle.flat.specs.Boots.{booted}
-use Rattle.boot.specs.Memory.{mem_of}
+use Rattle.loader.specs.Memory.{mem_of}
 use Rattle.protocol.specs.Start.{start}
 use Rattle.isolation.specs.Belongs.{Belongs}
 use Rattle.isolation.proofs.Belongs.Belonging.{belongs_start}

@@ -1,6 +1,6 @@
 use Rattle.std.proofs.Common.{◌≡◌, ◌<◌, ℕ, arith, Some, length, sym, ap, subst, ◌∙◌}
 use Rattle.std.proofs.lemmas.Option.{slice_get_within}
-use Rattle.endings.specs.Walks.{IsEnded}
+use Rattle.isolation.specs.Walks.{IsEnded}
 use Rattle.outcomes.specs.Searches.{flat_at, IsEnd}
 use Rattle.outcomes.proofs.Pooled.{stands}
 use Rattle.outcomes.proofs.Searched.{one_there}

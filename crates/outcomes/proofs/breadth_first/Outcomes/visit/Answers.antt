@@ -1,7 +1,7 @@
 use Rattle.std.proofs.Common.{◌≡◌, refl, sym, ap, subst, ◌∙◌}
 use Rattle.std.proofs.lemmas.Option.{slice_get_within}
 use Rattle.std.proofs.lemmas.Result.{IfOk-weaker, on_ok_weaker}
-use Rattle.endings.specs.Moves.{MovesInOrder}
+use Rattle.isolation.specs.Moves.{MovesInOrder}
 use Rattle.outcomes.specs.declared.breadth_first.Outcomes.{Outcomes}
 use Rattle.outcomes.specs.declared.pool.State.{State}
 use Rattle.outcomes.specs.Turns.{after, entries_of}

@@ -4,7 +4,7 @@ use Rattle.words.specs.declared.entry.Entry.{Entry}
 use Rattle.words.specs.declared.entry.Entry.TheVariants.{Abort}
 use Rattle.flat.specs.State.{Flat}
 use Rattle.flat.specs.Steps.{hart_of}
-use Rattle.endings.specs.Moves.{MovesBy, MoveTogether}
+use Rattle.isolation.specs.Moves.{MovesBy, MoveTogether}
 use Rattle.outcomes.specs.Standings.{flat_of}
 use Rattle.outcomes.specs.Turns.{Has, Adds}
 use Rattle.outcomes.proofs.standing.Standing.all_turns.Given as goal

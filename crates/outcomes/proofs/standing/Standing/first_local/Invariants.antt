@@ -1,5 +1,5 @@
 use Rattle.std.proofs.Common.{◌<◌, ℕ}
-use Rattle.endings.specs.Moves.{IsLocal}
+use Rattle.isolation.specs.Moves.{IsLocal}
 use Rattle.outcomes.specs.Standings.{flat_of}
 use Rattle.outcomes.proofs.standing.Standing.first_local.Given as goal
 

@@ -2,7 +2,7 @@ use Rattle.std.proofs.Common.{◌≡◌, ◌≢◌, ◌<◌, ℕ, arith, [], ◌
 use Rattle.words.specs.declared.cause.AbortCause.TheVariants.{Conflict}
 use Rattle.words.specs.declared.entry.Entry.TheVariants.{Abort}
 use Rattle.flat.specs.State.{Flat, FlatHart}
-use Rattle.endings.specs.Moves.{MayGiveWay}
+use Rattle.isolation.specs.Moves.{MayGiveWay}
 use Rattle.outcomes.specs.Standings.{flat_of, changed}
 use Rattle.outcomes.specs.Turns.{IsBack}
 use Rattle.outcomes.proofs.Changed.{of_some, back_there, aborts_so, changed_elsewhere}

@@ -2,7 +2,7 @@ use Rattle.std.proofs.Common.{◌<◌, ℕ, [], ◌∷◌}
 use Rattle.words.specs.declared.cause.AbortCause.TheVariants.{Conflict}
 use Rattle.words.specs.declared.entry.Entry.TheVariants.{Abort}
 use Rattle.flat.specs.State.{Flat}
-use Rattle.endings.specs.Moves.{MoveTogether}
+use Rattle.isolation.specs.Moves.{MoveTogether}
 use Rattle.outcomes.specs.Standings.{flat_of}
 use Rattle.outcomes.specs.Turns.{Has, Adds}
 use Rattle.outcomes.proofs.standing.Standing.push_moves_with.Given as goal

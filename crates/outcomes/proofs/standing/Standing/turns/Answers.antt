@@ -1,7 +1,7 @@
 use Rattle.std.proofs.Common.{◌≡◌, ◌++◌, ℕ, List, sym, ap, subst, ◌∙◌}
 use Rattle.std.specs.Prelude.{option_to_list}
 use Rattle.std.proofs.lemmas.Result.{IfOk-weaker}
-use Rattle.endings.specs.Moves.{IsFirstLocal}
+use Rattle.isolation.specs.Moves.{IsFirstLocal}
 use Rattle.outcomes.specs.declared.change.Turn.{Turn}
 use Rattle.outcomes.specs.Standings.{flat_of}
 use Rattle.outcomes.proofs.Turned.{first_there}

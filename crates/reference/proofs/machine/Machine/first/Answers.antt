@@ -3,7 +3,7 @@ use Rattle.std.specs.Prelude.{vec_len, nat_lt}
 use Rattle.flat.specs.State.{idle}
 use Rattle.flat.specs.Start.{first_hart}
 use Rattle.reference.specs.declared.machine.Machine.{Machine}
-use Rattle.boot.proofs.Segments.{all_end_by}
+use Rattle.loader.proofs.Segments.{all_end_by}
 use Rattle.reference.proofs.Booted.{begins}
 use Rattle.reference.proofs.machine.Machine.first.Goals as goal
 

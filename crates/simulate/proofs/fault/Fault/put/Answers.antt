@@ -3,6 +3,9 @@ use Rattle.simulate.specs.Faults.{fault_text}
 use Rattle.texts.proofs.Putting.{puts-same}
 use Rattle.simulate.proofs.fault.Fault.put.Goals as goal
 
+pub returns-in-Value : goal.returns-in-Value
+returns-in-Value g c = puts-same (sym (ap fault_text c.in-Value.is)) (rw (← c.hint.ensures) c.put_value.ensures)
+
 pub returns-in-Load : goal.returns-in-Load
 returns-in-Load g c = puts-same (sym (ap fault_text c.in-Load.is)) (rw (← c.number.ensures, ← c.name.ensures) c.put_refusal.ensures)
 

@@ -1,8 +1,0 @@
-use Rattle.endings.proofs.Walked.{order_walks, walk_runs}
-use Rattle.endings.proofs.laws.walks_are_runs.Goals as goal
-
-pub returns-clause-order : goal.returns-clause-order
-returns-clause-order c = order_walks
-
-pub returns-clause-run : goal.returns-clause-run
-returns-clause-run c = walk_runs

@@ -1,2 +1,0 @@
-//! The protocol at one block.
-#![tactic(auto)]

@@ -1,0 +1,7 @@
+mod Below
+mod Blocks
+mod Lists
+mod Naming
+mod Slots
+mod Staying
+mod Telling

@@ -1,0 +1,25 @@
+//! That the lines of a page tell all that changes.
+ghost use Rattle.std.specs.Prelude.{ℕ, ◌≡◌, ◌<◌, ◌≤◌, Option, Some, IsSome};
+ghost use Rattle.words.specs.declared.entry.Entry.{Entry};
+ghost use Rattle.words.specs.declared.entry.Step.{Step};
+ghost use Rattle.flat.specs.State.{Flat};
+ghost use Rattle.protocol.specs.Caches.{Geometry};
+ghost use Rattle.protocol.specs.Lines.{Line};
+ghost use Rattle.directory.specs.Blocks.{kept_at};
+ghost use Rattle.isolation.specs.Belongs.{Belongs};
+ghost use Rattle.machine.specs.States.{State, setting_of, shown};
+ghost use Rattle.schedule.specs.Runs.{Makes};
+ghost use Rattle.pages.specs.Told.{ChangesWhatIsTold};
+
+/// What the line of a moment doesn't tell is as it was before. (No more messages were sent before than a u64 counts.)
+pub fn what_is_not_told_stays()
+    ensures { (g : Geometry) (v w : State) (step : Step) (e : Option Entry) → v.sent ≤ 18446744073709551615 → Makes g v (Some step) e w → ChangesWhatIsTold g.sets v step w }
+{}
+
+/// A line that tells of a hart tells all lines of its cache: the directory has an entry of the block of each.
+pub fn all_lines_are_told()
+    ensures { (g : Geometry) (f : Flat) (m : State) (i b : ℕ) (l : Line) → Belongs g f (shown g.sets m) → i < (setting_of m).count →
+        ((shown g.sets m).harts i).lines b ≡ Some l → IsSome (kept_at m.directory b) }
+{
+    isolation::lines_agree();
+}

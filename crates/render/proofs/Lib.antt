@@ -1,0 +1,4 @@
+pub mod Addresses
+pub mod Members
+pub mod Reading
+pub mod Reported

@@ -1,0 +1,7 @@
+pub mod Parts
+pub mod Entries
+pub mod Blocks
+pub mod Messages
+pub mod Registers
+pub mod Reports
+pub mod Statuses

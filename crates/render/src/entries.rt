@@ -1,0 +1,202 @@
+ghost use Rattle.std.specs.Prelude.{◌≡◌, ◌≤◌, ◌+◌, ◌++◌, [], length, codes, decimal};
+ghost use Rattle.words.specs.declared.entry.Entry.TheVariants.{Retire, Abort, Trap, Refuse, Spill};
+ghost use Rattle.texts.specs.Puts.{Puts};
+ghost use Rattle.texts.specs.Numerals.{hexadecimal};
+ghost use Rattle.disassembler.specs.Canonical.{canonical};
+ghost use Rattle.disassembler.specs.Labels.{label};
+ghost use Rattle.disassembler.specs.Tables.{no_symbols};
+ghost use Rattle.render.specs.Entries as spec;
+ghost use Rattle.render.specs.Entries.{entry_line};
+
+use crate::parts::{first_byte, hart_digit};
+use arrayvec::ArrayString;
+use disassembler::{Symbols, add_text, register_name};
+use itoa::Buffer;
+use table::byte_count;
+use texts::{Line, put_all};
+use words::{AbortCause, Access, Addr, BlockNo, Cause, Entry, HartId, Reg, Sink, SinkFault};
+
+/// A line of an entry: none is longer than 260 bytes.
+type EntryLine = Line<260>;
+
+/// Puts the line of an entry. Behind its pc the name stands, if it has one.
+pub fn put_entry<S: Sink>(names: &Symbols<'_>, entry: &Entry, sink: &mut S) -> Result<(), SinkFault>
+    ensures { Puts (S.state sink.old) (S.state sink.new) (entry_line names.now entry.now) result }
+{
+    let mut line = EntryLine::new();
+    write_entry(names, entry, &mut line);
+    put_all(sink, &[line.as_bytes()])
+}
+
+/// Writes the line of an entry into an empty one.
+fn write_entry(names: &Symbols<'_>, entry: &Entry, line: &mut EntryLine)
+    requires { line.old ≡ [] }
+    ensures { line.new ≡ entry_line names.now entry.now }
+{
+    match *entry {
+        Entry::Retire {
+            hart,
+            pc,
+            word,
+            write,
+            load,
+            store,
+        } => write_retired(names, hart, pc, word, write, load, store, line),
+        Entry::Abort { hart, cause } => write_aborted(hart, cause, line),
+        Entry::Trap { hart, cause, pc } => write_trapped(names, hart, cause, pc, line),
+        Entry::Refuse {
+            hart,
+            requester,
+            block,
+        } => write_refused(hart, requester, block, line),
+        Entry::Spill { hart, block } => write_spilled(hart, block, line),
+    }
+}
+
+fn write_retired(
+    names: &Symbols<'_>,
+    hart: HartId,
+    pc: Addr,
+    word: u32,
+    write: Option<(Reg, u32)>,
+    load: Option<Access>,
+    store: Option<Access>,
+    line: &mut EntryLine,
+)
+    requires { line.old ≡ [] }
+    ensures { line.new ≡ entry_line names.now (Retire hart pc word write load store) }
+{
+    write_word(names, hart, pc, word, line);
+    add_write(write, line);
+    add_access("load", load, line);
+    add_access("store", store, line);
+    line.put("\n");
+}
+
+/// Writes the hart, the pc with its name, and the word with its text.
+fn write_word(names: &Symbols<'_>, hart: HartId, pc: Addr, word: u32, line: &mut EntryLine)
+    requires { line.old ≡ [] }
+    ensures text { line.new ≡ decimal hart ++ codes " 0x" ++ hexadecimal pc ++ label names.now pc ++ codes " " ++ hexadecimal word ++ codes " " ++ canonical word }
+    ensures short { length line.new ≤ 142 }
+{
+    line.put_bytes(&hart_digit(hart));
+    line.put(" 0x");
+    line.put_word(pc.value());
+    line.put_bytes(names.label(pc).as_bytes());
+    line.put(" ");
+    line.put_word(word);
+    line.put(" ");
+    add_text(word, line);
+}
+
+/// Adds the register that was written, if one was, and its value.
+fn add_write(write: Option<(Reg, u32)>, line: &mut EntryLine)
+    requires { length line.old ≤ 142 }
+    ensures text { line.new ≡ line.old ++ spec.write_part write }
+    ensures longer { length line.new ≤ length line.old + 18 }
+{
+    if let Some((register, value)) = write {
+        line.put(" | ");
+        line.put(register_name(register));
+        line.put("=0x");
+        line.put_word(value);
+    }
+}
+
+/// Adds an access, if there was one.
+fn add_access(name: &str, access: Option<Access>, line: &mut EntryLine)
+    requires short { length name.now ≤ 5 }
+    requires room { length line.old ≤ 208 }
+    ensures text { line.new ≡ line.old ++ spec.access_part name.now access }
+    ensures longer { length line.new ≤ length line.old + 48 }
+{
+    if let Some(access) = access {
+        let mut digits = Buffer::new();
+        line.put(" | ");
+        line.put(name);
+        line.put(" ");
+        line.put(digits.format(byte_count(access.width)));
+        line.put(" 0x");
+        line.put_word(access.addr.value());
+        line.put("=0x");
+        line.put_word(access.value);
+    }
+}
+
+/// A cause, by its number and its name.
+pub(crate) fn cause_text(cause: Cause) -> ArrayString<40>
+    ensures text { result.bytes ≡ spec.cause_text cause }
+{
+    let mut digits = Buffer::new();
+    let mut text = ArrayString::new();
+    text.push_str("trap ");
+    text.push_str(digits.format(cause.number()));
+    text.push_str(" ");
+    text.push_str(cause.name());
+    text
+}
+
+fn write_aborted(hart: HartId, cause: AbortCause, line: &mut EntryLine)
+    requires { line.old ≡ [] }
+    ensures { line.new ≡ entry_line no_symbols (Abort hart cause) }
+{
+    line.put_bytes(&hart_digit(hart));
+    line.put(" abort ");
+    line.put(abort_text(cause).as_str());
+    line.put("\n");
+}
+
+fn abort_text(cause: AbortCause) -> ArrayString<40>
+    ensures { result.bytes ≡ spec.abort_text cause }
+{
+    match cause {
+        AbortCause::Asked => named("asked"),
+        AbortCause::Conflict => named("conflict"),
+        AbortCause::LogFull => named("logfull"),
+        AbortCause::Trapped(cause, _) => cause_text(cause),
+    }
+}
+
+fn named(name: &str) -> ArrayString<40>
+    requires { length name.now ≤ 8 }
+    ensures { result.bytes ≡ name.now }
+{
+    let mut text = ArrayString::new();
+    text.push_str(name);
+    text
+}
+
+fn write_trapped(names: &Symbols<'_>, hart: HartId, cause: Cause, pc: Addr, line: &mut EntryLine)
+    requires { line.old ≡ [] }
+    ensures { line.new ≡ entry_line names.now (Trap hart cause pc) }
+{
+    line.put_bytes(&hart_digit(hart));
+    line.put(" ");
+    line.put(cause_text(cause).as_str());
+    line.put(" at 0x");
+    line.put_word(pc.value());
+    line.put_bytes(names.label(pc).as_bytes());
+    line.put("\n");
+}
+
+fn write_refused(hart: HartId, requester: HartId, block: BlockNo, line: &mut EntryLine)
+    requires { line.old ≡ [] }
+    ensures { line.new ≡ entry_line no_symbols (Refuse hart requester block) }
+{
+    line.put_bytes(&hart_digit(hart));
+    line.put(" refuses ");
+    line.put_bytes(&hart_digit(requester));
+    line.put(" block 0x");
+    line.put_bytes(&first_byte(block));
+    line.put("\n");
+}
+
+fn write_spilled(hart: HartId, block: BlockNo, line: &mut EntryLine)
+    requires { line.old ≡ [] }
+    ensures { line.new ≡ entry_line no_symbols (Spill hart block) }
+{
+    line.put_bytes(&hart_digit(hart));
+    line.put(" spills block 0x");
+    line.put_bytes(&first_byte(block));
+    line.put("\n");
+}

@@ -1,0 +1,75 @@
+//! The text of each fault of a source, a file and a boot, and of a put that failed.
+
+use assembler::{AsmFault, SourceFault};
+use flat::BootFault;
+use loader::LoadFault;
+use std::alloc::AllocError;
+use std::fmt::Display;
+use std::process::Abort;
+use words::SinkFault;
+
+/// Asserts that a fault has this text.
+fn check_text<F: Display>(
+    rt: &(impl Abort + AllocGlobal),
+    fault: &F,
+    text: &str,
+) -> Result<(), AllocError> {
+    assert_eq!(rt; fault.to_string(rt.alloc())?.as_str(), text);
+    Ok(())
+}
+
+#[test]
+fn faults_of_a_source_have_their_numbers(rt: HostRuntime) -> Result<(), AllocError> {
+    for (fault, text) in [
+        (AsmFault::Unknown, "1 Unknown"),
+        (AsmFault::Operand, "2 Operand"),
+        (AsmFault::Register, "3 Register"),
+        (AsmFault::Range, "4 Range"),
+        (AsmFault::Alignment, "5 Alignment"),
+        (AsmFault::Label, "6 Label"),
+        (AsmFault::TwiceDefined, "7 TwiceDefined"),
+        (AsmFault::Directive, "8 Directive"),
+        (AsmFault::TooLarge, "9 TooLarge"),
+        (AsmFault::NoMemory, "10 NoMemory"),
+    ] {
+        check_text(&rt, &fault, text)?;
+    }
+    let fault = SourceFault {
+        line: 17,
+        fault: AsmFault::Range,
+    };
+    check_text(&rt, &fault, "line 17: 4 Range")
+}
+
+#[test]
+fn faults_of_a_file_have_their_numbers(rt: HostRuntime) -> Result<(), AllocError> {
+    for (fault, text) in [
+        (LoadFault::Truncated, "1 Truncated"),
+        (LoadFault::NotElf32, "2 NotElf32"),
+        (LoadFault::NotRiscv, "3 NotRiscv"),
+        (LoadFault::NotExec, "4 NotExec"),
+        (LoadFault::Compressed, "5 Compressed"),
+        (LoadFault::BadHeaderSize, "6 BadHeaderSize"),
+        (LoadFault::SegmentOutside, "7 SegmentOutside"),
+        (LoadFault::SegmentOverlap, "8 SegmentOverlap"),
+        (LoadFault::WritableText, "9 WritableText"),
+        (LoadFault::BadEntry, "10 BadEntry"),
+        (LoadFault::NoMemory, "11 NoMemory"),
+    ] {
+        check_text(&rt, &fault, text)?;
+    }
+    Ok(())
+}
+
+#[test]
+fn faults_of_a_boot_have_their_numbers(rt: HostRuntime) -> Result<(), AllocError> {
+    for (fault, text) in [
+        (BootFault::BadSize, "1 BadSize"),
+        (BootFault::BadHarts, "2 BadHarts"),
+        (BootFault::DoesNotFit, "3 DoesNotFit"),
+        (BootFault::NoMemory, "4 NoMemory"),
+    ] {
+        check_text(&rt, &fault, text)?;
+    }
+    check_text(&rt, &SinkFault, "7 Device")
+}

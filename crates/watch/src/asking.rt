@@ -1,0 +1,137 @@
+//! Requests that are counted: misses and upgrades, and those that are held.
+ghost use Rattle.std.specs.Prelude.{◌≡◌, ◌≤◌, ◌+◌, ℕ};
+ghost use Rattle.words.specs.Limits.{most_harts};
+ghost use Rattle.machine.specs.States.{shown};
+ghost use Rattle.protocol.specs.Messages.{shown as shown_message};
+ghost use Rattle.schedule.specs.Moments.{arrival_of};
+ghost use Rattle.watch.specs.Kinds.{asked_by, asks_if, count_at, counts_asked, counts_request, held_behind, number_in, waits_behind};
+ghost use Rattle.watch.specs.Traffic.{capped};
+ghost use Rattle.watch.specs.declared.kinds.Kind.{Kind as KindValue};
+
+use crate::cells::Counts;
+use crate::kinds::Kind;
+use machine::Machine;
+use network::Flight;
+use words::{BlockNo, HARTS, HartId, Message, Step};
+
+/// A request, as its hart and its block.
+fn asked_by(message: &Message) -> Option<(HartId, BlockNo)>
+    ensures { result ≡ asked_by (shown_message message.now) }
+{
+    match message {
+        Message::Get { from, block, .. } => Some((*from, *block)),
+        _ => None,
+    }
+}
+
+/// The request that arrives, if what arrives is one.
+pub(crate) fn ask_in(arrival: &Option<Flight>) -> Option<(HartId, BlockNo)>
+    ensures { result ≡ asks_if arrival.now }
+{
+    match arrival {
+        Some(flight) => asked_by(&flight.message),
+        None => None,
+    }
+}
+
+/// The request that a step delivers, if it delivers one.
+#[inline(always)]
+pub(crate) fn ask_of<const SETS: usize, const WAYS: usize>(
+    machine: &Machine<SETS, WAYS>,
+    step: &Step,
+) -> Option<(HartId, BlockNo)>
+    ensures { result ≡ asks_if (arrival_of machine.now step.now) }
+{
+    match step {
+        Step::Deliver(key) => match machine.peek_flight(*key) {
+            Some(flight) => asked_by(&flight.message),
+            None => None,
+        },
+        Step::Core(_) | Step::Evict(..) => None,
+    }
+}
+
+/// Whether a hart has a request out for a block, and is another than the one whose request is served.
+fn waits_behind<const SETS: usize, const WAYS: usize>(
+    machine: &Machine<SETS, WAYS>,
+    served: HartId,
+    block: BlockNo,
+    id: HartId,
+) -> bool
+    ensures { result ≡ waits_behind (shown SETS machine.now) served block id }
+{
+    if id.index() == served.index() {
+        return false;
+    }
+    match machine.waits_for(id) {
+        Some(other) => other.number() == block.number(),
+        None => false,
+    }
+}
+
+impl Counts {
+    /// Counts what was asked for in a step, before which so many messages had been sent, and which delivers this request.
+    #[inline(always)]
+    pub(crate) fn note_asked<const SETS: usize, const WAYS: usize>(
+        &mut self,
+        sent: u64,
+        ask: Option<(HartId, BlockNo)>,
+        step: &Step,
+        machine: &Machine<SETS, WAYS>,
+    )
+        ensures { (h : ℕ) (k : KindValue) → count_at self.old h k ≤ 18446744073709551615 →
+            count_at self.new h k ≡ capped (count_at self.old h k + number_in h k (counts_asked (shown SETS machine.now) sent machine.now.sent ask step.now)) }
+    {
+        if sent >= machine.sent() {
+            return;
+        }
+        match (step, ask) {
+            (Step::Core(id), _) => self.note_request(*id, machine),
+            (Step::Deliver(_), Some((served, block))) => self.note_held(served, block, machine),
+            _ => {}
+        }
+    }
+
+    /// Counts a hart's request, if one is out.
+    #[inline(never)]
+    fn note_request<const SETS: usize, const WAYS: usize>(
+        &mut self,
+        id: HartId,
+        machine: &Machine<SETS, WAYS>,
+    )
+        ensures { (h : ℕ) (k : KindValue) → count_at self.old h k ≤ 18446744073709551615 →
+            count_at self.new h k ≡ capped (count_at self.old h k + number_in h k (counts_request (shown SETS machine.now) id ((shown SETS machine.now).harts id).request)) }
+    {
+        machine.keeps();
+        let Some(hart) = machine.hart(id) else {
+            return;
+        };
+        let Some(request) = hart.request() else {
+            return;
+        };
+        let has_line = machine.line(id, request.block).is_some();
+        self.add(id, Kind::of_request(request.kind, has_line), 1);
+        if machine.entry(request.block).busy.is_some() {
+            self.add(id, Kind::Held, 1);
+        }
+    }
+
+    /// Counts the requests that are held while one is served.
+    #[inline(never)]
+    fn note_held<const SETS: usize, const WAYS: usize>(
+        &mut self,
+        served: HartId,
+        block: BlockNo,
+        machine: &Machine<SETS, WAYS>,
+    )
+        ensures { (h : ℕ) (k : KindValue) → count_at self.old h k ≤ 18446744073709551615 →
+            count_at self.new h k ≡ capped (count_at self.old h k + number_in h k (held_behind (shown SETS machine.now) served block most_harts)) }
+    {
+        for i in 0..HARTS {
+            let id = HartId::new(i as u8);
+            if waits_behind(machine, served, block, id) {
+                self.add(id, Kind::Held, 1);
+            }
+        }
+    }
+}
