@@ -19,3 +19,4 @@ pub mod Waits
 pub mod Together
 pub mod Beside
 pub mod Reached
+pub mod Leading

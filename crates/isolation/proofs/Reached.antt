@@ -23,7 +23,7 @@ use Rattle.isolation.proofs.InOrder.{in_order}
 use Rattle.isolation.proofs.Beside.{walk_there}
 
 -- each entry of the coherent machine's has its reason
-reason_among : (g : Geometry) (s : Setting) (entry : ℕ) (steps : List Step) (w : Machine) (before after : List Entry) (e : Entry) (f : Flat)
+pub reason_among : (g : Geometry) (s : Setting) (entry : ℕ) (steps : List Step) (w : Machine) (before after : List Entry) (e : Entry) (f : Flat)
     → AreBytes s.segments → Runs g (start s entry) steps (before ++ e ∷ after) w → IsRun (first_state s entry) before f → HasReason f (history_of no_history before) e
 reason_among g s entry steps w before after (Refuse j i b) f bytes runs run = refusal_among g s entry steps before after f w j i b bytes runs run
 reason_among g s entry steps w before after (Abort i Conflict) f bytes runs run = conflict_among g s entry steps before after w i bytes runs

@@ -22,6 +22,10 @@ pub record Belongs (g : Geometry) (f : Flat) (w : Machine) : Type 0 where
   pub run : Runs g (start setting entry) steps entries w
   pub flat_run : IsRun (first_state setting entry) entries f
 
+-- the same where the steps have given these entries
+abbrev pub BelongsAfter : Geometry → List Entry → Flat → Machine → Type 0
+BelongsAfter g past f w = (b : Belongs g f w) × (b.entries ≡ past)
+
 -- what a hart is to one who looks from outside
 pub record LooksAs (h : Hart) (f : FlatHart) : Type 0 where
   pub regs : h.regs ≡ f.regs

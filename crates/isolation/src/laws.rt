@@ -1,4 +1,4 @@
-ghost use Rattle.std.specs.Prelude.{◌≡◌, ◌<◌, ◌++◌, ◌∷◌, ℕ, List, [], Option, Some, None};
+ghost use Rattle.std.specs.Prelude.{◌≡◌, ◌<◌, ◌++◌, ◌∷◌, ℕ, List, [], Option, Some, None, option_to_list};
 ghost use Rattle.words.specs.declared.entry.Entry.{Entry};
 ghost use Rattle.words.specs.declared.entry.Entry.TheVariants.{Retire, Abort, Refuse};
 ghost use Rattle.words.specs.declared.entry.Access.{Access};
@@ -14,7 +14,8 @@ ghost use Rattle.protocol.specs.Machine.{Machine, Steps, Runs};
 ghost use Rattle.protocol.specs.Network.{LiesBelow};
 ghost use Rattle.protocol.specs.Start.{start};
 ghost use Rattle.table.specs.Program.{AreBytes};
-ghost use Rattle.isolation.specs.Belongs.{Belongs};
+ghost use Rattle.isolation.specs.Belongs.{Belongs, BelongsAfter};
+ghost use Rattle.isolation.specs.Reasons.{LeadOn};
 ghost use Rattle.isolation.specs.Answers.{AnswersAs, IsRow};
 
 /// Isolation: for every program, number of harts and size of memory, and for every list of core, eviction and delivery steps, the
@@ -45,6 +46,14 @@ pub fn answers_are_the_flat_machines()
 pub fn retirements_are_rows()
     ensures { (g : Geometry) (f : Flat) (v w : Machine) (s : Step) (i pc word : ℕ) (write : Option (ℕ × ℕ)) (load store : Option Access) →
         Belongs g f v → Steps g v s (Some (Retire i pc word write load store)) w → (does : Effect) × IsRow v w f i pc word write load store does }
+{}
+
+/// Each entry is led to by those before it: what a step gives, and what steps give from any machine, carries each flat state that belongs to the machine on to
+/// one that belongs to the machine behind it, and has its reasons behind the entries that have led there.
+pub fn entries_lead_on_with_reasons()
+    ensures start { (g : Geometry) (s : Setting) (entry : ℕ) → AreBytes s.segments → BelongsAfter g [] (first_state s entry) (start s entry) }
+    ensures step { (g : Geometry) (v w : Machine) (s : Step) (e : Option Entry) → Steps g v s e w → LeadOn g v (option_to_list e) w }
+    ensures run { (g : Geometry) (v w : Machine) (steps : List Step) (es : List Entry) → Runs g v steps es w → LeadOn g v es w }
 {}
 
 /// Each refusal has its reason, in the flat state and the entries at its place: one hart refuses another, the word at the

@@ -23,5 +23,5 @@ pub use facts::{
 };
 pub use laws::{
     answers_are_the_flat_machines, conflicts_have_reasons, entries_are_a_flat_run,
-    refusals_have_reasons, retirements_are_rows, steps_exist,
+    entries_lead_on_with_reasons, refusals_have_reasons, retirements_are_rows, steps_exist,
 };
