@@ -154,4 +154,4 @@ module _ (g : Geometry) (p : Program) (n size : ℕ) where
   pub kept_end : (tells : Told → Type 0) (m : State) → AreBytes p.segments → IsKept g p n size tells m → IsEnd g p n size tells m
   kept_end tells m bytes k =
       let f = replay_flat g p n size k.all.steps m k.all.entries bytes k.replay in
-      record { kept = k; flat = f.0; runs = f.1; belongs = f.2 }
+      record { kept = k; flat = f.0; runs = f.1; reasons = f.2; belongs = f.3 }

@@ -14,7 +14,9 @@ use Rattle.protocol.specs.Machine.{Machine, Runs}
 use Rattle.protocol.proofs.Settings.{setting_stays}
 use Rattle.protocol.proofs.Splits.{runs_then}
 use Rattle.isolation.specs.Belongs.{Belongs}
+use Rattle.isolation.specs.Reasons.{HaveReasons}
 use Rattle.isolation.proofs.Belongs.Belonging.{belongs_after}
+use Rattle.isolation.proofs.Reached.{have_reasons}
 use Rattle.machine.specs.States.{State, shown}
 use Rattle.machine.specs.Unused.{IsUnused}
 use Rattle.board.specs.Histories.{first_flat, IsReplay}
@@ -72,7 +74,9 @@ replay_more g p n size steps more m next es fs r runs = record {
   runs = runs_then g (start (first_flat p n size).setting p.entry) (shown g.sets m) (shown g.sets next) steps more es fs r.runs runs;
 }
 
--- the entries of a replay are a run of the flat machine, and where it ends belongs to the machine
+-- the entries of a replay are a run of the flat machine, with their reasons, and where it ends belongs to the machine
 pub replay_flat : (g : Geometry) (p : Program) (n size : ℕ) (steps : List Step) (m : State) (es : List Entry) → AreBytes p.segments → IsReplay g p n size steps m es
-    → (f : Flat) × IsRun (first_flat p n size) es f × Belongs g f (shown g.sets m)
-replay_flat g p n size steps m es bytes r = belongs_after g (first_flat p n size).setting p.entry steps es (shown g.sets m) bytes r.runs
+    → (f : Flat) × IsRun (first_flat p n size) es f × HaveReasons (first_flat p n size) es × Belongs g f (shown g.sets m)
+replay_flat g p n size steps m es bytes r =
+    let after = belongs_after g (first_flat p n size).setting p.entry steps es (shown g.sets m) bytes r.runs in
+    (after.0, after.1, have_reasons g (first_flat p n size).setting p.entry steps es (shown g.sets m) bytes r.runs, after.2)

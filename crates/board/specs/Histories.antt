@@ -14,6 +14,7 @@ use Rattle.protocol.specs.Start.{start}
 use Rattle.protocol.specs.Machine.{Runs}
 use Rattle.isolation.specs.Memory.{LiesInMemory}
 use Rattle.isolation.specs.Belongs.{Belongs}
+use Rattle.isolation.specs.Reasons.{HaveReasons}
 use Rattle.machine.specs.States.{State, setting_of, shown}
 use Rattle.machine.specs.Unused.{IsUnused}
 use Rattle.board.specs.Leases.{Lent}
@@ -117,9 +118,10 @@ pub record IsKept (g : Geometry) (p : Program) (n size : ℕ) (tells : Told → 
   pub replay : IsReplay g p n size all.steps m all.entries
   pub course : IsCourseIf g p n size all.choices all.entries m
 
--- and its entries are a run of the flat machine, to a state that belongs to the machine
+-- and its entries are a run of the flat machine, to a state that belongs to the machine. Each of them has its reason
 pub record IsEnd (g : Geometry) (p : Program) (n size : ℕ) (tells : Told → Type 0) (m : State) : Type 0 where
   pub kept : IsKept g p n size tells m
   pub flat : Flat
   pub runs : IsRun (first_flat p n size) kept.all.entries flat
+  pub reasons : HaveReasons (first_flat p n size) kept.all.entries
   pub belongs : Belongs g flat (shown g.sets m)

@@ -176,7 +176,8 @@ impl<'p, const SETS: usize, const WAYS: usize, J: Journal<SETS, WAYS>> Board<'p,
         Ok(())
     }
 
-    /// The board's parts. What the journal tells leads from where the program begins to the machine, and its entries are a run of the flat machine.
+    /// The board's parts. What the journal tells leads from where the program begins to the machine, and its entries are a run of the flat machine, in which
+    /// each refusal and each abort for a conflict has its reason.
     pub fn finish(self) -> Finished<'p, SETS, WAYS, J>
         ensures program { result.program.now ≡ self.entry.program }
         ensures harts { result.harts ≡ self.entry.harts }

@@ -1,29 +1,30 @@
 -- A hart stops only with an entry.
-use Rattle.std.proofs.Common.{◌≡◌, ◌<◌, ◌≤◌, ℕ, List, length, Option, None, sym, ap, subst, ◌∙◌}
+use Rattle.std.proofs.Common.{◌≡◌, ◌<◌, ◌≤◌, ◌++◌, ℕ, List, length, Option, None, refl, sym, ap, subst, ◌∙◌}
+use Rattle.std.specs.Prelude.{option_to_list}
 use Rattle.words.specs.declared.cause.Status.TheVariants.{Running}
 use Rattle.words.specs.declared.entry.Entry.{Entry}
 use Rattle.flat.specs.State.{Flat}
-use Rattle.flat.specs.Steps.{CarriesSome}
+use Rattle.flat.specs.Steps.{IsRun}
 use Rattle.protocol.specs.Caches.{Geometry}
-use Rattle.isolation.specs.Belongs.{Belongs}
+use Rattle.isolation.specs.Belongs.{Belongs, BelongsAfter}
+use Rattle.isolation.specs.Reasons.{HaveReasonsAfter, LeadOn}
 use Rattle.machine.specs.States.{State, Seat, shown, setting_of, hart_at}
 use Rattle.machine.specs.Turns.{NoneRuns}
 use Rattle.machine.specs.Watch.{IsOver}
 use Rattle.machine.proofs.Reading.{same_setting, looks_same}
-use Rattle.machine.proofs.Runs.{CarriesAll}
 
 -- where a step gave no entry, and no hart runs, none ran before it
-pub over_before : (g : Geometry) (v w : State) (f : Flat) (e : Option Entry) → Belongs g f (shown g.sets v) → CarriesAll g (shown g.sets v) e (shown g.sets w) → e ≡ None → IsOver g.sets w → IsOver g.sets v
-over_before g v w f e before carries none over = λ k from to runs. over k from (subst (λ n. k < n) (sym count) to) (status k ∙ runs)
+pub over_before : (g : Geometry) (v w : State) (f : Flat) (e : Option Entry) → Belongs g f (shown g.sets v) → LeadOn g (shown g.sets v) (option_to_list e) (shown g.sets w) → e ≡ None → IsOver g.sets w → IsOver g.sets v
+over_before g v w f e before leads none over = λ k from to runs. over k from (subst (λ n. k < n) (sym count) to) (status k ∙ runs)
   where
-    on : (h : Flat) × CarriesSome f e h × Belongs g h (shown g.sets w)
-    on = carries f before
+    on : (h : Flat) × IsRun f (option_to_list e) h × HaveReasonsAfter before.entries f (option_to_list e) × BelongsAfter g (before.entries ++ option_to_list e) h (shown g.sets w)
+    on = leads before.entries f (before, refl)
 
     same : on.0 ≡ f
-    same = subst (λ o. CarriesSome f o on.0) none on.1
+    same = subst (λ o. IsRun f (option_to_list o) on.0) none on.1
 
     after : Belongs g f (shown g.sets w)
-    after = subst (λ h. Belongs g h (shown g.sets w)) same on.2
+    after = subst (λ h. Belongs g h (shown g.sets w)) same on.3.0
 
     count : (setting_of w).count ≡ (setting_of v).count
     count = ap (λ s. s.count) (same_setting g f (shown g.sets w) after ∙ sym (same_setting g f (shown g.sets v) before))

@@ -2,11 +2,9 @@ ghost use Rattle.std.specs.Prelude.{◌≡◌, ℕ, List, Some, length, replicat
 ghost use Rattle.std.specs.Option.{option_map};
 ghost use Rattle.words.specs.declared.entry.Entry.{Entry};
 ghost use Rattle.words.specs.declared.entry.Step.TheVariants.{Core};
-ghost use Rattle.flat.specs.State.{Flat};
-ghost use Rattle.flat.specs.Steps.{IsRun};
 ghost use Rattle.hart.specs.Parts.{Parts};
 ghost use Rattle.protocol.specs.Machine.{Runs};
-ghost use Rattle.isolation.specs.Belongs.{Belongs};
+ghost use Rattle.isolation.specs.Reasons.{LeadOn};
 ghost use Rattle.machine.specs.Lent.{hart_if, with_hart, RunsAlone, ComesBack};
 
 use crate::machine::Machine;
@@ -36,11 +34,11 @@ impl<const SETS: usize, const WAYS: usize> Machine<SETS, WAYS> {
     pub fn adopt(&mut self, id: HartId, hart: &Hart<SETS, WAYS>, retired: usize)
         requires { ComesBack SETS self.old id retired hart.now }
         ensures hart { self.new ≡ with_hart self.old id hart.now }
-        // The words are as many steps of its core, with their entries, and these carry each flat state that belongs on to one that belongs.
+        // The words are as many steps of its core, with their entries, and these carry each flat state that belongs on to one that belongs, with their reasons.
         ensures runs { (old : Parts) (es : List Entry) → hart_if self.old id ≡ Some old → RunsAlone SETS self.old.program.segments old es hart.now →
             Runs (geometry SETS WAYS) (shown SETS self.old) (replicate (length es) (Core id)) es (shown SETS self.new) }
-        ensures carries { (old : Parts) (es : List Entry) → hart_if self.old id ≡ Some old → RunsAlone SETS self.old.program.segments old es hart.now →
-            (f : Flat) → Belongs (geometry SETS WAYS) f (shown SETS self.old) → (h : Flat) × IsRun f es h × Belongs (geometry SETS WAYS) h (shown SETS self.new) }
+        ensures leads { (old : Parts) (es : List Entry) → hart_if self.old id ≡ Some old → RunsAlone SETS self.old.program.segments old es hart.now →
+            LeadOn (geometry SETS WAYS) (shown SETS self.old) es (shown SETS self.new) }
     {
         let _retired = retired;
         let i = id.index();

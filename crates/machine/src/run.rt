@@ -1,8 +1,6 @@
 ghost use Rattle.std.specs.Prelude.{◌≡◌, ◌<◌, ◌++◌, ℕ, List, take, length, option_to_list, OnOk, OnErr, IfErr};
 ghost use Rattle.words.specs.declared.entry.Entry.{Entry};
-ghost use Rattle.flat.specs.State.{Flat};
-ghost use Rattle.flat.specs.Steps.{IsRun};
-ghost use Rattle.isolation.specs.Belongs.{Belongs};
+ghost use Rattle.isolation.specs.Reasons.{LeadOn};
 ghost use Rattle.machine.specs.Runs.{StepsInto, RunsInto};
 
 use crate::machine::Machine;
@@ -35,9 +33,8 @@ impl<const SETS: usize, const WAYS: usize> Machine<SETS, WAYS> {
         ensures ok { OnOk result (RunsInto (geometry SETS WAYS) (shown SETS self.old) entries.old.items steps.now (shown SETS self.new) entries.new.items) }
         ensures cut { IfErr result (λ x. (x.0 < length steps.now)
             × RunsInto (geometry SETS WAYS) (shown SETS self.old) entries.old.items (take x.0 steps.now) (shown SETS self.new) entries.new.items) }
-        // In either outcome the new entries are a run of the flat machine.
-        ensures carries { (f : Flat) → Belongs (geometry SETS WAYS) f (shown SETS self.old) →
-            (g : Flat) × (es : List Entry) × (entries.new.items ≡ entries.old.items ++ es) × IsRun f es g × Belongs (geometry SETS WAYS) g (shown SETS self.new) }
+        // In either outcome the new entries are a run of the flat machine, and each has its reason behind those that have led to it.
+        ensures leads { (es : List Entry) × (entries.new.items ≡ entries.old.items ++ es) × LeadOn (geometry SETS WAYS) (shown SETS self.old) es (shown SETS self.new) }
     {
         for (made, step) in steps.iter().enumerate() {
             if let Err(fault) = self.step_into(*step, entries) {

@@ -1,11 +1,9 @@
-ghost use Rattle.std.specs.Prelude.{◌≡◌, ◌<◌, ℕ, IfOk, OnErr, Some, None};
+ghost use Rattle.std.specs.Prelude.{◌≡◌, ◌<◌, ℕ, IfOk, OnErr, Some, None, option_to_list};
 ghost use Rattle.std.specs.Option.{option_map};
 ghost use Rattle.words.specs.declared.entry.Step.TheVariants.{Core, Evict, Deliver};
-ghost use Rattle.flat.specs.State.{Flat};
-ghost use Rattle.flat.specs.Steps.{CarriesSome};
 ghost use Rattle.protocol.specs.Machine.{Steps, stamps_after};
 ghost use Rattle.protocol.specs.Messages.{shown as shown_message, receiver_of};
-ghost use Rattle.isolation.specs.Belongs.{Belongs};
+ghost use Rattle.isolation.specs.Reasons.{LeadOn};
 ghost use Rattle.machine.specs.Mail.{in_flight};
 ghost use Rattle.machine.specs.Making.{MakesStep};
 
@@ -129,11 +127,10 @@ impl<const SETS: usize, const WAYS: usize> Machine<SETS, WAYS> {
     /// One step, enabled or not. One that isn't enabled changes nothing, and gives no entry. It fails only if memory runs out.
     pub fn step(&mut self, step: Step) -> Result<Option<Entry>, AllocError>
         // Exactly one step of the protocol's machine is made, in which the cache's rule says which line makes way, and messages are numbered as they are sent.
-        // Its entry carries each flat state that belongs on to one that belongs.
+        // Its entry carries each flat state that belongs on to one that belongs, and has its reason behind the entries that have led to the machine.
         ensures steps { IfOk result (λ e. Steps (geometry SETS WAYS) (shown SETS self.old) step e (shown SETS self.new)) }
         ensures made { IfOk result (λ e. MakesStep (geometry SETS WAYS) self.old step e self.new) }
-        ensures carries { IfOk result (λ e. (f : Flat) → Belongs (geometry SETS WAYS) f (shown SETS self.old) →
-            (g : Flat) × CarriesSome f e g × Belongs (geometry SETS WAYS) g (shown SETS self.new)) }
+        ensures leads { IfOk result (λ e. LeadOn (geometry SETS WAYS) (shown SETS self.old) (option_to_list e) (shown SETS self.new)) }
         ensures err { OnErr result (self.new ≡ self.old) }
     {
         match step {

@@ -9,20 +9,20 @@ use Rattle.machine.specs.Turns.{IsNextTurn, hart_after}
 use Rattle.schedule.specs.declared.choices.Choice.{Choice}
 use Rattle.schedule.specs.Courses.{Behind, Turns, Chance, course, forgotten, IsAtRest, IsChosen, IsNextOf, IsNoneNext, IsUnbegun}
 use Rattle.schedule.specs.Moments.{Moment, moment, entries_of}
-use Rattle.schedule.specs.Runs.{Makes, TookTurns, TakesTurns, TakesChosen, FollowsThen, CarryAll, Plays}
-use Rattle.schedule.proofs.Making.{HasMade, carry_more}
+use Rattle.schedule.specs.Runs.{Makes, TookTurns, TakesTurns, TakesChosen, FollowsThen, Plays}
+use Rattle.schedule.proofs.Making.{GivesAll, HasMade, gives_more, leads}
 use Rattle.schedule.proofs.Ready.{picked_made}
 
 -- k steps were made, of which the last were turns: what is made by further turns is made by all
 pub record HasTurned (g : Geometry) (all : List Choice) (k : ℕ) (v w : State) (after : ℕ) (ms : List Moment) : Type 0 where
   pub goes_on : (m : ℕ) (more : List Moment) (z : State) → TakesTurns g m w after more z → FollowsThen None g all (k + m) v ((setting_of v).count - 1) (ms ++ more) z
-  pub carry : CarryAll g v (entries_of ms) w
+  pub gives : GivesAll g v (entries_of ms) w
 
 -- the same where the last were chosen
 pub record HasChosen (g : Geometry) (all chosen : List Choice) (k : ℕ) (v w : State) (after : ℕ) (ms : List Moment) : Type 0 where
   pub goes_on : (cs : List Choice) (m : ℕ) (more : List Moment) (z : State) → TakesChosen g cs m w after more z
       → FollowsThen (Some (chosen ++ cs)) g all (k + m) v ((setting_of v).count - 1) (ms ++ more) z
-  pub carry : CarryAll g v (entries_of ms) w
+  pub gives : GivesAll g v (entries_of ms) w
 
 abbrev pub HasGone : Geometry → List Choice → Behind → ℕ → State → State → ℕ → List Moment → Type 0
 HasGone g all Turns k v w after ms = HasTurned g all k v w after ms
@@ -36,10 +36,10 @@ module _ (g : Geometry) (all : List Choice) where
     behind r m more z takes = made.goes_on r m more z (subst (λ (cs : List Choice). FollowsThen r g cs m w after more z) (sym (drop_all k all end)) takes)
 
     none_chosen : HasChosen g all [] k v w after ms
-    none_chosen = record { goes_on = λ cs m more z takes. behind (Some cs) m more z takes; carry = made.carry }
+    none_chosen = record { goes_on = λ cs m more z takes. behind (Some cs) m more z takes; gives = made.gives }
 
     pub gone_first : (b : Behind) → IsUnbegun b → HasGone g all b k v w after ms
-    gone_first Turns unbegun = record { goes_on = λ m more z takes. behind None m more z takes; carry = made.carry }
+    gone_first Turns unbegun = record { goes_on = λ m more z takes. behind None m more z takes; gives = made.gives }
     gone_first (Chance None) unbegun = ([], none_chosen)
     gone_first (Chance (Some chosen)) unbegun = subst (λ (cs : List Choice). HasChosen g all cs k v w after ms) (sym unbegun) none_chosen
 
@@ -53,7 +53,7 @@ module _ (g : Geometry) (all : List Choice) where
           subst (λ (n : ℕ). FollowsThen None g all n v ((setting_of v).count - 1) ((ms ++ moment u step e w ∷ []) ++ more) z) count
           (subst (λ (ns : List Moment). FollowsThen None g all (k + suc m) v ((setting_of v).count - 1) ns z) (sym (append_assoc ms (moment u step e w ∷ []) more))
           (before.goes_on (suc m) (moment u step e w ∷ more) z (inr (step, e, w, more, next, made, takes, refl))));
-      carry = carry_more g v u w ms (Some step) e before.carry made;
+      gives = gives_more g v u w ms (Some step) e before.gives made;
     }
 
     -- one more choice of chance
@@ -65,7 +65,7 @@ module _ (g : Geometry) (all : List Choice) where
           subst₂ (λ (n : ℕ) (ds : List Choice). FollowsThen (Some ds) g all n v ((setting_of v).count - 1) ((ms ++ moment u step e w ∷ []) ++ more) z) count (sym (append_assoc chosen (c ∷ []) cs))
           (subst (λ (ns : List Moment). FollowsThen (Some (chosen ++ c ∷ cs)) g all (k + suc m) v ((setting_of v).count - 1) ns z) (sym (append_assoc ms (moment u step e w ∷ []) more))
           (before.goes_on (c ∷ cs) (suc m) (moment u step e w ∷ more) z (step, e, w, more, picked, made, takes, refl)));
-      carry = carry_more g v u w ms (Some step) e before.carry made;
+      gives = gives_more g v u w ms (Some step) e before.gives made;
     }
 
     pub gone_more : (w : State) (b c : Behind) (step : Step) (e : Option Entry) → HasGone g all b k v u after ms → IsNextOf g u after b step c → Makes g u (Some step) e w
@@ -114,12 +114,12 @@ module _ (g : Geometry) (all : List Choice) (k : ℕ) (v w : State) (after : ℕ
 
   -- of a list
   pub played : (b : Behind) → IsUnbegun b → HasMade g all k v w after ms → Plays g (course all b) k v ms w
-  played Turns unbegun made = (whole None (made.goes_on None 0 [] w (rest_idle g (drop k all) w after)), made.carry)
-  played (Chance None) unbegun made = (([], whole (Some []) (made.goes_on (Some []) 0 [] w (rest_unchosen g (drop k all) w after))), made.carry)
+  played Turns unbegun made = (whole None (made.goes_on None 0 [] w (rest_idle g (drop k all) w after)), leads g v w (entries_of ms) made.gives)
+  played (Chance None) unbegun made = (([], whole (Some []) (made.goes_on (Some []) 0 [] w (rest_unchosen g (drop k all) w after))), leads g v w (entries_of ms) made.gives)
   played (Chance (Some chosen)) unbegun made = (
     subst (λ (cs : List Choice). FollowsThen (Some cs) g all k v ((setting_of v).count - 1) ms w) (sym unbegun)
         (whole (Some []) (made.goes_on (Some []) 0 [] w (rest_unchosen g (drop k all) w after))),
-    made.carry,
+    leads g v w (entries_of ms) made.gives,
   )
 
   -- behind it, where n steps may be made: as many were, or nothing comes next
@@ -134,16 +134,16 @@ module _ (g : Geometry) (all : List Choice) (k : ℕ) (v w : State) (after : ℕ
         subst (λ (cs : List Choice). FollowsThen (Some cs) g all n v ((setting_of v).count - 1) ms w) (append-nil chosen) (all_of (Some (chosen ++ [])) (gone.goes_on [] (n - k) [] w (refl, refl, over)))
 
     pub gone_idle : (b : Behind) → HasGone g all b k v w after ms → IsNoneNext g w after b → Plays g (course all b) n v ms w
-    gone_idle Turns gone none = (all_of None (gone.goes_on (n - k) [] w (no_turns g (n - k) w after none)), gone.carry)
-    gone_idle (Chance None) (chosen, gone) rest = ((chosen, of_chosen chosen gone (inr rest)), gone.carry)
-    gone_idle (Chance (Some chosen)) gone rest = (of_chosen chosen gone (inr rest), gone.carry)
+    gone_idle Turns gone none = (all_of None (gone.goes_on (n - k) [] w (no_turns g (n - k) w after none)), leads g v w (entries_of ms) gone.gives)
+    gone_idle (Chance None) (chosen, gone) rest = ((chosen, of_chosen chosen gone (inr rest)), leads g v w (entries_of ms) gone.gives)
+    gone_idle (Chance (Some chosen)) gone rest = (of_chosen chosen gone (inr rest), leads g v w (entries_of ms) gone.gives)
 
     pub gone_whole : (b : Behind) → n ≤ k → HasGone g all b k v w after ms → Plays g (course all b) n v ms w
     gone_whole Turns few gone =
         let none : n - k ≡ 0 = omega (arith, few) in
-        (all_of None (gone.goes_on (n - k) [] w (subst (λ (m : ℕ). TakesTurns g m w after [] w) (sym none) (refl, refl))), gone.carry)
-    gone_whole (Chance None) few (chosen, gone) = let none : n - k ≡ 0 = omega (arith, few) in ((chosen, of_chosen chosen gone (inl none)), gone.carry)
-    gone_whole (Chance (Some chosen)) few gone = let none : n - k ≡ 0 = omega (arith, few) in (of_chosen chosen gone (inl none), gone.carry)
+        (all_of None (gone.goes_on (n - k) [] w (subst (λ (m : ℕ). TakesTurns g m w after [] w) (sym none) (refl, refl))), leads g v w (entries_of ms) gone.gives)
+    gone_whole (Chance None) few (chosen, gone) = let none : n - k ≡ 0 = omega (arith, few) in ((chosen, of_chosen chosen gone (inl none)), leads g v w (entries_of ms) gone.gives)
+    gone_whole (Chance (Some chosen)) few gone = let none : n - k ≡ 0 = omega (arith, few) in (of_chosen chosen gone (inl none), leads g v w (entries_of ms) gone.gives)
 
 -- the choices of chance need not be told
 pub forget : (g : Geometry) (all : List Choice) (b : Behind) (n : ℕ) (v : State) (ms : List Moment) (w : State) → Plays g (course all b) n v ms w → Plays g (course all (forgotten b)) n v ms w

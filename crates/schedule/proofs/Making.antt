@@ -5,37 +5,31 @@ use Rattle.std.proofs.lemmas.List.{append-nil}
 use Rattle.std.proofs.lemmas.List.Concat.{flat_map-append}
 use Rattle.words.specs.declared.entry.Entry.{Entry}
 use Rattle.words.specs.declared.entry.Step.{Step}
-use Rattle.flat.specs.State.{Flat}
-use Rattle.flat.specs.Steps.{IsRun, CarriesSome}
 use Rattle.protocol.specs.Caches.{Geometry}
-use Rattle.isolation.specs.Belongs.{Belongs}
-use Rattle.isolation.proofs.Belongs.Belonging.{belongs_next}
+use Rattle.protocol.specs.Machine.{Runs}
+use Rattle.protocol.proofs.Splits.{runs_then}
+use Rattle.isolation.specs.Reasons.{LeadOn}
+use Rattle.isolation.proofs.Leading.{run_leads_on}
 use Rattle.machine.specs.States.{State, setting_of, shown}
 use Rattle.machine.proofs.Made.{steps_of}
 use Rattle.schedule.specs.declared.choices.Choice.{Choice}
 use Rattle.schedule.specs.Moments.{Moment, moments, entries_of}
-use Rattle.schedule.specs.Runs.{Makes, last_after, FollowsThen, CarryAll}
+use Rattle.schedule.specs.Runs.{Makes, last_after, FollowsThen}
 use Rattle.schedule.specs.Steps.{IsStepOf}
 
--- one run behind another
-run_append : (f h k : Flat) (es fs : List Entry) → IsRun f es h → IsRun h fs k → IsRun f (es ++ fs) k
-run_append f h k [] fs run later = subst (λ m. IsRun m fs k) run later
-run_append f h k (e ∷ es) fs (m, first, rest) later = (m, first, run_append m h k es fs rest later)
+-- some steps of the protocol's machine give these entries
+abbrev pub GivesAll : Geometry → State → List Entry → State → Type 0
+GivesAll g v es w = (steps : List Step) × Runs g (shown g.sets v) steps es (shown g.sets w)
 
-pub carry_both : (g : Geometry) (v u w : State) (es fs : List Entry) → CarryAll g v es u → CarryAll g u fs w → CarryAll g v (es ++ fs) w
-carry_both g v u w es fs first later = λ f b.
-    let there = first f b in
-    let on = later there.0 there.2 in
-    (on.0, run_append f there.0 on.0 es fs there.1 on.1, on.2)
+pub leads : (g : Geometry) (v w : State) (es : List Entry) → GivesAll g v es w → LeadOn g (shown g.sets v) es (shown g.sets w)
+leads g v w es (steps, runs) = run_leads_on g (shown g.sets v) (shown g.sets w) steps es runs
 
--- a step's entry, if it gives one, is a run
-run_one : (f h : Flat) (e : Option Entry) → CarriesSome f e h → IsRun f (option_to_list e) h
-run_one f h None carries = carries
-run_one f h (Some e) carries = (h, carries, refl)
+pub gives_both : (g : Geometry) (v u w : State) (es fs : List Entry) → GivesAll g v es u → GivesAll g u fs w → GivesAll g v (es ++ fs) w
+gives_both g v u w es fs (steps, first) (more, later) = (steps ++ more, runs_then g (shown g.sets v) (shown g.sets u) (shown g.sets w) steps more es fs first later)
 
-carry_made : (g : Geometry) (v w : State) (step : Option Step) (e : Option Entry) → Makes g v step e w → CarryAll g v (option_to_list e) w
-carry_made g v w None e (none, same) = λ f b. (f, subst (λ (o : Option Entry). IsRun f (option_to_list o) f) (sym none) refl, subst (λ m. Belongs g f (shown g.sets m)) (sym same) b)
-carry_made g v w (Some s) e made = λ f b. let on = belongs_next g f (shown g.sets v) (shown g.sets w) s e b (steps_of g v s e w made) in (on.0, run_one f on.0 e on.1, on.2)
+gives_made : (g : Geometry) (v w : State) (step : Option Step) (e : Option Entry) → Makes g v step e w → GivesAll g v (option_to_list e) w
+gives_made g v w None e (none, same) = ([], ap option_to_list none, ap (shown g.sets) same)
+gives_made g v w (Some s) e made = (s ∷ [], shown g.sets w, e, [], steps_of g v s e w made, (refl, refl), sym (append-nil (option_to_list e)))
 
 -- the entries of some moments and of others
 pub entries_both : (ms ns : List Moment) → entries_of (ms ++ ns) ≡ entries_of ms ++ entries_of ns
@@ -49,20 +43,20 @@ entries_one g v w (Some step) e made = sym (append-nil (option_to_list e))
 -- k steps of a list were made with these moments, and the last core step was this hart's: what is made by further steps is made by all, whatever comes behind the list
 pub record HasMade (g : Geometry) (all : List Choice) (k : ℕ) (v w : State) (after : ℕ) (ms : List Moment) : Type 0 where
   pub goes_on : (r : Option (List Choice)) (m : ℕ) (more : List Moment) (z : State) → FollowsThen r g (drop k all) m w after more z → FollowsThen r g all (k + m) v ((setting_of v).count - 1) (ms ++ more) z
-  pub carry : CarryAll g v (entries_of ms) w
+  pub gives : GivesAll g v (entries_of ms) w
 
 pub made_none : (g : Geometry) (all : List Choice) (v : State) → HasMade g all 0 v v ((setting_of v).count - 1) []
 made_none g all v = record {
   goes_on = λ r m more z follows. let count : m ≡ 0 + m = omega arith in subst (λ (n : ℕ). FollowsThen r g all n v ((setting_of v).count - 1) more z) count follows;
-  carry = λ f b. (f, refl, b);
+  gives = ([], refl, refl);
 }
 
 -- the entries of one more step
-pub carry_more : (g : Geometry) (v u w : State) (ms : List Moment) (step : Option Step) (e : Option Entry) → CarryAll g v (entries_of ms) u → Makes g u step e w → CarryAll g v (entries_of (ms ++ moments u step e w)) w
-carry_more g v u w ms step e before made =
+pub gives_more : (g : Geometry) (v u w : State) (ms : List Moment) (step : Option Step) (e : Option Entry) → GivesAll g v (entries_of ms) u → Makes g u step e w → GivesAll g v (entries_of (ms ++ moments u step e w)) w
+gives_more g v u w ms step e before made =
     let all_entries : entries_of ms ++ option_to_list e ≡ entries_of (ms ++ moments u step e w) =
     ap (λ (es : List Entry). entries_of ms ++ es) (entries_one g u w step e made) ∙ sym (entries_both ms (moments u step e w)) in
-    subst (λ (es : List Entry). CarryAll g v es w) all_entries (carry_both g v u w (entries_of ms) (option_to_list e) before (carry_made g u w step e made))
+    subst (λ (es : List Entry). GivesAll g v es w) all_entries (gives_both g v u w (entries_of ms) (option_to_list e) before (gives_made g u w step e made))
 
 -- one more choice
 pub made_choice : (g : Geometry) (all : List Choice) (k : ℕ) (v u w : State) (after : ℕ) (ms : List Moment) (c : Choice) (step : Option Step) (e : Option Entry) → k < length all → c ≡ get_or all k c
@@ -76,5 +70,5 @@ made_choice g all k v u w after ms c step e inside is before chosen made =
           (subst (λ (ns : List Moment). FollowsThen r g all (k + suc m) v ((setting_of v).count - 1) ns z) (sym (append_assoc ms (moments u step e w) more))
           (before.goes_on r (suc m) (moments u step e w ++ more) z
           (subst (λ (cs : List Choice). FollowsThen r g cs (suc m) u after (moments u step e w ++ more) z) (sym here) (step, e, w, more, chosen, made, follows, refl))));
-      carry = carry_more g v u w ms step e before.carry made;
+      gives = gives_more g v u w ms step e before.gives made;
     }

@@ -2,10 +2,8 @@
 use Rattle.std.specs.Prelude.{ℕ, ◌≡◌, ◌⊎◌, ◌-◌, ◌++◌, zero, suc, List, [], ◌∷◌, Option, Some, None}
 use Rattle.words.specs.declared.entry.Entry.{Entry}
 use Rattle.words.specs.declared.entry.Step.{Step}
-use Rattle.flat.specs.State.{Flat}
-use Rattle.flat.specs.Steps.{IsRun}
 use Rattle.protocol.specs.Caches.{Geometry}
-use Rattle.isolation.specs.Belongs.{Belongs}
+use Rattle.isolation.specs.Reasons.{LeadOn}
 use Rattle.machine.specs.Making.{MakesStep}
 use Rattle.machine.specs.States.{State, setting_of, shown}
 use Rattle.machine.specs.Turns.{IsNextTurn, hart_after}
@@ -74,11 +72,7 @@ Goes Turns g choices n v after ms w = Follows g choices n v after ms w
 Goes (Chance (Some chosen)) g choices n v after ms w = FollowsThen (Some chosen) g choices n v after ms w
 Goes (Chance None) g choices n v after ms w = (chosen : List Choice) × FollowsThen (Some chosen) g choices n v after ms w
 
--- the entries carry each flat state that belongs to the one machine to a state that belongs to the other
-abbrev pub CarryAll : Geometry → State → List Entry → State → Type 0
-CarryAll g v es w = (f : Flat) → Belongs g f (shown g.sets v) → (h : Flat) × IsRun f es h × Belongs g h (shown g.sets w)
-
 -- n steps on a course lead from one machine to another, where the highest hart counts as that of the last core step. These are their moments, whose
--- entries carry flat states on
+-- entries lead on, with their reasons
 abbrev pub Plays : Geometry → Course → ℕ → State → List Moment → State → Type 0
-Plays g course n v ms w = Goes course.behind g course.choices n v ((setting_of v).count - 1) ms w × CarryAll g v (entries_of ms) w
+Plays g course n v ms w = Goes course.behind g course.choices n v ((setting_of v).count - 1) ms w × LeadOn g (shown g.sets v) (entries_of ms) (shown g.sets w)

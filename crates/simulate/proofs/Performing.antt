@@ -1,11 +1,14 @@
 -- Where a run has come to, from what its parts answered.
-use Rattle.std.proofs.Common.{◌≡◌, ℕ, List, ap, sym, subst, ◌∙◌}
+use Rattle.std.proofs.Common.{◌≡◌, ℕ, List, [], ap, sym, subst, ◌∙◌}
 use Rattle.protocol.specs.Caches.{Geometry}
+use Rattle.table.specs.Program.{AreBytes}
 use Rattle.flat.specs.State.{Flat}
 use Rattle.flat.proofs.Runs.{run_setting}
 use Rattle.command_line.specs.declared.request.Run.{Run}
-use Rattle.isolation.specs.Belongs.{Belongs}
+use Rattle.isolation.specs.Belongs.{Belongs, BelongsAfter}
 use Rattle.isolation.proofs.Belongs.Belonging.{inv_of}
+use Rattle.isolation.proofs.Leading.{starts_unled}
+use Rattle.board.proofs.Replays.{bytes_of}
 use Rattle.machine.specs.States.{State, setting_of, shown}
 use Rattle.schedule.specs.declared.choices.Choice.{Choice}
 use Rattle.schedule.specs.Courses.{Behind, course}
@@ -35,11 +38,13 @@ module _ (g : Geometry) (run : Run) (b : Behind) (file list : List ℕ) (v : Sta
       let start = begun.starts in
       let booting : Flat = flat_start start.program run.setup in
       let as_chosen : Plays g (course choices b) steps v moments w = subst (λ (cs : List Choice). Plays g (course cs b) steps v moments w) same plays in
-      let carried = as_chosen.1 booting start.belongs in
+      let bytes : AreBytes start.program.segments = bytes_of g booting booting.setting start.program.entry (shown g.sets v) start.first.begins start.belongs in
+      let unled : BelongsAfter g [] booting (shown g.sets v) = subst (BelongsAfter g [] booting) (sym start.first.begins) (starts_unled g booting.setting start.program.entry bytes) in
+      let carried = as_chosen.1 [] booting unled in
       record {
         end = carried.0;
-        comes = record { program = start.program; holds = start.holds; first = v; begins = start.first; choices = choices; chosen = begun.chosen; last = w; made = as_chosen.0; run = carried.1 };
-        belongs = carried.2;
+        comes = record { program = start.program; holds = start.holds; first = v; begins = start.first; choices = choices; chosen = begun.chosen; last = w; made = as_chosen.0; run = carried.1; reasons = carried.2 };
+        belongs = carried.3.0;
         same = run_setting booting carried.0 (entries_of moments) carried.1 ∙ same_setting g booting v start.belongs;
       }
 

@@ -66,6 +66,7 @@ forget_comes g setup (Chance (Some chosen)) file list steps ms f comes = record 
   last = comes.last;
   made = (chosen, comes.made);
   run = comes.run;
+  reasons = comes.reasons;
 }
 
 module _ (g : Geometry) (run : Run) (b : Behind) (show : Show) (file list : List ℕ) (v w : State) (addrs : List ℕ) (choices followed : List Choice) (begun : IsBegunBy g run file list v addrs choices) (same : followed ≡ choices) where

@@ -18,6 +18,7 @@ use Rattle.flat.specs.State.{Setting, Flat}
 use Rattle.flat.specs.Steps.{IsRun}
 use Rattle.flat.proofs.Runs.{run_setting}
 use Rattle.isolation.specs.Belongs.{Belongs}
+use Rattle.isolation.specs.Reasons.{HaveReasons}
 use Rattle.protocol.specs.Caches.{Geometry}
 use Rattle.protocol.specs.Machine.{Machine}
 use Rattle.protocol.specs.Start.{start}
@@ -31,7 +32,7 @@ use Rattle.schedule.specs.Courses.{Turns}
 use Rattle.simulate.specs.Given.{AreTextsOf}
 use Rattle.render.specs.Reports.{AllReadable, report_of}
 use Rattle.simulate.specs.Runs.{addresses, ComesBy}
-use Rattle.simulate.specs.Schedules.{AreChosenBy}
+use Rattle.simulate.specs.Schedules.{AreChosenBy, HasSteps}
 use Rattle.simulate.specs.Shown.{Sinks, Texts}
 use Rattle.simulate.specs.Sources.{IsProgramIn, IsProgramFault}
 use Rattle.simulate.specs.Starts.{flat_start}
@@ -96,6 +97,7 @@ pub record IsEndBy (g : Geometry) (p : Program) (n size : ℕ) (choices : List C
   pub course : IsCourse g p n size choices entries m
   pub flat : Flat
   pub runs : IsRun (first_flat p n size) entries flat
+  pub reasons : HaveReasons (first_flat p n size) entries
   pub belongs : Belongs g flat (shown g.sets m)
 
 pub end_by : (g : Geometry) (p : Program) (n size : ℕ) (tells : Told → Type 0) (choices : List Choice) (m : State) (e : IsEnd g p n size tells m) → e.kept.all.choices ≡ Some choices → IsEndBy g p n size choices m
@@ -104,6 +106,7 @@ end_by g p n size tells choices m e is = record {
   course = subst (λ (cs : Option (List Choice)). IsCourseIf g p n size cs e.kept.all.entries m) is e.kept.course;
   flat = e.flat;
   runs = e.runs;
+  reasons = e.reasons;
   belongs = e.belongs;
 }
 
@@ -136,6 +139,9 @@ module _ (g : Geometry) (run : Run) (file : List ℕ) (p : Program) (holds : IsP
   abbrev steps : ℕ
   steps = length choices
 
+  counted : HasSteps list steps
+  counted = (choices, come.chosen, refl)
+
   comes : ComesBy g run.setup Turns file list steps come.end.course.moments come.end.flat
   comes =
       let course = come.end.course in record {
@@ -148,6 +154,7 @@ module _ (g : Geometry) (run : Run) (file : List ℕ) (p : Program) (holds : IsP
         last = m;
         made = course.follows;
         run = subst (λ (es : List Entry). IsRun (flat_start p run.setup) es come.end.flat) course.given come.end.runs;
+        reasons = subst (HaveReasons (flat_start p run.setup)) course.given come.end.reasons;
       }
 
   module _ (words : List ℕ) (as_given : words ≡ addrs) where
@@ -174,13 +181,13 @@ module _ (g : Geometry) (run : Run) (file : List ℕ) (p : Program) (holds : IsP
       pub given : (status : ℕ) → TookAll h k (history_text history list) → IsConcluded g m words a b status → IsGivenInThreads g run history file before after status
       given status kept whole_put =
           let at = whole_put.1 come.end.flat come.end.belongs in
-          (whole_put.0, (list, steps, whole, texts status at.0, subst (λ (l : List ℕ). TookAll a b l) (sym (append-nil (report_of come.end.flat words))) at.1, kept))
+          (whole_put.0, (list, steps, counted, whole, texts status at.0, subst (λ (l : List ℕ). TookAll a b l) (sym (append-nil (report_of come.end.flat words))) at.1, kept))
 
       -- a put of the report failed
       pub half_given : (fault : Fault) → TookAll h k (history_text history list) → IsHalfConcluded g m words a b fault → IsNotGivenInThreads g run history file before after fault
       half_given fault kept half =
           let at = half.1 come.end.flat come.end.belongs in
-          inr (inr (half.0, (list, steps, whole, at.0, texts at.0 at.1, subst (λ (l : List ℕ). TookPart a b l) (sym (append-nil (report_of come.end.flat words))) at.2, kept)))
+          inr (inr (half.0, (list, steps, counted, whole, at.0, texts at.0 at.1, subst (λ (l : List ℕ). TookPart a b l) (sym (append-nil (report_of come.end.flat words))) at.2, kept)))
 
     -- nothing is kept
     pub concluded : (page a b : SinkState) (r : Result ℕ Fault) → MatchResult r (IsConcluded g m words a b) (IsHalfConcluded g m words a b)
@@ -194,7 +201,7 @@ module _ (g : Geometry) (run : Run) (file : List ℕ) (p : Program) (holds : IsP
         → MatchResult r (IsGivenInThreads g run (Some path) file (record { output = a; file = h }) (record { output = b; file = k }))
         (IsNotGivenInThreads g run (Some path) file (record { output = a; file = h }) (record { output = b; file = k }))
     concluded_kept path h k a b (Ok status) (kept, put) = given (Some path) h k a b status kept put
-    concluded_kept path h k a b (Err fault) (inl ((is, part), still)) = inr (inl (path, refl, is, (list, steps, (come.end.course.moments, come.end.flat, comes), part, still)))
+    concluded_kept path h k a b (Err fault) (inl ((is, part), still)) = inr (inl (path, refl, is, (list, steps, counted, (come.end.course.moments, come.end.flat, comes), part, still)))
     concluded_kept path h k a b (Err fault) (inr (kept, half)) = half_given (Some path) h k a b fault kept half
 
 -- ---- the run that was not made

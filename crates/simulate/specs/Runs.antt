@@ -4,6 +4,7 @@ use Rattle.flat.specs.State.{Flat}
 use Rattle.flat.specs.Steps.{IsRun}
 use Rattle.loader.specs.Programs.{Program}
 use Rattle.protocol.specs.Caches.{Geometry}
+use Rattle.isolation.specs.Reasons.{HaveReasons}
 use Rattle.machine.specs.States.{State, setting_of}
 use Rattle.command_line.specs.declared.request.Setup.{Setup}
 use Rattle.command_line.specs.declared.request.Word.{Word}
@@ -18,7 +19,8 @@ use Rattle.simulate.specs.Starts.{IsFirstOf, flat_start}
 use Rattle.render.specs.Statuses.{IsStatusOf}
 
 -- the file with this name and these bytes has a program; so many steps, those that a list chooses and then turns, or what chance chooses, lead from the machine that it begins in to
--- another, or fewer if there are no more; these are their moments, and the entries that they gave lead as a run of the flat machine from the program's first state to this one
+-- another, or fewer if there are no more; these are their moments, and the entries that they gave lead as a run of the flat machine from the program's first state to this one.
+-- Each refusal and each abort for a conflict among them has its reason
 pub record ComesBy (g : Geometry) (setup : Setup) (behind : Behind) (file list : List ℕ) (steps : ℕ) (moments : List Moment) (f : Flat) : Type 0 where
   pub program : Program
   pub holds : IsProgramIn setup.file.now file program
@@ -29,6 +31,7 @@ pub record ComesBy (g : Geometry) (setup : Setup) (behind : Behind) (file list :
   pub last : State
   pub made : Goes behind g choices steps first ((setting_of first).count - 1) moments last
   pub run : IsRun (flat_start program setup) (entries_of moments) f
+  pub reasons : HaveReasons (flat_start program setup) (entries_of moments)
 
 -- the addresses of the words that are to be shown
 abbrev pub addresses : List Word → List ℕ

@@ -1,5 +1,5 @@
 -- The choices in a schedule's file.
-use Rattle.std.specs.Prelude.{ℕ, List}
+use Rattle.std.specs.Prelude.{ℕ, ◌≡◌, List, length}
 use Rattle.std.specs.Str.{IsUtf8}
 use Rattle.schedule.specs.declared.choices.Choice.{Choice}
 use Rattle.schedule.specs.Lines.{lines_of, AreSpelledBy, IsFirstWrong}
@@ -9,6 +9,10 @@ use Rattle.simulate.specs.declared.fault.Fault.TheVariants.{NotSchedule, Schedul
 -- the bytes are text, whose lines spell these choices
 abbrev pub AreChosenBy : List ℕ → List Choice → Type 0
 AreChosenBy list choices = IsUtf8 list × AreSpelledBy (lines_of list) choices
+
+-- the list of a schedule has so many steps
+abbrev pub HasSteps : List ℕ → ℕ → Type 0
+HasSteps list n = (choices : List Choice) × AreChosenBy list choices × (length choices ≡ n)
 
 -- why the bytes are no schedule: they are no text, or a line spells no step. Nothing is said of when memory runs out
 abbrev pub IsScheduleFault : List ℕ → Fault → Type 0

@@ -16,6 +16,7 @@ use Rattle.simulate.specs.Begins.{IsUnbegun}
 use Rattle.simulate.specs.Given.{AreTextsOf, Comes}
 use Rattle.render.specs.Reports.{AllReadable}
 use Rattle.simulate.specs.Runs.{addresses}
+use Rattle.simulate.specs.Schedules.{HasSteps}
 use Rattle.simulate.specs.Shown.{Texts, Sinks}
 use Rattle.simulate.specs.Starts.{flat_start}
 use Rattle.render.specs.Statuses.{IsReported}
@@ -33,18 +34,18 @@ history_text None list = []
 history_text (Some path) list = list
 
 module _ (g : Geometry) (run : Run) (history : Option (Bor (List ℕ))) (file : List ℕ) (before after : Sinks) where
-  -- the report is on the run which n steps by some list come to, as a schedule of this list makes it; and the list is the history
+  -- the report is on the run which just the steps of some list come to, as a schedule of this list makes it; and the list is the history
   abbrev pub IsGivenInThreads : ℕ → Type 0
-  IsGivenInThreads status = IsReported status × ((list : List ℕ) × (n : ℕ) × (texts : Texts) × AreTextsOf g (with_steps run n) Turns Report file list texts status
+  IsGivenInThreads status = IsReported status × ((list : List ℕ) × (n : ℕ) × HasSteps list n × (texts : Texts) × AreTextsOf g (with_steps run n) Turns Report file list texts status
       × TookAll before.output after.output texts.output × TookAll before.file after.file (history_text history list))
 
   -- a put of the history failed, or one of the report behind it
   abbrev pub IsHistoryCut : Type 0
-  IsHistoryCut = (list : List ℕ) × (n : ℕ) × ((ms : List Moment) × (f : Flat) × Comes g run Turns Report file list n ms f)
+  IsHistoryCut = (list : List ℕ) × (n : ℕ) × HasSteps list n × ((ms : List Moment) × (f : Flat) × Comes g run Turns Report file list n ms f)
       × TookPart before.file after.file list × IsUntouched before.output after.output
 
   abbrev pub IsReportCut : Type 0
-  IsReportCut = (list : List ℕ) × (n : ℕ) × (texts : Texts) × (status : ℕ) × AreTextsOf g (with_steps run n) Turns Report file list texts status
+  IsReportCut = (list : List ℕ) × (n : ℕ) × HasSteps list n × (texts : Texts) × (status : ℕ) × AreTextsOf g (with_steps run n) Turns Report file list texts status
       × TookPart before.output after.output texts.output × TookAll before.file after.file (history_text history list)
 
   -- why not all was taken: there is no run, memory ran out, the lock gave back another board, or a put failed

@@ -2,10 +2,11 @@ use Rattle.std.proofs.Common.{◌≡◌, List, Some, length, replicate, sym, ap,
 use Rattle.words.specs.declared.entry.Entry.{Entry}
 use Rattle.words.specs.declared.entry.Step.TheVariants.{Core}
 use Rattle.protocol.specs.Machine.{Runs}
+use Rattle.isolation.proofs.Leading.{run_leads_on}
 use Rattle.hart.specs.Parts.{Parts}
 use Rattle.machine.specs.States.{State, shown, geometry, IsSound}
 use Rattle.machine.specs.Lent.{hart_if, with_hart, RunsAlone, ComesBack}
-use Rattle.machine.proofs.Returning.{seated, back_is, comes_back, back_carries}
+use Rattle.machine.proofs.Returning.{seated, back_is, comes_back}
 use Rattle.machine.proofs.machine.Machine.adopt.Given.{Over}
 use Rattle.machine.proofs.machine.Machine.adopt.Goals as goal
 
@@ -45,5 +46,6 @@ runs g c old es is run =
 pub returns-clause-runs : goal.returns-clause-runs
 returns-clause-runs g c = λ old es is run. runs g c old es is run
 
-pub returns-clause-carries : goal.returns-clause-carries
-returns-clause-carries g c = λ old es is run. back_carries g.row.SETS g.row.WAYS c.args.id c.args.self.now (after g c) es (runs g c old es is run)
+pub returns-clause-leads : goal.returns-clause-leads
+returns-clause-leads g c = λ old es is run.
+    run_leads_on (geometry g.row.SETS g.row.WAYS) (shown g.row.SETS c.args.self.now) (shown g.row.SETS (after g c)) (replicate (length es) (Core c.args.id)) es (runs g c old es is run)
