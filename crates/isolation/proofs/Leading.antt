@@ -15,12 +15,12 @@ use Rattle.protocol.specs.Start.{start}
 use Rattle.protocol.proofs.Splits.{runs_then}
 use Rattle.isolation.specs.Belongs.{Belongs, BelongsAfter}
 use Rattle.isolation.specs.Reasons.{HasReason, HaveReasonsAfter, LeadOn}
-use Rattle.isolation.proofs.Belongs.Belonging.{belongs_start, belongs_later}
+use Rattle.isolation.proofs.Belongs.Belonging.{belongs_later}
 use Rattle.isolation.proofs.Reached.{reason_among}
 
 -- before the first step no entry was given
 pub starts_unled : (g : Geometry) (s : Setting) (entry : ℕ) → AreBytes s.segments → BelongsAfter g [] (first_state s entry) (start s entry)
-starts_unled g s entry bytes = (belongs_start g s entry bytes, refl)
+starts_unled g s entry bytes = (record { setting = s; entry = entry; bytes = bytes; steps = []; entries = []; run = (refl, refl); flat_run = refl }, refl)
 
 module _ (g : Geometry) (v w : Machine) (steps : List Step) (es : List Entry) (runs : Runs g v steps es w) (past : List Entry) (f : Flat) (b : Belongs g f v) (is : b.entries ≡ past) where
   -- all steps from the start
