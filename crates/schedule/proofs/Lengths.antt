@@ -9,6 +9,7 @@ use Rattle.schedule.specs.declared.choices.Choice.{Choice}
 use Rattle.schedule.specs.Courses.{Behind, Turns, Chance, Course, course, IsUnbegun}
 use Rattle.schedule.specs.Moments.{Moment, moment, moments}
 use Rattle.schedule.specs.Runs.{last_after, TakesTurns, TakesChosen, TakesBehind, FollowsThen, Goes, Plays}
+use Rattle.schedule.proofs.Making.{leads}
 use Rattle.schedule.proofs.Going.{rest_idle, rest_unchosen}
 
 -- a step is one moment, or none
@@ -60,9 +61,9 @@ steps_at_most g c n v ms w (goes, carry) = by_sort c.behind goes
 
 -- no step
 pub none_played : (g : Geometry) (choices : List Choice) (b : Behind) (v : State) → IsUnbegun b → Plays g (course choices b) 0 v [] v
-none_played g choices Turns v unbegun = (rest_idle g choices v ((setting_of v).count - 1), λ f b. (f, refl, b))
-none_played g choices (Chance None) v unbegun = (([], rest_unchosen g choices v ((setting_of v).count - 1)), λ f b. (f, refl, b))
+none_played g choices Turns v unbegun = (rest_idle g choices v ((setting_of v).count - 1), leads g v v [] ([], (refl, refl)))
+none_played g choices (Chance None) v unbegun = (([], rest_unchosen g choices v ((setting_of v).count - 1)), leads g v v [] ([], (refl, refl)))
 none_played g choices (Chance (Some cs)) v unbegun = (
   subst (λ (ds : List Choice). FollowsThen (Some ds) g choices 0 v ((setting_of v).count - 1) [] v) (sym unbegun) (rest_unchosen g choices v ((setting_of v).count - 1)),
-  λ f b. (f, refl, b),
+  leads g v v [] ([], (refl, refl)),
 )

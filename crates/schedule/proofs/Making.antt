@@ -28,8 +28,8 @@ pub gives_both : (g : Geometry) (v u w : State) (es fs : List Entry) → GivesAl
 gives_both g v u w es fs (steps, first) (more, later) = (steps ++ more, runs_then g (shown g.sets v) (shown g.sets u) (shown g.sets w) steps more es fs first later)
 
 gives_made : (g : Geometry) (v w : State) (step : Option Step) (e : Option Entry) → Makes g v step e w → GivesAll g v (option_to_list e) w
-gives_made g v w None e (none, same) = ([], ap option_to_list none, ap (shown g.sets) same)
-gives_made g v w (Some s) e made = (s ∷ [], shown g.sets w, e, [], steps_of g v s e w made, (refl, refl), sym (append-nil (option_to_list e)))
+gives_made g v w None e (none, same) = ([], (ap option_to_list none, ap (shown g.sets) same))
+gives_made g v w (Some s) e made = (s ∷ [], (shown g.sets w, e, [], steps_of g v s e w made, (refl, refl), sym (append-nil (option_to_list e))))
 
 -- the entries of some moments and of others
 pub entries_both : (ms ns : List Moment) → entries_of (ms ++ ns) ≡ entries_of ms ++ entries_of ns
@@ -48,7 +48,7 @@ pub record HasMade (g : Geometry) (all : List Choice) (k : ℕ) (v w : State) (a
 pub made_none : (g : Geometry) (all : List Choice) (v : State) → HasMade g all 0 v v ((setting_of v).count - 1) []
 made_none g all v = record {
   goes_on = λ r m more z follows. let count : m ≡ 0 + m = omega arith in subst (λ (n : ℕ). FollowsThen r g all n v ((setting_of v).count - 1) more z) count follows;
-  gives = ([], refl, refl);
+  gives = ([], (refl, refl));
 }
 
 -- the entries of one more step
