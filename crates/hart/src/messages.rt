@@ -9,16 +9,18 @@ ghost use Rattle.protocol.specs.HartMessages.{message_row, forward_row, refuse_r
 
 use crate::hart::Hart;
 use crate::reply::Reply;
-use crate::request::{Granted, content_back, have_answered, keep_ack, keep_grant, keep_nack};
 use crate::transactions::{give_way, note_refusal};
 use cache::Line;
-use conflict::{earlier, refuses};
+use conflict::{
+    Granted, content_back, earlier, have_answered, keep_ack, keep_grant, keep_nack, refuses,
+};
 use words::{Block, BlockNo, Entry, HartId, Kind, LineState, Message, Stamp};
 
 impl<const SETS: usize, const WAYS: usize> Hart<SETS, WAYS> {
     ghost use Rattle.hart.specs.Parts.{StaysPut};
     ghost use Rattle.hart.specs.Places.{KeepsWays};
-    ghost use Rattle.hart.specs.Shown.{shown_line, shown_tx, shown_hart, shown_granted};
+    ghost use Rattle.conflict.specs.Requests.{shown_granted};
+    ghost use Rattle.hart.specs.Shown.{shown_line, shown_tx, shown_hart};
     ghost use Rattle.hart.specs.Rows.{replied};
 
     /// Does what the protocol's row for the message says. A message that the hart doesn't await, or that is for the directory,

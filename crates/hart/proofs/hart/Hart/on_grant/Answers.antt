@@ -1,5 +1,5 @@
 use Rattle.std.proofs.Common.{refl, subst}
-use Rattle.hart.specs.Shown.{shown_granted}
+use Rattle.conflict.specs.Requests.{shown_granted}
 use Rattle.protocol.specs.Requests.{with_grant}
 use Rattle.hart.proofs.Keeping.{kept}
 use Rattle.hart.specs.Parts.{Parts}
