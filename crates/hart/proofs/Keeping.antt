@@ -5,10 +5,11 @@ use Rattle.std.specs.Option.{option_map}
 use Rattle.protocol.specs.Messages.{Granted}
 use Rattle.protocol.specs.Hart.{Hart, HartResult, Request}
 use Rattle.protocol.specs.Requests.{granted_so_far, answer_row}
-use Rattle.hart.specs.Answers.{Keeps}
+use Rattle.conflict.specs.Answers.{Keeps}
 use Rattle.hart.specs.Parts.{Parts}
-use Rattle.hart.specs.Shown.{shown_hart, shown_request}
-use Rattle.hart.specs.declared.request.Request.{Request as CodedRequest}
+use Rattle.conflict.specs.Requests.{shown_request}
+use Rattle.hart.specs.Shown.{shown_hart}
+use Rattle.conflict.specs.declared.request.Request.{Request as CodedRequest}
 use Rattle.hart.proofs.Rows.{answered}
 
 -- how a request goes on doesn't depend on what the hart had as its request

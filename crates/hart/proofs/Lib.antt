@@ -1,5 +1,4 @@
 pub mod Logs
-pub mod Equal
 pub mod Lines
 pub mod Rows
 pub mod Views
@@ -9,7 +8,6 @@ pub mod Alone
 pub mod Stores
 pub mod Plain
 pub mod Quick
-pub mod Answering
 pub mod Keeping
 pub mod Places
 pub mod Layouts

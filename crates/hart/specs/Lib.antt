@@ -2,5 +2,4 @@ pub mod Parts
 pub mod Shown
 pub mod Rows
 pub mod Locals
-pub mod Answers
 pub mod Places

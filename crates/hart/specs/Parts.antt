@@ -4,8 +4,8 @@ use Rattle.words.specs.Limits.{most_harts}
 use Rattle.words.specs.declared.cause.Status.{Status}
 use Rattle.transaction.specs.Value.{Transaction, IsSound as TxIsSound}
 use Rattle.cache.specs.Sets.{Sets, line_at, HasRoom}
-use Rattle.hart.specs.declared.request.Request.{Request}
-use Rattle.hart.specs.declared.request.PutOut.{PutOut}
+use Rattle.conflict.specs.declared.request.Request.{Request}
+use Rattle.conflict.specs.declared.request.PutOut.{PutOut}
 
 -- the hart's number, how many harts the machine has, and how many bytes memory; registers, pc and status; the transaction, with
 -- its undo log; the cache's sets; the request and the Put that are out; and whether the hart is fresh

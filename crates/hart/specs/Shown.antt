@@ -1,8 +1,7 @@
--- A hart and its parts, as the rows of the protocol speak of them. There a cache is a map from blocks to lines, a set of harts a
--- test on harts, and a log the list of its records, the newest first. The bytes that the hart has put out stand in the machine.
+-- A hart and its parts, as the rows of the protocol speak of them. There a cache is a map from blocks to lines, and a log the list of its
+-- records, the newest first. The bytes that the hart has put out stand in the machine.
 use Rattle.std.specs.Prelude.{ℕ, false, cond, ◌==◌, List, [], map, reverse, Option, Some, None, unwrap_or}
 use Rattle.std.specs.Option.{option_map}
-use Rattle.words.specs.Harts.{names}
 use Rattle.words.specs.declared.stamp.Stamp.{Stamp}
 use Rattle.undo_log.specs.Value.{Log}
 use Rattle.undo_log.specs.declared.record.Record.{Record}
@@ -11,12 +10,9 @@ use Rattle.transaction.specs.Value.{Transaction as Tx}
 use Rattle.transaction.specs.Transactions.{kept_stamp}
 use Rattle.cache.specs.declared.line.Line.{Line as CachedLine}
 use Rattle.cache.specs.Sets.{Sets, line_at}
-use Rattle.protocol.specs.Messages.{Granted}
 use Rattle.protocol.specs.Lines.{Line}
-use Rattle.protocol.specs.Hart.{Hart, Transaction, LogRecord, Request, PutOut}
-use Rattle.hart.specs.declared.request.Granted.{Granted as CodedGranted}
-use Rattle.hart.specs.declared.request.Request.{Request as CodedRequest}
-use Rattle.hart.specs.declared.request.PutOut.{PutOut as CodedPutOut}
+use Rattle.protocol.specs.Hart.{Hart, Transaction, LogRecord}
+use Rattle.conflict.specs.Requests.{shown_request, shown_put}
 use Rattle.hart.specs.Parts.{Parts}
 
 abbrev pub shown_line : CachedLine → Line
@@ -64,23 +60,6 @@ first_begun regs abort_pc stamp = record {
   aborting = None;
   log = [];
 }
-
-abbrev pub shown_granted : CodedGranted → Granted
-shown_granted g = record { give = g.give; content = g.content; expect = names g.expect }
-
-abbrev pub shown_request : CodedRequest → Request
-shown_request r = record {
-  block = r.block;
-  kind = r.kind;
-  grant = option_map shown_granted r.grant;
-  answered = names r.answered;
-  refused = r.refused;
-  content = r.content;
-  earlier = r.earlier;
-}
-
-abbrev pub shown_put : CodedPutOut → PutOut
-shown_put p = record { block = p.block; content = p.content; marked = p.marked }
 
 -- a hart whose cache has so many sets, and which has put out these bytes
 abbrev pub shown_hart : ℕ → List ℕ → Parts → Hart

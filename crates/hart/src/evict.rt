@@ -5,9 +5,9 @@ ghost use Rattle.protocol.specs.Evict.{evict_row, without_line, drop_row, write_
 
 use crate::hart::Hart;
 use crate::reply::Reply;
-use crate::request::PutOut;
 use crate::transactions::note_spill;
 use cache::Line;
+use conflict::PutOut;
 use words::{BlockNo, Entry, Message};
 
 impl<const SETS: usize, const WAYS: usize> Hart<SETS, WAYS> {

@@ -5,8 +5,8 @@ ghost use Rattle.flat.specs.State.{Setting};
 ghost use Rattle.flat.specs.Start.{first_regs};
 ghost use Rattle.protocol.specs.Start.{start};
 
-use crate::request::{PutOut, Request};
 use cache::{Cache, Line};
+use conflict::{PutOut, Request};
 use std::marker::Model;
 use transaction::Tx;
 use words::{Addr, BlockNo, HartId, LOG_BYTES, Regs, STACK_BYTES, Status};

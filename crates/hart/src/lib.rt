@@ -14,11 +14,10 @@ mod local;
 mod messages;
 mod reads;
 mod reply;
-mod request;
 mod retire;
 mod step;
 mod transactions;
 
+pub use conflict::{Granted, PutOut, Request};
 pub use hart::Hart;
 pub use reply::{CoreStep, Local, Reply};
-pub use request::{Granted, PutOut, Request};

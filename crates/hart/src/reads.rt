@@ -10,15 +10,16 @@ ghost use Rattle.protocol.specs.Hart.{stamp_of, overflow_of, log_of, put_content
 ghost use Rattle.protocol.specs.Values.{kept_content, restored, is_logged};
 
 use crate::hart::Hart;
-use crate::request::{PutOut, Request, same_put, same_request};
 use crate::transactions::{overflow_of, stamp_of};
 use cache::Line;
+use conflict::{PutOut, Request, same_put, same_request};
 use transaction::Tx;
 use words::{Addr, Block, BlockNo, HartId, Regs, Stamp, Status};
 
 /// What can be read of a hart.
 impl<const SETS: usize, const WAYS: usize> Hart<SETS, WAYS> {
-    ghost use Rattle.hart.specs.Shown.{shown_tx, shown_request, shown_put, lines_of};
+    ghost use Rattle.conflict.specs.Requests.{shown_request, shown_put};
+    ghost use Rattle.hart.specs.Shown.{shown_tx, lines_of};
 
     pub fn index(&self) -> HartId
         ensures { result ≡ self.now.index }

@@ -3,7 +3,7 @@ use Rattle.std.proofs.Common.{◌≡◌, ◌<◌, ℕ, List, Option, length, get
 use Rattle.std.specs.Option.{option_map}
 use Rattle.protocol.specs.Messages.{Block}
 use Rattle.protocol.specs.Values.{kept_content}
-use Rattle.hart.specs.Shown.{shown_request}
+use Rattle.conflict.specs.Requests.{shown_request}
 use Rattle.machine.specs.States.{Seat, hart_at}
 use Rattle.machine.proofs.Reading.{seat_at}
 

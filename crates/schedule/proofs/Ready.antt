@@ -22,8 +22,9 @@ use Rattle.table.specs.declared.effect.Act.TheVariants as act
 use Rattle.flat.specs.State.{Setting, idle}
 use Rattle.flat.specs.Causes.{next_of}
 use Rattle.hart.specs.Parts.{Parts}
-use Rattle.hart.specs.Shown.{shown_hart, shown_put, shown_request}
-use Rattle.hart.specs.declared.request.Request.{Request as CodedRequest}
+use Rattle.conflict.specs.Requests.{shown_put, shown_request}
+use Rattle.hart.specs.Shown.{shown_hart}
+use Rattle.conflict.specs.declared.request.Request.{Request as CodedRequest}
 use Rattle.protocol.specs.Lines.{Line, is_enough}
 use Rattle.protocol.specs.Hart.{Hart, Transaction, LogRecord, is_running, has_put_of, flat_hart}
 use Rattle.protocol.specs.Start.{first_hart}

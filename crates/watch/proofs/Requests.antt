@@ -4,8 +4,9 @@ use Rattle.std.specs.Prelude.{if◌then◌else◌, is_some, slice_get}
 use Rattle.std.specs.Option.{option_and_then, option_map, option_map_or}
 use Rattle.flat.specs.State.{idle}
 use Rattle.hart.specs.Parts.{Parts}
-use Rattle.hart.specs.Shown.{shown_hart, shown_request}
-use Rattle.hart.specs.declared.request.Request.{Request as CodedRequest}
+use Rattle.conflict.specs.Requests.{shown_request}
+use Rattle.hart.specs.Shown.{shown_hart}
+use Rattle.conflict.specs.declared.request.Request.{Request as CodedRequest}
 use Rattle.protocol.specs.Directory.{Busy}
 use Rattle.protocol.specs.Machine.{Machine}
 use Rattle.protocol.specs.Start.{first_hart}

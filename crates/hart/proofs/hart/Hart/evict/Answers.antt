@@ -1,7 +1,8 @@
 use Rattle.std.proofs.Common.{◌∙◌, ap, sym, Some}
 use Rattle.std.specs.Option.{option_map}
 use Rattle.protocol.specs.Evict.{drop_row, write_back_row}
-use Rattle.hart.specs.Shown.{shown_line, shown_put, shown_hart}
+use Rattle.conflict.specs.Requests.{shown_put}
+use Rattle.hart.specs.Shown.{shown_line, shown_hart}
 use Rattle.hart.proofs.Rows.{evicts-shared, evicts-owned, none_shown}
 use Rattle.hart.proofs.hart.Hart.evict.Goals as goal
 

@@ -5,7 +5,8 @@ use Rattle.table.specs.declared.effect.Effect.{Effect}
 use Rattle.protocol.specs.Hart.{Transaction, is_running}
 use Rattle.protocol.specs.Core.{effect_move}
 use Rattle.hart.specs.Parts.{Parts}
-use Rattle.hart.specs.Shown.{shown_tx, shown_request, shown_hart}
+use Rattle.conflict.specs.Requests.{shown_request}
+use Rattle.hart.specs.Shown.{shown_tx, shown_hart}
 use Rattle.hart.specs.Rows.{setting_of}
 use Rattle.hart.specs.Locals.{needs_hub}
 use Rattle.hart.proofs.Logs.{shown-running}

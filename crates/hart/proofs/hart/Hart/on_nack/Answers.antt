@@ -2,7 +2,7 @@ use Rattle.std.proofs.Common.{◌∙◌, refl, ap, subst}
 use Rattle.words.specs.Stamps.{earlier}
 use Rattle.protocol.specs.Hart.{stamp_of}
 use Rattle.protocol.specs.Requests.{with_nack}
-use Rattle.hart.specs.Answers.{Keeps}
+use Rattle.conflict.specs.Answers.{Keeps}
 use Rattle.hart.specs.Shown.{shown_tx}
 use Rattle.hart.proofs.Keeping.{kept}
 use Rattle.hart.specs.Parts.{Parts}

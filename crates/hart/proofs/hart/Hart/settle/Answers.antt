@@ -5,7 +5,8 @@ use Rattle.protocol.specs.Lines.{line_filled}
 use Rattle.protocol.specs.Hart.{sends, with_line, overflow_of}
 use Rattle.protocol.specs.Requests.{content_back}
 use Rattle.hart.specs.Parts.{Parts}
-use Rattle.hart.specs.Shown.{shown_granted, shown_request, shown_hart}
+use Rattle.conflict.specs.Requests.{shown_granted, shown_request}
+use Rattle.hart.specs.Shown.{shown_hart}
 use Rattle.hart.proofs.Keeping.{is_out}
 use Rattle.hart.proofs.Rows.{ends-refused, ends-granted}
 use Rattle.hart.proofs.Places.{none_moves}

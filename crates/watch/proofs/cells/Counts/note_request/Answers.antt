@@ -1,5 +1,6 @@
 use Rattle.std.proofs.Common.{◌≡◌, ◌∙◌, ◌+◌, ◌∷◌, [], ℕ, List, Some, ap, false, is_some, option_map, sym, true}
-use Rattle.hart.specs.Shown.{shown_line, shown_request}
+use Rattle.conflict.specs.Requests.{shown_request}
+use Rattle.hart.specs.Shown.{shown_line}
 use Rattle.protocol.specs.Directory.{DirEntry}
 use Rattle.machine.specs.States.{shown}
 use Rattle.watch.specs.declared.kinds.Kind.{Kind}

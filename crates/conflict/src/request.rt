@@ -1,8 +1,8 @@
 ghost use Rattle.std.specs.Prelude.{◌≡◌, ◌≤◌, ◌||◌, ◌↔◌, ℕ, Option, IsTrue, IsFalse};
 ghost use Rattle.words.specs.Harts.{names};
 ghost use Rattle.words.specs.Limits.{most_harts};
-ghost use Rattle.hart.specs.Shown.{shown_granted, shown_request};
-ghost use Rattle.hart.specs.Answers.{Keeps, AwaitsNone};
+ghost use Rattle.conflict.specs.Requests.{shown_granted, shown_request};
+ghost use Rattle.conflict.specs.Answers.{Keeps, AwaitsNone};
 ghost use Rattle.protocol.specs.Requests.{new_request, with_grant, with_ack, with_nack, have_answered, content_back};
 
 use words::{Block, BlockNo, HartId, HartSet, Kind, LineState};
@@ -43,7 +43,7 @@ pub struct PutOut {
 
 impl Request {
     /// A request without answers.
-    pub(crate) fn new(block: BlockNo, kind: Kind) -> Self
+    pub fn new(block: BlockNo, kind: Kind) -> Self
         ensures { shown_request result ≡ new_request block kind }
     {
         Request {
@@ -86,7 +86,7 @@ impl Request {
 
 /// Keeps a block's grant with the request that is out for it. The answer is whether there is one.
 #[inline(always)]
-pub(crate) fn keep_grant(out: &mut Option<Request>, block: BlockNo, granted: &Granted) -> bool
+pub fn keep_grant(out: &mut Option<Request>, block: BlockNo, granted: &Granted) -> bool
     ensures kept { IsTrue result → Keeps (with_grant (shown_granted granted.now)) block out.old out.new }
     ensures none { IsFalse result → AwaitsNone block out.old × (out.new ≡ out.old) }
 {
@@ -101,7 +101,7 @@ pub(crate) fn keep_grant(out: &mut Option<Request>, block: BlockNo, granted: &Gr
 
 /// Keeps a hart's acknowledgement with the request for a block, if one is out, and answers whether one is.
 #[inline(always)]
-pub(crate) fn keep_ack(
+pub fn keep_ack(
     out: &mut Option<Request>,
     block: BlockNo,
     from: HartId,
@@ -121,12 +121,7 @@ pub(crate) fn keep_ack(
 
 /// Keeps a hart's refusal, by a transaction that is earlier or not, with the request for a block, if one is out, and answers whether one is.
 #[inline(always)]
-pub(crate) fn keep_nack(
-    out: &mut Option<Request>,
-    block: BlockNo,
-    from: HartId,
-    is_earlier: bool,
-) -> bool
+pub fn keep_nack(out: &mut Option<Request>, block: BlockNo, from: HartId, is_earlier: bool) -> bool
     ensures kept { IsTrue result → Keeps (with_nack from is_earlier) block out.old out.new }
     ensures none { IsFalse result → AwaitsNone block out.old × (out.new ≡ out.old) }
 {
@@ -140,7 +135,7 @@ pub(crate) fn keep_nack(
 }
 
 /// Whether each of the first harts that is expected has answered.
-pub(crate) fn have_answered(expect: &HartSet, answered: &HartSet, harts: usize) -> bool
+pub fn have_answered(expect: &HartSet, answered: &HartSet, harts: usize) -> bool
     requires { harts ≤ most_harts }
     ensures { result ≡ have_answered harts (names expect.now) (names answered.now) }
 {
@@ -149,7 +144,7 @@ pub(crate) fn have_answered(expect: &HartSet, answered: &HartSet, harts: usize) 
 
 /// What a requester tells the directory of the content that it was given: memory needs it only where the block is shared from now
 /// on.
-pub(crate) fn content_back(give: LineState, content: Option<Block>) -> Option<Block>
+pub fn content_back(give: LineState, content: Option<Block>) -> Option<Block>
     ensures { result ≡ content_back give content }
 {
     match give {
@@ -158,13 +153,13 @@ pub(crate) fn content_back(give: LineState, content: Option<Block>) -> Option<Bl
     }
 }
 
-pub(crate) fn same_request(a: &Option<Request>, b: &Option<Request>) -> bool
+pub fn same_request(a: &Option<Request>, b: &Option<Request>) -> bool
     ensures { IsTrue result ↔ (a.now ≡ b.now) }
 {
     *a == *b
 }
 
-pub(crate) fn same_put(a: &Option<PutOut>, b: &Option<PutOut>) -> bool
+pub fn same_put(a: &Option<PutOut>, b: &Option<PutOut>) -> bool
     ensures { IsTrue result ↔ (a.now ≡ b.now) }
 {
     *a == *b

@@ -1,8 +1,8 @@
 -- Answers that are kept with the request that is out.
 use Rattle.std.specs.Prelude.{ℕ, ◌≡◌, ◌≢◌, Option, Some}
 use Rattle.protocol.specs.Hart.{Request}
-use Rattle.hart.specs.declared.request.Request.{Request as CodedRequest}
-use Rattle.hart.specs.Shown.{shown_request}
+use Rattle.conflict.specs.declared.request.Request.{Request as CodedRequest}
+use Rattle.conflict.specs.Requests.{shown_request}
 
 -- the request that is out is for block b, and keeps an answer
 abbrev pub Keeps : (Request → Request) → ℕ → Option CodedRequest → Option CodedRequest → Type 0
