@@ -1,29 +1,37 @@
--- A step has one outcome.
-use Rattle.std.proofs.Common.{◌≡◌, ◌≢◌, ◌∙◌, ℕ, Bool, true, false, cond, Option, Some, None, List, [], ◌∷◌, inl, inr, refl, sym, ap, subst}
-use Rattle.std.specs.Prelude.{◌==◌, slice_get}
-use Rattle.std.specs.Option.{option_map, option_map_or}
+-- A step has one outcome: it leads from twins to twins.
+use Rattle.std.proofs.Common.{◌≡◌, ◌<◌, ◌%◌, ◌∙◌, ℕ, true≢false, Option, Some, None, List, [], ◌∷◌, length, inl, inr, arith, refl, sym, ap, subst}
+use Rattle.std.specs.Prelude.{slice_get, is_some, IsSome}
+use Rattle.std.specs.Option.{option_map, option_map_or, option_and_then}
 use Rattle.std.proofs.Math.Path.{fun_ext}
-use Rattle.std.proofs.lemmas.Bool.{cases_eq}
-use Rattle.std.proofs.lemmas.Option.{same_Some, none-some}
+use Rattle.std.proofs.lemmas.Bool.{cases_lt}
+use Rattle.std.proofs.lemmas.Option.{same_Some, slice_get_within}
 use Rattle.words.specs.declared.entry.Entry.{Entry}
 use Rattle.words.specs.declared.entry.Step.{Step}
+use Rattle.words.specs.declared.entry.Step.TheVariants.{Core, Evict, Deliver}
 use Rattle.flat.specs.Bytes.{put_at}
 use Rattle.flat.specs.State.{idle}
-use Rattle.flat.proofs.Maps.{one_number, two_numbers}
 use Rattle.network.specs.declared.net.Flight.{Flight}
 use Rattle.protocol.specs.Caches.{Geometry}
 use Rattle.protocol.specs.Messages.{Message, shown as shown_message}
 use Rattle.protocol.specs.Hart.{Hart}
 use Rattle.protocol.specs.Start.{first_hart}
 use Rattle.protocol.specs.Network.{Network}
-use Rattle.cache.specs.Sets.{IsSound, ways_at}
-use Rattle.hart.specs.Shown.{shown_hart, lines_of}
-use Rattle.hart.proofs.Layouts.{ways_once}
-use Rattle.protocol.specs.Machine.{Machine, Change}
-use Rattle.machine.specs.Mail.{Mail, SendsOn, IsLeft, in_flight, mail_of, number_after, without_numbers}
-use Rattle.machine.specs.Making.{BringsAbout, MakesStep, change_by}
+use Rattle.protocol.specs.Machine.{Machine, Change, change_of}
+use Rattle.protocol.proofs.Settings.{setting_stays}
+use Rattle.cache.specs.Ways.{victim_in}
+use Rattle.cache.specs.Sets.{IsSound, ways_at, victim_at}
+use Rattle.hart.specs.Places.{IsLaidOut, AreLaidAlike}
+use Rattle.hart.specs.Rows.{block_of, victim_of}
+use Rattle.hart.specs.Shown.{shown_hart}
+use Rattle.hart.proofs.Layouts.{laid_alike_on, laid_sound, laid_empty}
+use Rattle.machine.specs.Mail.{Mail, IsLowestFree, SendsOn, IsLeft, mail_of, number_after, without_numbers}
+use Rattle.machine.specs.Making.{MakesStep, change_by, victims}
 use Rattle.machine.specs.States.{Seat, State, shown, hart_at}
-use Rattle.machine.specs.Alike.{LiesIn, LiesAlsoIn, AreAlike}
+use Rattle.machine.specs.Twins.{AreTwins}
+use Rattle.machine.specs.Unused.{IsUnused}
+use Rattle.machine.proofs.Made.{steps_of}
+use Rattle.machine.proofs.OneMessage.{one_flight}
+use Rattle.machine.proofs.Places.{none_past}
 
 abbrev message_of : Option Flight → Option Message
 message_of o = option_map shown_message (option_map (λ (f : Flight). f.message) o)
@@ -42,76 +50,117 @@ left_once before net a b one other = fun_ext (λ key. left_at (before key) (a ke
 
 -- What is sent
 
-there : {A : Type 0} (key : ℕ) (x : A) (f : ℕ → A) → put_at key x f key ≡ x
-there key x f = elim (key == key) as (λ b. (key == key) ≡ b → cond b x (f key) ≡ x) [ true ↦ λ e. refl | false ↦ λ e. absurd (two_numbers key key e refl) ] refl
+nothing : (o : Option Flight) → o ≡ None → IsSome o → ⊥
+nothing o none some = true≢false (sym some ∙ ap is_some none)
 
-elsewhere : {A : Type 0} (key j : ℕ) (x : A) (f : ℕ → A) → j ≢ key → put_at key x f j ≡ f j
-elsewhere key j x f ne = elim (j == key) as (λ b. (j == key) ≡ b → cond b x (f j) ≡ f j) [ true ↦ λ e. absurd (ne (one_number j key e)) | false ↦ λ e. refl ] refl
-
--- one message more in each
-more_there : (a b : Mail) (j k : ℕ) (f h : Flight) → LiesAlsoIn a b → b k ≡ None → f.number ≡ h.number → shown_message f.message ≡ shown_message h.message
-    → LiesAlsoIn (put_at j (Some f) a) (put_at k (Some h) b)
-more_there a b j k f h also free number told n m lies = elim (cases_eq lies.key j) [
-  | inl e ↦
-      let same : f ≡ lies.flight = same_Some f lies.flight (sym (there j (Some f) a) ∙ (subst (λ i. put_at j (Some f) a i ≡ Some lies.flight) e lies.here)) in
-      record {
-        key = k;
-        flight = h;
-        here = there k (Some h) b;
-        numbered = sym number ∙ (ap (λ (x : Flight). x.number) same ∙ lies.numbered);
-        told = sym told ∙ (ap (λ (x : Flight). shown_message x.message) same ∙ lies.told);
-      }
-  | inr ne ↦
-      let old : LiesIn b n m = also n m (record { key = lies.key; flight = lies.flight; here = sym (elsewhere j lies.key (Some f) a ne) ∙ lies.here; numbered = lies.numbered; told = lies.told }) in
-      let apart : old.key ≢ k = λ e. none-some old.flight (sym free ∙ subst (λ i. b i ≡ Some old.flight) e old.here) in
-      record { key = old.key; flight = old.flight; here = elsewhere k old.key (Some h) b apart ∙ old.here; numbered = old.numbered; told = old.told }
+one_key : (mail : Mail) (i j : ℕ) → IsLowestFree mail i → IsLowestFree mail j → i ≡ j
+one_key mail i j one other = elim (cases_lt i j) [
+  | inl below ↦ absurd (nothing (mail i) one.free (other.lowest i below))
+  | inr le ↦ elim (cases_lt j i) [
+    | inl below ↦ absurd (nothing (mail j) other.free (one.lowest j below))
+    | inr ge ↦ omega (arith, le, ge)
+  ]
 ]
 
--- the same messages with the same numbers are in flight, and the next one gets the same number
-abbrev Sent : Mail → ℕ → Mail → ℕ → Type 0
-Sent a l b n = (l ≡ n) × LiesAlsoIn a b × LiesAlsoIn b a
+sent_once : (ms : List Message) (a x y : Mail) (n l k : ℕ) → SendsOn a n ms x l → SendsOn a n ms y k → (x ≡ y) × (l ≡ k)
+sent_once [] a x y n l k (at, is) (there, also) = (at ∙ sym there, is ∙ sym also)
+sent_once (m ∷ ms) a x y n l k (i, f, free, told, number, rest) (j, h, free_too, told_too, number_too, rest_too) =
+    let keys : i ≡ j = one_key a i j free free_too in
+    let flights : f ≡ h = one_flight f h (number ∙ sym number_too) (told ∙ sym told_too) in
+    let mails : put_at j (Some h) a ≡ put_at i (Some f) a = λ t. put_at (sym keys t) (Some (sym flights t)) a in
+    sent_once ms (put_at i (Some f) a) x y (number_after n) l k rest (subst (λ mail. SendsOn mail (number_after n) ms y k) mails rest_too)
 
-sent_once : (ms : List Message) (a b x y : Mail) (m n l k : ℕ) → Sent a m b n → SendsOn a m ms x l → SendsOn b n ms y k → Sent x l y k
-sent_once [] a b x y m n l k (same, one, other) (at, is) (there_at, there_is) =
-    (is ∙ (same ∙ sym there_is), subst (λ z. LiesAlsoIn z y) (sym at) (subst (LiesAlsoIn a) (sym there_at) one), subst (λ z. LiesAlsoIn z x) (sym there_at) (subst (LiesAlsoIn b) (sym at) other))
-sent_once (c ∷ ms) a b x y m n l k (same, one, other) (i, f, free, is, number, rest) (j, h, gree, his, humber, hest) =
-    let numbers : f.number ≡ h.number = number ∙ (same ∙ sym humber) in
-    let told : shown_message f.message ≡ shown_message h.message = is ∙ sym his in
-    sent_once ms (put_at i (Some f) a) (put_at j (Some h) b) x y (number_after m) (number_after n) l k
-    (ap number_after same, more_there a b i j f h one gree numbers told, more_there b a j i h f other free (sym numbers) (sym told)) rest hest
+-- Seats
 
-module _ (sets : ℕ) (v : State) (c : Change) (d e : Option Entry) (u w : State) (one : BringsAbout sets v c d u) (other : BringsAbout sets v c e w) where
-  left_same : one.left ≡ other.left
-  left_same = left_once (mail_of v.flights) c.machine.net one.left other.left one.leaves other.leaves
-
-  all_sent : Sent (mail_of u.flights) u.sent (mail_of w.flights) w.sent
-  all_sent = sent_once c.sent other.left other.left (mail_of u.flights) (mail_of w.flights) v.sent v.sent u.sent w.sent (refl, (λ n m lies. lies), (λ n m lies. lies))
-      (subst (λ left. SendsOn left v.sent c.sent (mail_of u.flights) u.sent) left_same one.sends) other.sends
-
-  alike : AreAlike sets u w
-  alike = record {
-    machine = one.machine ∙ ap (λ (x : Machine). record x { net = in_flight u.flights }) (sym other.machine);
-    sent = all_sent.0;
-    there = all_sent.1;
-    back = all_sent.2;
-  }
-
-pub one_entry : (g : Geometry) (v u w : State) (step : Step) (d e : Option Entry) → MakesStep g v step d u → MakesStep g v step e w → d ≡ e
-one_entry g v u w step d e one other = one.made.entry ∙ sym other.made.entry
-
-pub one_machine : (g : Geometry) (v u w : State) (step : Step) (d e : Option Entry) → MakesStep g v step d u → MakesStep g v step e w → AreAlike g.sets u w
-one_machine g v u w step d e one other = alike g.sets v (change_by g.sets v step) d e u w one.made other.made
-
-pub one_layout : (g : Geometry) (v u w : State) (step : Step) (d e : Option Entry) → MakesStep g v step d u → MakesStep g v step e w
-    → (i : ℕ) (before s t : Seat) → slice_get v.seats i ≡ Some before → slice_get u.seats i ≡ Some s → slice_get w.seats i ≡ Some t → IsSound g.sets g.ways before.hart.cache
-    → (set : ℕ) → ways_at s.hart.cache set ≡ ways_at t.hart.cache set
-one_layout g v u w step d e one other i before s t was first second sound set = ways_once g.sets g.ways before.hart.cache s.hart.cache t.hart.cache sound (one.ways i before s was first) (other.ways i before t was second) lines set
+seat_there : (seats : List Seat) (i : ℕ) → i < length seats → (s : Seat) × (slice_get seats i ≡ Some s)
+seat_there seats i below = go (slice_get seats i) refl
   where
-    harts : hart_at g.sets u.seats i ≡ hart_at g.sets w.seats i
-    harts = ap (λ (m : Machine). m.harts i) (one_machine g v u w step d e one other).machine
+    go : (o : Option Seat) → slice_get seats i ≡ o → (s : Seat) × (slice_get seats i ≡ Some s)
+    go None is = absurd (omega (arith, below, none_past seats i is))
+    go (Some s) is = (s, is)
 
-    of_seat : (m : State) (x : Seat) → slice_get m.seats i ≡ Some x → hart_at g.sets m.seats i ≡ shown_hart g.sets x.output x.hart
-    of_seat m x at = ap (λ o. option_map_or (λ (y : Seat). shown_hart g.sets y.output y.hart) o (first_hart idle)) at
+hart_is : (sets i : ℕ) (seats : List Seat) (s : Seat) → slice_get seats i ≡ Some s → hart_at sets seats i ≡ shown_hart sets s.output s.hart
+hart_is sets i seats s at = ap (λ o. option_map_or (λ (x : Seat). shown_hart sets x.output x.hart) o (first_hart idle)) at
 
-    lines : (c : ℕ) → lines_of g.sets s.hart.cache c ≡ lines_of g.sets t.hart.cache c
-    lines c = ap (λ (h : Hart). h.lines c) (sym (of_seat u s first) ∙ (harts ∙ of_seat w t second))
+module _ (g : Geometry) (v w : State) (twins : AreTwins g v w) where
+  count : length v.seats ≡ length w.seats
+  count = ap (λ (m : Machine). m.setting.count) twins.machine
+
+  -- the same line makes way
+  victim_is : (i b : ℕ) (o p : Option Seat) → slice_get v.seats i ≡ o → slice_get w.seats i ≡ p
+      → option_and_then (λ (s : Seat). victim_of g.sets s.hart.cache b) o ≡ option_and_then (λ (s : Seat). victim_of g.sets s.hart.cache b) p
+  unfolding victim_at
+  victim_is i b None None at is = refl
+  victim_is i b None (Some t) at is = absurd (omega (arith, none_past v.seats i at, slice_get_within w.seats i t is, count))
+  victim_is i b (Some s) None at is = absurd (omega (arith, none_past w.seats i is, slice_get_within v.seats i s at, count))
+  victim_is i b (Some s) (Some t) at is = ap (λ ways. block_of (victim_in ways)) ((twins.caches i s t at is).ways (b % g.sets))
+
+  victims_are : (step : Step) → victims g.sets v step ≡ victims g.sets w step
+  victims_are (Core i) = fun_ext (λ b. victim_is i b (slice_get v.seats i) (slice_get w.seats i) refl refl)
+  victims_are (Evict i c) = refl
+  victims_are (Deliver key) = refl
+
+  change_is : (step : Step) → change_by g.sets v step ≡ change_by g.sets w step
+  change_is step = λ k. change_of (victims_are step k) step (twins.machine k)
+
+  module _ (step : Step) (d e : Option Entry) (u x : State) (one : MakesStep g v step d u) (other : MakesStep g w step e x) where
+    same : change_by g.sets v step ≡ change_by g.sets w step
+    same = change_is step
+
+    pub one_entry : d ≡ e
+    one_entry = one.made.entry ∙ (ap (λ (c : Change). c.entry) same ∙ sym other.made.entry)
+
+    left_is : one.made.left ≡ other.made.left
+    left_is = left_once (mail_of w.flights) (change_by g.sets w step).machine.net one.made.left other.made.left
+        (subst (λ mail. IsLeft mail (change_by g.sets w step).machine.net one.made.left) twins.mail
+        (subst (λ (c : Change). IsLeft (mail_of v.flights) c.machine.net one.made.left) same one.made.leaves))
+        other.made.leaves
+
+    sent_is : (mail_of u.flights ≡ mail_of x.flights) × (u.sent ≡ x.sent)
+    sent_is = sent_once (change_by g.sets w step).sent other.made.left (mail_of u.flights) (mail_of x.flights) w.sent u.sent x.sent
+        (subst (λ n. SendsOn other.made.left n (change_by g.sets w step).sent (mail_of u.flights) u.sent) twins.sent
+        (subst (λ (c : Change). SendsOn other.made.left v.sent c.sent (mail_of u.flights) u.sent) same
+        (subst (λ left. SendsOn left v.sent (change_by g.sets v step).sent (mail_of u.flights) u.sent) left_is one.made.sends)))
+        other.made.sends
+
+    machine_is : shown g.sets u ≡ shown g.sets x
+    machine_is = one.made.machine ∙ ((λ k. record ((same k).machine) { net = without_numbers (sent_is.0 k) }) ∙ sym other.made.machine)
+
+    -- as many seats as before
+    as_many : length u.seats ≡ length v.seats
+    as_many = ap (λ s. s.count) (setting_stays g (shown g.sets v) (shown g.sets u) step d (steps_of g v step d u one))
+
+    caches_are : (i : ℕ) (s t : Seat) → slice_get u.seats i ≡ Some s → slice_get x.seats i ≡ Some t → AreLaidAlike g.sets s.hart.cache t.hart.cache
+    caches_are i s t at is =
+        let below : i < length u.seats = slice_get_within u.seats i s at in
+        let p = seat_there v.seats i (omega (arith, below, as_many)) in
+        let q = seat_there w.seats i (omega (arith, below, as_many, count)) in
+        laid_alike_on g.sets p.0.hart.cache q.0.hart.cache s.hart.cache t.hart.cache (twins.caches i p.0 q.0 p.1 q.1) (one.ways i p.0 s p.1 at) (other.ways i q.0 t q.1 is)
+        (λ c. ap (λ (h : Hart). h.lines c) (sym (hart_is g.sets i u.seats s at) ∙ (ap (λ (m : Machine). m.harts i) machine_is ∙ hart_is g.sets i x.seats t is)))
+
+    pub twins_on : AreTwins g u x
+    twins_on = record { machine = machine_is; mail = sent_is.0; sent = sent_is.1; caches = caches_are }
+
+-- machines of which no step was made
+pub twins_first : (g : Geometry) (v w : State) → shown g.sets v ≡ shown g.sets w → IsUnused g v → IsUnused g w → AreTwins g v w
+twins_first g v w same one other = record {
+  machine = same;
+  mail = fun_ext (λ key. one.flights key ∙ sym (other.flights key));
+  sent = one.sent ∙ sym other.sent;
+  caches = λ i s t at is. record {
+    laid = subst (IsLaidOut g.sets) (sym (one.caches i s at)) (laid_empty g.sets g.sets g.ways);
+    ways = λ set. ap (λ cache. ways_at cache set) (one.caches i s at ∙ sym (other.caches i t is));
+  };
+}
+
+-- a machine whose caches keep what caches keep is its own twin
+pub own_twin : (g : Geometry) (v : State) → ((i : ℕ) (s : Seat) → slice_get v.seats i ≡ Some s → IsSound g.sets g.ways s.hart.cache) → AreTwins g v v
+own_twin g v sound = record {
+  machine = refl;
+  mail = refl;
+  sent = refl;
+  caches = λ i s t at is. record {
+    laid = laid_sound g.sets g.ways s.hart.cache (sound i s at);
+    ways = λ set. ap (λ (x : Seat). ways_at x.hart.cache set) (same_Some s t (sym at ∙ is));
+  };
+}
