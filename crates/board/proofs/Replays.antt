@@ -46,12 +46,12 @@ boots_if_ok (Some e) r a refused is = let err : r ≡ Err e = refused e refl in 
 pub record Begins (g : Geometry) (p : Program) (n size : ℕ) (m : State) : Type 0 where
   pub boots : boot_fault p.segments n size ≡ None
   pub machine : shown g.sets m ≡ start (first_flat p n size).setting p.entry
-  pub unused : IsUnused m
+  pub unused : IsUnused g m
   pub bytes : AreBytes p.segments
 
 -- that of a copy is one of the program
 pub begins_of_copy : (g : Geometry) (p q : Program) (n size : ℕ) (m : State) → q ≡ p → ((e : BootFault) → boot_fault q.segments n size ≡ Some e → ◌≡◌ {A = Result State BootFault} (Ok m) (Err e))
-    → (boot_fault q.segments n size ≡ None → shown g.sets m ≡ start (first_flat q n size).setting q.entry) → Belongs g (first_flat q n size) (shown g.sets m) → IsUnused m → Begins g p n size m
+    → (boot_fault q.segments n size ≡ None → shown g.sets m ≡ start (first_flat q n size).setting q.entry) → Belongs g (first_flat q n size) (shown g.sets m) → IsUnused g m → Begins g p n size m
 begins_of_copy g p q n size m copied refused accepted belongs unused =
     let boots : boot_fault q.segments n size ≡ None = boots_if_ok {A = State} (boot_fault q.segments n size) (Ok m) m refused refl in
     let machine = accepted boots in

@@ -36,7 +36,7 @@ module _ {J : Type 0} where
   pub record IsFirst (g : Geometry) (p : Program) (n size : ℕ) (journal : J) (b : Held J) : Type 0 where
     pub boots : boot_fault p.segments n size ≡ None
     pub machine : shown g.sets b.machine ≡ start (first_flat p n size).setting p.entry
-    pub unused : IsUnused b.machine
+    pub unused : IsUnused g b.machine
     pub rest : b ≡ record { program = p; harts = n; size = size; machine = b.machine; journal = journal }
 
   -- the board as it was, though its journal may have got room

@@ -101,7 +101,7 @@ pub record IsCourse (g : Geometry) (p : Program) (n size : ℕ) (choices : List 
   pub first : State
   pub starts : shown g.sets first ≡ start (first_flat p n size).setting p.entry
   pub writable : All IsWritable choices
-  pub unused : IsUnused first
+  pub unused : IsUnused g first
   pub moments : List Moment
   pub given : es ≡ entries_of moments
   pub follows : Follows g choices (length choices) first ((setting_of first).count - 1) moments m

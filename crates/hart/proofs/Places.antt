@@ -1,6 +1,6 @@
 -- Where lines stand, over what is done with a cache.
-use Rattle.std.proofs.Common.{◌≡◌, ◌∙◌, ◌%◌, ◌⊎◌, inl, inr, ℕ, zero, suc, Option, Some, None, List, [], ◌∷◌, length, get_or, position, map, refl, sym, ap, subst, arith}
-use Rattle.std.specs.Prelude.{slice_set, Bool, true, false}
+use Rattle.std.proofs.Common.{◌≡◌, ◌∙◌, ◌%◌, ◌⊎◌, inl, inr, ℕ, zero, suc, Option, Some, None, List, [], ◌∷◌, length, get_or, position, map, refl, sym, ap, subst}
+use Rattle.std.specs.Prelude.{slice_set}
 use Rattle.std.specs.Option.{option_map, option_and_then, option_map_or}
 use Rattle.std.proofs.lemmas.Option.{same_Some, none-some}
 use Rattle.cache.specs.declared.line.Line.{Line}

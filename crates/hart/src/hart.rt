@@ -1,4 +1,4 @@
-ghost use Rattle.std.specs.Prelude.{◌≡◌, ◌<◌, ◌≤◌, ◌+◌, ◌-◌, ◌*◌, ◌^◌, ◌↔◌, ℕ, [], IsTrue, IsSome, Option};
+ghost use Rattle.std.specs.Prelude.{◌≡◌, ◌<◌, ◌≤◌, ◌+◌, ◌-◌, ◌*◌, ◌^◌, ◌↔◌, ℕ, [], IsTrue, IsSome, Option, None, replicate};
 ghost use Rattle.std.specs.Option.{option_map};
 ghost use Rattle.words.specs.Limits.{most_harts, log_bytes};
 ghost use Rattle.flat.specs.State.{Setting};
@@ -106,6 +106,7 @@ impl<const SETS: usize, const WAYS: usize> Hart<SETS, WAYS> {
         ensures harts { result.harts ≡ harts }
         ensures size { result.size ≡ size }
         ensures log { result.tx.log.base ≡ size - log_bytes * (index + 1) }
+        ensures cache { result.cache ≡ replicate SETS (replicate WAYS None) }
     {
         let base = size.saturating_sub(LOG_BYTES * (index.index() + 1));
         Hart {

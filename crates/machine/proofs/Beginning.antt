@@ -1,5 +1,5 @@
 -- The machine that a program begins in.
-use Rattle.std.proofs.Common.{◌≡◌, ◌<◌, ◌≤◌, ◌+◌, ◌-◌, ◌*◌, ◌/◌, ◌%◌, ℕ, arith, Bool, true, false, cond, Option, Some, None, List, [], ◌∷◌, ◌++◌, length, inl, inr, refl, sym, ap, subst, ◌∙◌}
+use Rattle.std.proofs.Common.{◌≡◌, ◌<◌, ◌≤◌, ◌+◌, ◌-◌, ◌*◌, ◌/◌, ◌%◌, ℕ, arith, Bool, true, false, cond, Option, Some, None, List, [], ◌∷◌, ◌++◌, length, replicate, inl, inr, refl, sym, ap, subst, ◌∙◌}
 use Rattle.std.specs.Prelude.{nat_lt, slice_get, ◌⊎◌}
 use Rattle.std.specs.Option.{option_map_or}
 use Rattle.std.proofs.lemmas.Bool.{cases_lt, le-ltb}
@@ -27,31 +27,32 @@ use Rattle.machine.proofs.Sound.{one_seat}
 use Rattle.std.proofs.lemmas.List.{length-append}
 
 -- a seat is hart j's at the start, in each machine of this size and number of harts
-pub record IsFirst (sets size count entry j : ℕ) (x : Seat) : Type 0 where
+pub record IsFirst (sets ways size count entry j : ℕ) (x : Seat) : Type 0 where
   pub hart : (s : Setting) → s.size ≡ size → s.count ≡ count → shown_hart sets x.output x.hart ≡ (start s entry).harts j
   pub seated : (s : Setting) → s.size ≡ size → s.count ≡ count → IsSeated s j x.hart
+  pub cache : x.hart.cache ≡ replicate sets (replicate ways None)
 
 -- and so are all
-abbrev pub AreFirst : ℕ → ℕ → ℕ → ℕ → List Seat → Type 0
-AreFirst sets size count entry seats = (j : ℕ) (x : Seat) → slice_get seats j ≡ Some x → IsFirst sets size count entry j x
+abbrev pub AreFirst : ℕ → ℕ → ℕ → ℕ → ℕ → List Seat → Type 0
+AreFirst sets ways size count entry seats = (j : ℕ) (x : Seat) → slice_get seats j ≡ Some x → IsFirst sets ways size count entry j x
 
 -- with one more
-pub first_more : (sets size count entry : ℕ) (seats : List Seat) (x : Seat) → AreFirst sets size count entry seats → IsFirst sets size count entry (length seats) x → AreFirst sets size count entry (seats ++ x ∷ [])
-first_more sets size count entry seats x all one j y at = go (cases_lt j (length seats))
+pub first_more : (sets ways size count entry : ℕ) (seats : List Seat) (x : Seat) → AreFirst sets ways size count entry seats → IsFirst sets ways size count entry (length seats) x → AreFirst sets ways size count entry (seats ++ x ∷ [])
+first_more sets ways size count entry seats x all one j y at = go (cases_lt j (length seats))
   where
     size_now : length (seats ++ x ∷ []) ≡ length seats + 1
     size_now = length-append seats (x ∷ [])
 
-    go : (j < length seats) ⊎ (length seats ≤ j) → IsFirst sets size count entry j y
+    go : (j < length seats) ⊎ (length seats ≤ j) → IsFirst sets ways size count entry j y
     go (inl lt) = all j y (sym (got_more seats x j lt) ∙ at)
     go (inr le) =
         let last : j ≡ length seats = omega (arith, slice_get_within (seats ++ x ∷ []) j y at, size_now, le) in
         let same : x ≡ y = one_seat x y (sym (got_last seats x) ∙ ap (slice_get (seats ++ x ∷ [])) (sym last) ∙ at) in
-        subst (λ z. IsFirst sets size count entry j z) same (subst (λ n. IsFirst sets size count entry n x) (sym last) one)
+        subst (λ z. IsFirst sets ways size count entry j z) same (subst (λ n. IsFirst sets ways size count entry n x) (sym last) one)
 
 -- then the harts are the start's
-pub harts_first : (sets size count entry : ℕ) (seats : List Seat) (s : Setting) (j : ℕ) → AreFirst sets size count entry seats → length seats ≡ count → s.size ≡ size → s.count ≡ count → hart_at sets seats j ≡ (start s entry).harts j
-harts_first sets size count entry seats s j all many is_size is_count = go (slice_get seats j) refl
+pub harts_first : (sets ways size count entry : ℕ) (seats : List Seat) (s : Setting) (j : ℕ) → AreFirst sets ways size count entry seats → length seats ≡ count → s.size ≡ size → s.count ≡ count → hart_at sets seats j ≡ (start s entry).harts j
+harts_first sets ways size count entry seats s j all many is_size is_count = go (slice_get seats j) refl
   where
     go : (o : Option Seat) → slice_get seats j ≡ o → hart_at sets seats j ≡ (start s entry).harts j
     go None e =
@@ -61,8 +62,8 @@ harts_first sets size count entry seats s j all many is_size is_count = go (slic
     go (Some x) e = ap (λ o. option_map_or (λ x. shown_hart sets x.output x.hart) o (first_hart idle)) e ∙ (all j x e).hart s is_size is_count
 
 -- no hart stands yet
-pub first_none : (sets size count entry : ℕ) → AreFirst sets size count entry []
-first_none sets size count entry j x e = absurd (none_is e)
+pub first_none : (sets ways size count entry : ℕ) → AreFirst sets ways size count entry []
+first_none sets ways size count entry j x e = absurd (none_is e)
   where
     none_is : {A : Type 0} {a : A} → None ≡ Some a → ⊥
     none_is e = cc

@@ -2,7 +2,9 @@ mod Places
 mod Changed
 mod Sending
 pub mod Made
-mod Alike
+mod OneMessage
+pub mod Twins
+pub mod OneTurn
 mod Acting
 mod Staying
 mod Sound

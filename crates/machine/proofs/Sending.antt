@@ -1,6 +1,6 @@
 -- Messages sent one after another, each with the next number.
-use Rattle.std.proofs.Common.{◌≡◌, ◌≢◌, ◌∙◌, ℕ, Bool, true, false, cond, Option, Some, None, List, [], ◌∷◌, ◌++◌, refl, ap, subst}
-use Rattle.std.specs.Prelude.{◌==◌}
+use Rattle.std.proofs.Common.{◌≡◌, ◌≢◌, ◌<◌, ◌∙◌, ℕ, Bool, true, false, cond, Option, Some, None, List, [], ◌∷◌, ◌++◌, refl, ap, subst}
+use Rattle.std.specs.Prelude.{◌==◌, IsSome}
 use Rattle.std.specs.List.{slice_index_or}
 use Rattle.std.specs.Option.{option_map}
 use Rattle.std.proofs.Math.Path.{fun_ext}
@@ -11,16 +11,17 @@ use Rattle.protocol.specs.Network.{Sends, taken}
 use Rattle.machine.specs.Mail.{Mail, SendsOn, IsLeft, in_flight, mail_of, number_after, without_numbers}
 use Rattle.machine.proofs.Changed.{changed_at}
 
--- a flight under a key that was free
+-- a flight under the lowest key that was free
 pub record IsSent (old new : List (Option Flight)) (key : ℕ) (f : Flight) : Type 0 where
   pub free : slice_index_or old key None ≡ None
+  pub lowest : (other : ℕ) → other < key → IsSome (slice_index_or old other None)
   pub sent : slice_index_or new key None ≡ Some f
   pub others : (other : ℕ) → other ≢ key → slice_index_or new other None ≡ slice_index_or old other None
 
--- a message under a key that was free
+-- a message under that key
 pub sends_one : (old new : List (Option Flight)) (key : ℕ) (f : Flight) (n next : ℕ) → IsSent old new key f → f.number ≡ n → next ≡ number_after n
     → SendsOn (mail_of old) n (shown f.message ∷ []) (mail_of new) next
-sends_one old new key f n next s is after = (key, f, s.free, refl, is, (changed_at key (Some f) (mail_of old) (mail_of new) s.sent s.others, after))
+sends_one old new key f n next s is after = (key, f, record { free = s.free; lowest = s.lowest }, refl, is, (changed_at key (Some f) (mail_of old) (mail_of new) s.sent s.others, after))
 
 -- messages, and then others
 pub sends_on : (ms others : List Message) (old mid new : Mail) (l m n : ℕ) → SendsOn old l ms mid m → SendsOn mid m others new n → SendsOn old l (ms ++ others) new n
@@ -45,7 +46,7 @@ sends_of [] old new n next (same, is) = ap without_numbers same
 sends_of (x ∷ ms) old new n next (key, f, free, is, number, rest) =
     let later : Sends (without_numbers (put_at key (Some f) old)) ms (without_numbers new) = sends_of ms (put_at key (Some f) old) new (number_after n) next rest in (
       key,
-      ap (λ o. option_map shown (option_map (λ (g : Flight). g.message) o)) free,
+      ap (λ o. option_map shown (option_map (λ (g : Flight). g.message) o)) free.free,
       subst (λ net. Sends net ms (without_numbers new)) (without_at key (Some f) old ∙ ap (λ m. put_at key (Some m) (without_numbers old)) is) later,
     )
 

@@ -1,7 +1,7 @@
 pub mod Mail
 pub mod States
 pub mod Making
-pub mod Alike
+pub mod Twins
 pub mod Rows
 pub mod Runs
 pub mod Reads

@@ -1,10 +1,12 @@
 -- A machine of which no step was made.
-use Rattle.std.specs.Prelude.{ℕ, ◌≡◌, [], None}
+use Rattle.std.specs.Prelude.{ℕ, ◌≡◌, [], Some, None, replicate, slice_get}
 use Rattle.std.specs.List.{slice_index_or}
-use Rattle.machine.specs.States.{State}
+use Rattle.protocol.specs.Caches.{Geometry}
+use Rattle.machine.specs.States.{Seat, State}
 
--- nothing was sent so far, so that nothing is in flight, and the directory keeps no entry
-pub record IsUnused (m : State) : Type 0 where
+-- nothing was sent so far, so that nothing is in flight; the directory keeps no entry; and each way of each cache is free
+pub record IsUnused (g : Geometry) (m : State) : Type 0 where
   pub sent : m.sent ≡ 0
   pub flights : (key : ℕ) → slice_index_or m.flights key None ≡ None
   pub kept : m.directory.kept ≡ []
+  pub caches : (i : ℕ) (s : Seat) → slice_get m.seats i ≡ Some s → s.hart.cache ≡ replicate g.sets (replicate g.ways None)

@@ -1,4 +1,4 @@
-ghost use Rattle.std.specs.Prelude.{◌≡◌, ◌<◌, ◌≤◌, ◌+◌, ◌*◌, ◌^◌, ℕ, Some, None, Err, IfOk, MatchResult, cond, nat_lt, length, vec_len, slice_get};
+ghost use Rattle.std.specs.Prelude.{◌≡◌, ◌<◌, ◌≤◌, ◌+◌, ◌*◌, ◌^◌, ℕ, Some, None, Err, IfOk, MatchResult, cond, nat_lt, length, replicate, vec_len, slice_get};
 ghost use Rattle.words.specs.Limits.{block_bytes, most_harts};
 ghost use Rattle.flat.specs.State.{Setting};
 ghost use Rattle.flat.specs.Boots.{boot_fault, booted};
@@ -67,6 +67,7 @@ impl<const SETS: usize, const WAYS: usize> Seat<SETS, WAYS> {
         requires size { size < 2 ^ 32 }
         ensures start { (s : Setting) → s.size ≡ size → s.count ≡ harts → shown_hart SETS result.output result.hart ≡ (start s entry).harts i }
         ensures seated { (s : Setting) → s.size ≡ size → s.count ≡ harts → IsSeated s i result.hart }
+        ensures cache { result.hart.cache ≡ replicate SETS (replicate WAYS None) }
     {
         Seat {
             hart: Hart::new(HartId::new(i as u8), harts, size, entry),
@@ -94,6 +95,7 @@ impl<const SETS: usize, const WAYS: usize> Machine<SETS, WAYS> {
         ensures count { IfOk result (λ v. vec_len v ≡ harts) }
         ensures harts { IfOk result (λ v. (s : Setting) (j : ℕ) → s.size ≡ size → s.count ≡ harts → hart_at SETS v.items j ≡ (start s entry).harts j) }
         ensures seated { IfOk result (λ v. (s : Setting) (j : ℕ) (x : SeatValue) → s.size ≡ size → s.count ≡ harts → slice_get v.items j ≡ Some x → IsSeated s j x.hart) }
+        ensures caches { IfOk result (λ v. (j : ℕ) (x : SeatValue) → slice_get v.items j ≡ Some x → x.hart.cache ≡ replicate SETS (replicate WAYS None)) }
     {
         let mut seats = Vec::with_capacity(alloc, harts)?;
         for i in 0..harts {
@@ -110,7 +112,7 @@ impl<const SETS: usize, const WAYS: usize> Machine<SETS, WAYS> {
         requires bootable { boot_fault program.segments harts size ≡ None }
         ensures start { IfOk result (λ m. shown SETS m ≡ start (booted program.segments program.entry harts size).setting program.entry) }
         ensures belongs { IfOk result (λ m. Belongs (geometry SETS WAYS) (booted program.segments program.entry harts size) (shown SETS m)) }
-        ensures unused { IfOk result (λ m. IsUnused m) }
+        ensures unused { IfOk result (λ m. IsUnused (geometry SETS WAYS) m) }
     {
         let bytes = image(alloc, &program, size)?;
         let memory = blocks_of(alloc, &bytes, size / BLOCK_BYTES)?;
@@ -136,7 +138,7 @@ impl<const SETS: usize, const WAYS: usize> Machine<SETS, WAYS> {
         ensures accepted { boot_fault program.segments harts size ≡ None →
             MatchResult result (λ m. shown SETS m ≡ start (booted program.segments program.entry harts size).setting program.entry) (λ e. e ≡ BootFault.NoMemory) }
         ensures belongs { IfOk result (λ m. Belongs (geometry SETS WAYS) (booted program.segments program.entry harts size) (shown SETS m)) }
-        ensures unused { IfOk result (λ m. IsUnused m) }
+        ensures unused { IfOk result (λ m. IsUnused (geometry SETS WAYS) m) }
     {
         if let Some(fault) = boot_fault(&program, harts, size) {
             return Err(fault);

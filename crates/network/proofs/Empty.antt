@@ -1,8 +1,10 @@
--- A slab without values has nothing under each key.
-use Rattle.std.proofs.Common.{◌≡◌, ℕ, zero, suc, Bool, true, List, [], ◌∷◌, Option, Some, None, cond, get_or, refl, sym, ◌∙◌}
-use Rattle.std.specs.Prelude.{◌==◌, is_some, count_by}
+-- Slots without items have nothing under each key, and slots that are all taken are as many as their items.
+use Rattle.std.proofs.Common.{◌≡◌, ℕ, zero, suc, Bool, true, List, [], ◌∷◌, length, Option, Some, None, cond, get_or, refl, sym, arith, true≢false, ◌∙◌}
+use Rattle.std.specs.Prelude.{◌==◌, is_some, IsSome, count_by}
 use Rattle.std.proofs.lemmas.List.Folds.{sum_by-zero}
+use Rattle.std.proofs.lemmas.List.Sums.{sum_by-cons}
 use Rattle.std.specs.List.{list_all}
+use Rattle.network.specs.Slots.{AreTaken}
 
 abbrev none_here : {T : Type 0} → Option T → Bool
 none_here x = cond (is_some x) 1 0 == 0
@@ -26,3 +28,10 @@ empty_slots slots e = all_none slots (sym (sum_by-zero (λ x. cond (is_some x) 1
 
 pub no_slots : {T : Type 0} (slots : List (Option T)) → ((key : ℕ) → get_or slots key None ≡ None) → count_by is_some slots == 0 ≡ true
 no_slots slots none = sum_by-zero (λ x. cond (is_some x) 1 0) slots ∙ none_all slots none
+
+pub all_taken : {T : Type 0} (slots : List (Option T)) → AreTaken slots (length slots) → count_by is_some slots ≡ length slots
+all_taken {T} [] taken = refl
+all_taken {T} (None ∷ rest) taken = let here : IsSome {T = T} None = taken zero (omega arith) in absurd (true≢false (sym here))
+all_taken {T} (Some x ∷ rest) taken =
+    let more = all_taken rest (λ key below. taken (suc key) (omega (arith, below))) in
+    omega (arith, more, sum_by-cons (λ o. cond (is_some o) 1 0) (Some x) rest)

@@ -2,5 +2,6 @@
 #![tactic(auto)]
 
 mod net;
+mod slots;
 
 pub use net::{Flight, Net};

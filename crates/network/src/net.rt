@@ -2,9 +2,9 @@ ghost use Rattle.std.specs.Prelude.{◌≡◌, ◌≢◌, ◌+◌, ◌%◌, ◌<
 ghost use Rattle.std.specs.Fn.{FnReturnsAt};
 ghost use Rattle.std.specs.Option.{option_map};
 ghost use Rattle.network.specs.Flights.{message_at, flight_at, AreNumbered, AreInOrder, IsOldest, IsNewest, HasNewestArrived, NonePasses, IsNext, NoneAfter, position_of, is_after, is_earlier, first_of};
-ghost use Rattle.slab.specs.Slab.{HasRoomFor, Updates, get, slab_len};
+ghost use Rattle.network.specs.Slots.{get, AreTaken};
 
-use slab::Slab;
+use crate::slots::Slots;
 use std::alloc::{AllocError, Global};
 use std::marker::Model;
 use words::Message;
@@ -22,7 +22,7 @@ const RECENT: u64 = 64;
 /// The messages in flight, each under a key.
 #[derive(Drop)]
 pub struct Net {
-    slab: Slab<Flight>,
+    slots: Slots<Flight>,
     next: u64,
     /// No message in flight has a lower number.
     first: u64,
@@ -32,14 +32,14 @@ pub struct Net {
 
 impl Model for Net {
     ghost use Rattle.std.specs.Prelude.{◌-◌, ◌≤◌};
-    ghost use Rattle.slab.specs.Slab.{slab_len};
+    ghost use Rattle.network.specs.Slots.{count_of};
     ghost use Rattle.network.specs.Flights.{Flights, AreNumbered, AreInOrder};
 
     ghost Value = { Flights };
 
-    ghost view = { λ n. record { slots = n.slab.slots; next = n.next; room = n.slab.capacity - slab_len n.slab } };
+    ghost view = { λ n. record { slots = n.slots.items; next = n.next; room = n.slots.capacity - count_of n.slots } };
 
-    ghost invariant = { λ n. (slab_len n.slab ≤ n.slab.capacity) × AreNumbered n.slab.slots n.next × AreInOrder n.slab.slots n.next n.first n.keys };
+    ghost invariant = { λ n. (count_of n.slots ≤ n.slots.capacity) × AreNumbered n.slots.items n.next × AreInOrder n.slots.items n.next n.first n.keys };
 }
 
 impl Net {
@@ -49,7 +49,7 @@ impl Net {
         ensures first { result.next ≡ 0 }
     {
         Net {
-            slab: Slab::new(alloc),
+            slots: Slots::new(alloc),
             next: 0,
             first: 0,
             keys: [0; RECENT as usize],
@@ -74,28 +74,28 @@ impl Net {
     pub fn room(&self) -> usize
         ensures { result ≡ self.now.room }
     {
-        self.slab.capacity() - self.slab.len()
+        self.slots.capacity() - self.slots.len()
     }
 
     /// Whether no message is in flight.
     pub fn is_empty(&self) -> bool
         ensures { IsTrue result ↔ ((key : ℕ) → flight_at self.now key ≡ None) }
     {
-        self.slab.is_empty()
+        self.slots.is_empty()
     }
 
     /// How many messages are in flight.
     pub fn len(&self) -> usize
         ensures { result ≡ count_by is_some self.now.slots }
     {
-        self.slab.len()
+        self.slots.len()
     }
 
     /// A number below which all keys lie that messages have.
     pub fn keys(&self) -> usize
         ensures { (key : ℕ) → result ≤ key → flight_at self.now key ≡ None }
     {
-        self.slab.capacity()
+        self.slots.keys()
     }
 
     /// Makes room for so many messages. It fails only if memory runs out; what is in flight stays in either outcome.
@@ -105,14 +105,15 @@ impl Net {
         ensures number { self.new.next ≡ self.old.next }
         ensures grows { self.old.room ≤ self.new.room }
     {
-        self.slab.reserve(count)
+        self.slots.reserve(count)
     }
 
-    /// Sends a message under a free key, which it answers.
+    /// Sends a message under the lowest key that is free, which it answers.
     #[inline(always)]
     pub fn send(&mut self, message: Message) -> usize
         requires { 0 < self.old.room }
         ensures free { flight_at self.old result ≡ None }
+        ensures lowest { AreTaken self.old.slots result }
         ensures sent { flight_at self.new result ≡ Some (record { message = message; number = self.old.next }) }
         ensures others { (key : ℕ) → key ≢ result → flight_at self.new key ≡ flight_at self.old key }
         ensures number { self.new.next ≡ min (self.old.next + 1) 18446744073709551615 }
@@ -120,7 +121,7 @@ impl Net {
         ensures room { self.new.room + 1 ≡ self.old.room }
     {
         let number = self.next;
-        let key = put(&mut self.slab, Flight { message, number });
+        let key = self.slots.insert(Flight { message, number });
         self.keys[(number % RECENT) as usize] = key;
         self.next = number.saturating_add(1);
         key
@@ -130,7 +131,7 @@ impl Net {
     pub fn get(&self, key: usize) -> Option<Message>
         ensures { result ≡ message_at self.now key }
     {
-        match self.slab.get(key) {
+        match self.slots.get(key) {
             Some(flight) => Some(flight.message),
             None => None,
         }
@@ -141,7 +142,7 @@ impl Net {
     pub fn peek(&self, key: usize) -> Option<&Message>
         ensures { option_map (λ message. message.now) result ≡ message_at self.now key }
     {
-        match self.slab.get(key) {
+        match self.slots.get(key) {
             Some(flight) => Some(&flight.message),
             None => None,
         }
@@ -151,7 +152,7 @@ impl Net {
     pub fn flight(&self, key: usize) -> Option<Flight>
         ensures { result ≡ flight_at self.now key }
     {
-        match self.slab.get(key) {
+        match self.slots.get(key) {
             Some(flight) => Some(*flight),
             None => None,
         }
@@ -162,7 +163,7 @@ impl Net {
     pub fn peek_flight(&self, key: usize) -> Option<&Flight>
         ensures { option_map (λ flight. flight.now) result ≡ flight_at self.now key }
     {
-        self.slab.get(key)
+        self.slots.get(key)
     }
 
     /// Takes the message under a key out.
@@ -175,9 +176,9 @@ impl Net {
         ensures room { IsSome result → self.new.room ≡ self.old.room + 1 }
         ensures none { result ≡ None → self.new ≡ self.old }
     {
-        match self.slab.try_remove(key) {
+        match self.slots.take(key) {
             Some(flight) => {
-                self.first = first_from(&self.slab, &self.keys, self.first, self.next);
+                self.first = first_from(&self.slots, &self.keys, self.first, self.next);
                 Some(flight.message)
             }
             None => None,
@@ -195,8 +196,8 @@ impl Net {
             return self.oldest_of_all(passes);
         }
         for number in self.first..self.next {
-            if let Some(key) = key_of(&self.slab, &self.keys, number) {
-                if let Some(flight) = self.slab.get(key) {
+            if let Some(key) = key_of(&self.slots, &self.keys, number) {
+                if let Some(flight) = self.slots.get(key) {
                     if passes(&flight.message) {
                         return Some(key);
                     }
@@ -215,9 +216,9 @@ impl Net {
     {
         let mut best = None;
         let mut key = 0;
-        let mut left = self.slab.len();
-        while key < self.slab.capacity() && left > 0 {
-            if let Some(flight) = self.slab.get(key) {
+        let mut left = self.slots.len();
+        while key < self.slots.keys() && left > 0 {
+            if let Some(flight) = self.slots.get(key) {
                 left -= 1;
                 if is_earlier(flight.number, best) && passes(&flight.message) {
                     best = Some((key, flight.number));
@@ -240,7 +241,7 @@ impl Net {
         if self.next == 0 {
             return None;
         }
-        key_of(&self.slab, &self.keys, self.next - 1)
+        key_of(&self.slots, &self.keys, self.next - 1)
     }
 
     /// A key, and the number of the message under it.
@@ -248,7 +249,7 @@ impl Net {
         ensures { result ≡ position_of self.now.slots key }
     {
         let key = key?;
-        let flight = self.slab.get(key)?;
+        let flight = self.slots.get(key)?;
         Some((key, flight.number))
     }
 
@@ -260,8 +261,8 @@ impl Net {
     {
         let last = self.position(key);
         let mut best = None;
-        for key in 0..self.slab.capacity() {
-            if let Some(flight) = self.slab.get(key) {
+        for key in 0..self.slots.keys() {
+            if let Some(flight) = self.slots.get(key) {
                 if is_after(last, key, flight.number) {
                     best = first_of(best, key, flight.number);
                 }
@@ -285,12 +286,12 @@ fn is_known(first: u64, next: u64) -> bool
 
 /// The key of the message with a number, if it is in flight where the last message with the number's remainder was sent.
 #[inline(always)]
-fn key_of(slab: &Slab<Flight>, keys: &[usize; RECENT as usize], number: u64) -> Option<usize>
-    ensures some { IfSome result (λ key. IsSomeAnd (get slab.now key) (λ f. f.number ≡ number)) }
-    ensures none { IfNone result ((f : Flight) → get slab.now (slice_index keys.now (number % 64)) ≡ Some f → f.number ≢ number) }
+fn key_of(slots: &Slots<Flight>, keys: &[usize; RECENT as usize], number: u64) -> Option<usize>
+    ensures some { IfSome result (λ key. IsSomeAnd (get slots.now key) (λ f. f.number ≡ number)) }
+    ensures none { IfNone result ((f : Flight) → get slots.now (slice_index keys.now (number % 64)) ≡ Some f → f.number ≢ number) }
 {
     let key = keys[(number % RECENT) as usize];
-    match slab.get(key) {
+    match slots.get(key) {
         Some(flight) if flight.number == number => Some(key),
         _ => None,
     }
@@ -298,16 +299,16 @@ fn key_of(slab: &Slab<Flight>, keys: &[usize; RECENT as usize], number: u64) -> 
 
 /// A number from the first on below which no message is in flight.
 #[inline(always)]
-fn first_from(slab: &Slab<Flight>, keys: &[usize; RECENT as usize], first: u64, next: u64) -> u64
+fn first_from(slots: &Slots<Flight>, keys: &[usize; RECENT as usize], first: u64, next: u64) -> u64
     requires { first ≤ next }
-    ensures { AreInOrder slab.now.slots next first keys.now → AreInOrder slab.now.slots next result keys.now }
+    ensures { AreInOrder slots.now.items next first keys.now → AreInOrder slots.now.items next result keys.now }
 {
-    if slab.is_empty() {
+    if slots.is_empty() {
         return next;
     }
     let mut number = first;
     while number < next && is_known(number, next) {
-        if key_of(slab, keys, number).is_some() {
+        if key_of(slots, keys, number).is_some() {
             return number;
         }
         number += 1;
@@ -323,18 +324,6 @@ fn is_after(last: Option<(usize, u64)>, key: usize, number: u64) -> bool
         Some((before, least)) => least < number || least == number && before < key,
         None => true,
     }
-}
-
-/// Puts an item under a free key. Generic, since the check can't follow a message through the slab's own method.
-#[inline(always)]
-fn put<T: Copy>(slab: &mut Slab<T>, item: T) -> usize
-    requires { HasRoomFor slab.old 1 }
-    ensures free { get slab.old result ≡ None }
-    ensures updates { Updates slab.old slab.new result (Some item) }
-    ensures len { slab_len slab.new ≡ slab_len slab.old + 1 }
-    ensures capacity { slab.new.capacity ≡ slab.old.capacity }
-{
-    slab.insert_reserved(item)
 }
 
 /// Whether a number is lower than that of the best so far.

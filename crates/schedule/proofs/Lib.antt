@@ -16,3 +16,4 @@ mod LineWords
 mod Spelled
 mod Texts
 mod Repeats
+pub mod OneRun

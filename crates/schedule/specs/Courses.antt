@@ -60,6 +60,12 @@ IsUnbegun Turns = Unit {0}
 IsUnbegun (Chance None) = Unit {0}
 IsUnbegun (Chance (Some chosen)) = chosen ≡ []
 
+-- it is told: turns, or choices of chance that were kept
+abbrev pub IsTold : Behind → Type 0
+IsTold Turns = Unit {0}
+IsTold (Chance None) = ⊥
+IsTold (Chance (Some chosen)) = Unit {0}
+
 -- the same, with the choices of chance forgotten
 abbrev pub forgotten : Behind → Behind
 forgotten Turns = Turns

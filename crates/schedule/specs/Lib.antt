@@ -7,3 +7,4 @@ pub mod Runs
 pub mod Observed
 pub mod Written
 pub mod Histories
+pub mod Twins

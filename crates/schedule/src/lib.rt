@@ -24,7 +24,7 @@ pub use choices::{Choice, Name, Sort};
 pub use chooser::{Chooser, Turns};
 pub use halt::{Halt, Unseen};
 pub use history::History;
-pub use laws::{chosen_steps_are_played_again, written_choices_are_read};
+pub use laws::{a_schedule_makes_one_run, chosen_steps_are_played_again, written_choices_are_read};
 pub use lines::{ScheduleFault, read};
 pub use observer::Observer;
 pub use runs::run;

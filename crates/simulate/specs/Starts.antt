@@ -22,7 +22,7 @@ flat_start p setup = booted p.segments p.entry setup.harts setup.memory
 pub record IsFirstOf (g : Geometry) (p : Program) (setup : Setup) (m : State) : Type 0 where
   pub boots : boot_fault p.segments setup.harts setup.memory ≡ None
   pub begins : shown g.sets m ≡ start (flat_start p setup).setting p.entry
-  pub unused : IsUnused m
+  pub unused : IsUnused g m
 
 -- the file has a program, which begins in this machine, and the flat machine's first state belongs to it
 pub record IsStartOf (g : Geometry) (setup : Setup) (file : List ℕ) (m : State) : Type 0 where

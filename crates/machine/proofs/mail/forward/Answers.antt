@@ -28,7 +28,7 @@ loop-to-preserved c =
     let skipped : forwards to expect q.block q.kind q.requester q.stamp ≡ forwards c.loop-to.from expect q.block q.kind q.requester q.stamp = forwards-next expect q.block q.kind q.requester q.stamp c.args.harts asked c.below-asked.ensures c.loop-to.from to next in
     let told = forwards to expect q.block q.kind q.requester q.stamp in
     let before : SendsOn (mail_of first.slots) first.next told (mail_of old.slots) old.next = rw skipped c.loop-to.invariant.1 in
-    let sent : IsSent old.slots new.slots c.send-from.result _ = record { free = c.send-from.ensures.free; sent = c.send-from.ensures.sent; others = c.send-from.ensures.others } in
+    let sent : IsSent old.slots new.slots c.send-from.result _ = record { free = c.send-from.ensures.free; lowest = c.send-from.ensures.lowest; sent = c.send-from.ensures.sent; others = c.send-from.ensures.others } in
     let more : SendsOn (mail_of first.slots) first.next (told ++ Forward to q.block q.kind q.requester q.stamp ∷ []) (mail_of new.slots) new.next =
     sends_on told (Forward to q.block q.kind q.requester q.stamp ∷ []) (mail_of first.slots) (mail_of old.slots) (mail_of new.slots) first.next old.next new.next before
     (sends_one old.slots new.slots c.send-from.result _ old.next new.next sent refl c.send-from.ensures.number) in

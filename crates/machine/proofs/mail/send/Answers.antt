@@ -12,4 +12,4 @@ returns-in-Some c =
     let old = c.args.net.now in
     let new = c.send.new.self in
     subst (λ (o : Option Message). SendsOn (mail_of old.slots) old.next (option_to_list (option_map shown o)) (mail_of new.slots) new.next) (sym c.in-Some.is)
-    (sends_one old.slots new.slots c.send.result _ old.next new.next (record { free = c.send.ensures.free; sent = c.send.ensures.sent; others = c.send.ensures.others }) refl c.send.ensures.number)
+    (sends_one old.slots new.slots c.send.result _ old.next new.next (record { free = c.send.ensures.free; lowest = c.send.ensures.lowest; sent = c.send.ensures.sent; others = c.send.ensures.others }) refl c.send.ensures.number)

@@ -10,7 +10,7 @@ returns-in-Acknowledged c =
     let old = c.args.net.now in
     let new = c.send.new.self in
     subst (λ (a : Answer). SendsOn (mail_of old.slots) old.next (messages_in c.args.harts a) (mail_of new.slots) new.next) (sym c.in-Acknowledged.is)
-    (sends_one old.slots new.slots c.send.result _ old.next new.next (record { free = c.send.ensures.free; sent = c.send.ensures.sent; others = c.send.ensures.others }) refl c.send.ensures.number)
+    (sends_one old.slots new.slots c.send.result _ old.next new.next (record { free = c.send.ensures.free; lowest = c.send.ensures.lowest; sent = c.send.ensures.sent; others = c.send.ensures.others }) refl c.send.ensures.number)
 
 -- the grant, and then its forwards
 pub returns-in-Granted : goal.returns-in-Granted
@@ -20,6 +20,6 @@ returns-in-Granted c =
     let new = c.forward.new.net in
     subst (λ (a : Answer). SendsOn (mail_of old.slots) old.next (messages_in c.args.harts a) (mail_of new.slots) new.next) (sym c.in-Granted.is)
     (sends_on (_ ∷ []) _ (mail_of old.slots) (mail_of mid.slots) (mail_of new.slots) old.next mid.next new.next
-    (sends_one old.slots mid.slots c.send-in-Granted.result _ old.next mid.next (record { free = c.send-in-Granted.ensures.free; sent = c.send-in-Granted.ensures.sent; others = c.send-in-Granted.ensures.others }) refl
+    (sends_one old.slots mid.slots c.send-in-Granted.result _ old.next mid.next (record { free = c.send-in-Granted.ensures.free; lowest = c.send-in-Granted.ensures.lowest; sent = c.send-in-Granted.ensures.sent; others = c.send-in-Granted.ensures.others }) refl
     c.send-in-Granted.ensures.number)
     c.forward.ensures)

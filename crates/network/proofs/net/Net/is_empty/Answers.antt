@@ -7,6 +7,6 @@ use Rattle.network.proofs.net.Net.is_empty.Goals as goal
 
 pub returns : goal.returns
 returns c = (
-  λ e key. ap (λ (v : Flights). slice_index_or v.slots key None) (sym c.self.view_is) ∙ empty_slots c.self.inside.slab.slots (sym c.is_empty.ensures ∙ e) key,
-  λ none. c.is_empty.ensures ∙ no_slots c.self.inside.slab.slots (λ key. ap (λ (v : Flights). slice_index_or v.slots key None) c.self.view_is ∙ none key),
+  λ e key. ap (λ (v : Flights). slice_index_or v.slots key None) (sym c.self.view_is) ∙ empty_slots c.self.inside.slots.items (sym c.is_empty.ensures ∙ e) key,
+  λ none. c.is_empty.ensures ∙ no_slots c.self.inside.slots.items (λ key. ap (λ (v : Flights). slice_index_or v.slots key None) c.self.view_is ∙ none key),
 )

@@ -10,7 +10,7 @@ pub loop-key-preserved : goal.loop-key-preserved
 loop-key-preserved c =
     let last = c.position-last.result in
     let slots = c.args.self.now.slots in
-    let same : c.self.inside.slab.slots ≡ slots = ap (λ (v : Flights). v.slots) c.self.view_is in
+    let same : c.self.inside.slots.items ≡ slots = ap (λ (v : Flights). v.slots) c.self.view_is in
     elim c.match-get.branch [
       | in-Some+then-is_after w ↦
           let at : get_or slots c.loop-key.key None ≡ Some w.in-Some.flight.now = rw (← same) (sym w.in-Some.ensures) in
@@ -28,13 +28,13 @@ loop-key-preserved c =
 pub returns-in-Some-best-clause-some : goal.returns-in-Some-best-clause-some
 returns-in-Some-best-clause-some c =
     let last = c.position-last.result in
-    let same : c.self.inside.slab.slots ≡ c.args.self.now.slots = ap (λ (v : Flights). v.slots) c.self.view_is in
+    let same : c.self.inside.slots.items ≡ c.args.self.now.slots = ap (λ (v : Flights). v.slots) c.self.view_is in
     let best : IsBest (Passes last) (Fails last) c.args.self.now.slots c.loop-key.key (Some (c.in-Some-best.key, c.in-Some-best.field-0-1)) = rw c.in-Some-best.is at c.loop-key.invariant in
     next_best c.args.self.now.slots c.args.key c.loop-key.key c.in-Some-best.key c.in-Some-best.field-0-1 (rw (← same) (omega arith)) (rw c.position-last.ensures at best)
 
 pub returns-in-None-clause-none : goal.returns-in-None-clause-none
 returns-in-None-clause-none c =
     let last = c.position-last.result in
-    let same : c.self.inside.slab.slots ≡ c.args.self.now.slots = ap (λ (v : Flights). v.slots) c.self.view_is in
+    let same : c.self.inside.slots.items ≡ c.args.self.now.slots = ap (λ (v : Flights). v.slots) c.self.view_is in
     let best : IsBest (Passes last) (Fails last) c.args.self.now.slots c.loop-key.key None = rw c.in-None.is at c.loop-key.invariant in
     none_best c.args.self.now.slots c.args.key c.loop-key.key (rw (← same) (omega arith)) (rw c.position-last.ensures at best)

@@ -14,7 +14,7 @@ pub loop-key-preserved : goal.loop-key-preserved
 loop-key-preserved g c =
     let answers = FnReturnsAt g.F.Fn c.args.passes in
     let slots = c.args.self.now.slots in
-    let same : c.self.inside.slab.slots ≡ slots = ap (λ (v : Flights). v.slots) c.self.view_is in
+    let same : c.self.inside.slots.items ≡ slots = ap (λ (v : Flights). v.slots) c.self.view_is in
     elim c.match-get.branch [
       | in-Some+then-is_earlier+then-passes w ↦
           let at : get_or slots c.loop-key.key None ≡ Some w.in-Some.flight.now = rw (← same) (sym w.in-Some.ensures) in
@@ -40,10 +40,10 @@ returns-in-Some-best-clause-some g c =
     let answers = FnReturnsAt g.F.Fn c.args.passes in
     let slots = c.args.self.now.slots in
     let best : IsBest (λ k f. answers f.message true) (λ k f. answers f.message false) slots c.loop-key.key (Some (c.in-Some-best.key, c.in-Some-best.field-0-1)) = rw c.in-Some-best.is at c.loop-key.invariant.0 in
-    let same : c.self.inside.slab.slots ≡ slots = ap (λ (v : Flights). v.slots) c.self.view_is in
+    let same : c.self.inside.slots.items ≡ slots = ap (λ (v : Flights). v.slots) c.self.view_is in
     let rest : (other : ℕ) → c.loop-key.key ≤ other → get_or slots other None ≡ None = elim c.loop-key-test.branch [
       | then-loop-key-test+else-left-gt0 w ↦ none_left c.loop-key.key slots (sym c.loop-key.invariant.1 ∙ omega (arith, w.if-left-gt0.false))
-      | else-loop-key-test w ↦ λ other le. get_or_past slots other None (rw (← same) (omega (arith, w.loop-key-test.false, le, c.capacity.ensures.slots)))
+      | else-loop-key-test w ↦ λ other le. get_or_past slots other None (rw (← same) (omega (arith, w.loop-key-test.false, le, c.keys.ensures)))
     ] in
     IsOldest-best answers c.args.self.now c.loop-key.key c.in-Some-best.key c.in-Some-best.field-0-1 rest best
 
@@ -52,10 +52,10 @@ returns-clause-none g c =
     let answers = FnReturnsAt g.F.Fn c.args.passes in
     let slots = c.args.self.now.slots in
     let best : IsBest (λ k f. answers f.message true) (λ k f. answers f.message false) slots c.loop-key.key None = rw c.in-None.is at c.loop-key.invariant.0 in
-    let same : c.self.inside.slab.slots ≡ slots = ap (λ (v : Flights). v.slots) c.self.view_is in
+    let same : c.self.inside.slots.items ≡ slots = ap (λ (v : Flights). v.slots) c.self.view_is in
     let rest : (other : ℕ) → c.loop-key.key ≤ other → get_or slots other None ≡ None = elim c.loop-key-test.branch [
       | then-loop-key-test+else-left-gt0 w ↦ none_left c.loop-key.key slots (sym c.loop-key.invariant.1 ∙ omega (arith, w.if-left-gt0.false))
-      | else-loop-key-test w ↦ λ other le. get_or_past slots other None (rw (← same) (omega (arith, w.loop-key-test.false, le, c.capacity.ensures.slots)))
+      | else-loop-key-test w ↦ λ other le. get_or_past slots other None (rw (← same) (omega (arith, w.loop-key-test.false, le, c.keys.ensures)))
     ] in
     λ key f at. best key f (below_end slots c.loop-key.key key f rest at) at
 

@@ -1,11 +1,11 @@
-use Rattle.std.proofs.Common.{◌≡◌, ◌-◌, true, false}
+use Rattle.std.proofs.Common.{◌≡◌, ◌-◌, true, false, length}
 use Rattle.std.specs.Fn.{FnReturnsAt}
 use Rattle.network.proofs.Best.{IsBest}
 use Rattle.network.proofs.Counted.{count_from}
 use Rattle.network.proofs.net.Net.oldest_of_all.Given as goal
 
 abbrev pub decreases-loop-key : goal.decreases-loop-key
-decreases-loop-key g l = l.self-inside.slab.capacity - l.key
+decreases-loop-key g l = length l.self-inside.slots.items - l.key
 
 -- the best of the keys so far, and how many messages there are from here on
 abbrev pub invariant-loop-key : goal.invariant-loop-key
