@@ -15,6 +15,10 @@ byte_text c = cond (is_plain c) (c ∷ []) (codes "\\x" ++ drop 6 (hexadecimal c
 abbrev pub quoted : List ℕ → List ℕ
 quoted name = flat_map byte_text name
 
+-- a byte that names are spelled with: a plain one, or the backslash before a number
+abbrev pub is_spelling : ℕ → Bool
+is_spelling c = is_plain c || (c == 92)
+
 abbrev pub string_text : List ℕ → List ℕ
 string_text name = codes "name:\"" ++ (quoted name ++ codes "\",")
 

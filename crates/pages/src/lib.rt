@@ -15,5 +15,5 @@ mod moments;
 mod names;
 mod page;
 
-pub use laws::{all_lines_are_told, what_is_not_told_stays};
+pub use laws::{all_lines_are_told, names_are_no_markup, what_is_not_told_stays};
 pub use page::put_page;
