@@ -1,83 +1,58 @@
 "use strict";
-// Shows RUN, a run of logtm, one step after another. A moment of it tells what its step left of one hart and of one entry of the directory, what is in
-// flight, and the words; the states between are put together here. State n is the one behind n steps.
+// Shows RUN, a run of logtm, one step after another. It tells how the run begins; and a moment of it tells what its step left of one hart and of one
+// entry of the directory, what is in flight, and the words. The states between are put together here. State n is the one behind n steps.
 
 const LAST = RUN.moments.length;
-const APART = 200; // how many steps lie between two states that are kept
+const APART = 50; // how many steps lie between two states that are kept
 const REGISTERS = "zero ra sp gp tp t0 t1 t2 s0 s1 a0 a1 a2 a3 a4 a5 a6 a7 s2 s3 s4 s5 s6 s7 s8 s9 s10 s11 t3 t4 t5 t6".split(" ");
 const FIRST_ENTRY = "owner none sharers - busy -";
 
 // ---- states
 
-function emptyState() {
+const flightsOf = (told, before) => new Map(told.map((flight) => (Array.isArray(flight) ? flight : [flight, before.get(flight)])));
+
+function firstState() {
   return {
-    harts: Array.from({ length: RUN.harts }, () => null),
-    places: Array.from({ length: RUN.harts }, () => new Map()), // of each hart: the line in each place, by set and way
+    harts: RUN.first.harts.slice(),
     directory: new Map(),
-    flights: new Map(), // texts of messages, by their numbers
-    words: RUN.addresses.flatMap(() => [null, null]),
+    flights: flightsOf(RUN.first.flights, new Map()), // texts of messages, by their numbers
+    words: RUN.first.words,
   };
 }
 
 function copyOf(state) {
-  return {
-    harts: state.harts.slice(),
-    places: state.places.map((places) => new Map(places)),
-    directory: new Map(state.directory),
-    flights: new Map(state.flights),
-    words: state.words,
-  };
-}
-
-// A line as its block, the state's letter, and its marks.
-function lineOf(text) {
-  const [block, state, marks] = text.split(" ");
-  return { block, state, marks, text: state + " " + marks };
-}
-
-function setOf(block) {
-  return Math.floor(parseInt(block, 16) / 32) % RUN.sets;
-}
-
-// Where lines stand in a cache. A line stays in its way, and a new one takes the lowest free way of its set.
-function placed(before, lines) {
-  const after = new Map();
-  const left = new Map(lines.map((text) => [lineOf(text).block, lineOf(text)]));
-  for (const [place, line] of before) {
-    if (left.has(line.block)) {
-      after.set(place, left.get(line.block));
-      left.delete(line.block);
-    }
-  }
-  for (const line of left.values()) {
-    const from = setOf(line.block) * RUN.ways;
-    let way = 0;
-    while (after.has(from + way)) way += 1;
-    after.set(from + way, line);
-  }
-  return after;
+  return { harts: state.harts.slice(), directory: new Map(state.directory), flights: state.flights, words: state.words };
 }
 
 // Makes of a state the one behind a moment.
 function apply(state, moment) {
-  if (moment.hart) {
-    const id = moment.hart.id;
-    state.harts[id] = moment.hart;
-    state.places[id] = placed(state.places[id], moment.hart.lines);
-  }
+  if (moment.hart) state.harts[moment.hart.id] = moment.hart;
   if (moment.directory) {
     const block = moment.directory.slice(0, 8);
     const entry = moment.directory.slice(9);
     if (entry === FIRST_ENTRY) state.directory.delete(block);
     else state.directory.set(block, entry);
   }
-  const flights = new Map();
-  for (const flight of moment.flights) {
-    if (Array.isArray(flight)) flights.set(flight[0], flight[1]);
-    else flights.set(flight, state.flights.get(flight));
-  }
-  state.flights = flights;
+  state.flights = flightsOf(moment.flights, state.flights);
   state.words = moment.words;
+}
+
+const blockOf = (line) => line.slice(0, 8);
+const setOf = (line) => Math.floor(parseInt(blockOf(line), 16) / 32) % RUN.sets;
+
+// Says of a hart in which places, by set and way, its lines stand. As in the machine, a line stays where it stood, and a block that gets one gets the
+// lowest way of its set that was free.
+function placeLines(hart, before) {
+  const stood = before ? before.lines.map(blockOf) : [];
+  const taken = new Set(before ? before.places : []);
+  hart.places = hart.lines.map((line) => {
+    const index = stood.indexOf(blockOf(line));
+    if (index >= 0) return before.places[index];
+    let place = setOf(line) * RUN.ways;
+    while (taken.has(place)) place += 1;
+    taken.add(place);
+    return place;
+  });
 }
 
 const kept = [];
@@ -85,18 +60,28 @@ const texts = new Map(); // of all messages, by their numbers
 const blocks = new Set();
 const usedSets = new Set();
 
+function noteHart(hart, before) {
+  placeLines(hart, before);
+  for (const line of hart.lines) usedSets.add(setOf(line));
+}
+
+function noteFlights(flights) {
+  for (const flight of flights) {
+    if (!Array.isArray(flight)) continue;
+    texts.set(flight[0], flight[1]);
+    blocks.add(flight[1].split(" ")[2]);
+  }
+}
+
 function keepStates() {
-  const state = emptyState();
+  const state = firstState();
+  state.harts.forEach((hart) => noteHart(hart, null));
+  noteFlights(RUN.first.flights);
   RUN.moments.forEach((moment, number) => {
     if (number % APART === 0) kept.push(copyOf(state));
+    if (moment.hart) noteHart(moment.hart, state.harts[moment.hart.id]);
+    noteFlights(moment.flights);
     apply(state, moment);
-    for (const flight of moment.flights) {
-      if (Array.isArray(flight)) {
-        texts.set(flight[0], flight[1]);
-        blocks.add(flight[1].split(" ")[2]);
-      }
-    }
-    for (const line of moment.hart ? moment.hart.lines : []) usedSets.add(setOf(line));
   });
   if (LAST % APART === 0) kept.push(copyOf(state));
 }
@@ -121,11 +106,6 @@ function at(id) {
   return document.getElementById(id);
 }
 
-// A block's address, without the zeros before it.
-function short(block) {
-  return parseInt(block, 16).toString(16);
-}
-
 function marked(now, before) {
   return now === before ? "" : "changed";
 }
@@ -133,16 +113,14 @@ function marked(now, before) {
 const hex = (value) => "0x" + value.toString(16).padStart(8, "0");
 
 function transactionText(hart) {
-  if (!hart || !hart.tx) return "none";
+  if (!hart.tx) return "none";
   const { depth, records, stamp, overflow, cycle, aborting } = hart.tx;
   const bits = (overflow ? " overflow" : "") + (cycle ? " cycle" : "") + (aborting ? " aborting" : "");
   return "depth " + depth + " records " + records + " stamp " + stamp + bits;
 }
 
-function progressOf(hart) {
-  if (!hart) return ["pc -", "no step yet"];
-  return ["pc=0x" + hart.pc, hart.status];
-}
+const pcText = (hart) => "pc=0x" + hart.pc + (hart.name || "");
+const waitText = (hart) => (hart.waits ? "waits 0x" + hart.waits : "");
 
 // A fact of a hart, marked if it changed.
 function fact(id, name, now, before, ...classes) {
@@ -151,48 +129,55 @@ function fact(id, name, now, before, ...classes) {
   return element;
 }
 
-function cacheOf(id, state, before) {
+// The line in a place as its block, its state and marks, or none.
+function lineIn(hart, place) {
+  const index = hart.places.indexOf(place);
+  if (index < 0) return null;
+  const [block, letter, marks] = hart.lines[index].split(" ");
+  return { block, letter, text: parseInt(block, 16).toString(16) + " " + letter + " " + marks, told: block + " " + letter + " " + marks };
+}
+
+function cellOf(hart, was, set, way) {
+  const line = lineIn(hart, set * RUN.ways + way);
+  const before = lineIn(was, set * RUN.ways + way);
+  const text = line ? line.text : "-";
+  const cell = make("div", text, "way", line ? line.letter : "", marked(text, before ? before.text : "-"));
+  cell.title = "set " + set + ", way " + way + (line ? ": block 0x" + line.block : ": no line");
+  if (line) cell.dataset.line = hart.id + " 0x" + line.told;
+  return cell;
+}
+
+function cacheOf(hart, was) {
   const grid = make("div", null, "cache");
   for (const set of [...usedSets].sort((a, b) => a - b)) {
     const row = make("div", null, "set");
     row.append(make("span", String(set)));
-    for (let way = 0; way < RUN.ways; way += 1) {
-      const place = set * RUN.ways + way;
-      const line = state.places[id].get(place);
-      const was = before.places[id].get(place);
-      const text = line ? short(line.block) + " " + line.text : "-";
-      const cell = make("div", text, "way", line ? line.state : "", marked(text, was ? short(was.block) + " " + was.text : "-"));
-      cell.title = line ? "set " + set + ", way " + way + ": block 0x" + line.block : "set " + set + ", way " + way + ": no line";
-      if (line) cell.dataset.line = id + " 0x" + line.block + " " + line.text;
-      row.append(cell);
-    }
+    for (let way = 0; way < RUN.ways; way += 1) row.append(cellOf(hart, was, set, way));
     grid.append(row);
   }
   return grid;
 }
 
+const registerItem = (hart, was, number) => make("li", REGISTERS[number] + "=" + hex(hart.regs[number]), marked(hart.regs[number], was.regs[number]));
+
 function registersOf(hart, was) {
   const list = make("ul", null);
-  REGISTERS.forEach((name, number) => {
-    const value = hart ? hart.regs[number] : 0;
-    const before = was ? was.regs[number] : value;
-    list.append(make("li", name + "=" + hex(value), marked(value, before)));
-  });
+  REGISTERS.forEach((name, number) => list.append(registerItem(hart, was, number)));
   return list;
 }
 
 function changedRegisters(hart, was) {
   const list = make("ul", null);
-  if (!hart || !was) return list;
   REGISTERS.forEach((name, number) => {
-    if (hart.regs[number] !== was.regs[number]) list.append(make("li", name + "=" + hex(hart.regs[number]), "changed"));
+    if (hart.regs[number] !== was.regs[number]) list.append(registerItem(hart, was, number));
   });
   return list;
 }
 
 const opened = new Set(); // the harts whose registers are all shown
 
-function allRegisters(id, hart, was) {
+function allRegisters(hart, was) {
+  const id = hart.id;
   const all = make("details", null);
   all.open = opened.has(id);
   all.append(make("summary", "all registers"));
@@ -210,23 +195,33 @@ function allRegisters(id, hart, was) {
   return all;
 }
 
-function hartColumn(id, state, before, actor) {
-  const hart = state.harts[id];
-  const was = before.harts[id];
-  const column = make("section", null, "column", actor === id ? "actor" : "");
+function hartColumn(hart, was, isActor) {
+  const id = hart.id;
+  const column = make("section", null, "column", isActor ? "actor" : "");
   column.append(make("h2", "hart " + id));
-  const [pc, status] = progressOf(hart);
-  const [pcBefore, statusBefore] = progressOf(was);
-  column.append(fact(id, "pc", pc, pcBefore), fact(id, "status", status, statusBefore));
-  column.append(fact(id, "next", hart ? hart.next : "", was ? was.next : ""));
-  if (hart && hart.waits) column.append(fact(id, "waits", "waits 0x" + hart.waits, was && was.waits ? "waits 0x" + was.waits : ""));
+  column.append(fact(id, "pc", pcText(hart), pcText(was)), fact(id, "status", hart.status, was.status), fact(id, "next", hart.next, was.next));
+  if (hart.waits) column.append(fact(id, "waits", waitText(hart), waitText(was)));
   column.append(make("h3", "transaction"));
-  const classes = hart && hart.tx ? ["tx", hart.tx.aborting ? "aborting" : ""] : [];
+  const classes = hart.tx ? ["tx", hart.tx.aborting ? "aborting" : ""] : [];
   column.append(fact(id, "tx", transactionText(hart), transactionText(was), ...classes));
-  column.append(make("h3", "cache: set, ways"), cacheOf(id, state, before));
+  column.append(make("h3", "cache: set, ways"), cacheOf(hart, was));
   column.append(make("h3", "registers that changed"), changedRegisters(hart, was));
-  column.append(allRegisters(id, hart, was));
+  column.append(allRegisters(hart, was));
   return column;
+}
+
+const shownHarts = []; // of each hart what its column shows, and the column
+
+// The columns of the harts. One that shows the same as before stays as it is.
+function hartColumns(state, before, actor) {
+  return state.harts.map((hart, id) => {
+    const [was, isActor] = [before.harts[id], actor === id];
+    const shown = shownHarts[id];
+    if (shown && shown.hart === hart && shown.was === was && shown.isActor === isActor) return shown.column;
+    const column = hartColumn(hart, was, isActor);
+    shownHarts[id] = { hart, was, isActor, column };
+    return column;
+  });
 }
 
 function directoryColumn(state, before, actor) {
@@ -326,25 +321,65 @@ function actorOf(moment) {
   return moment.arrival === undefined ? null : RUN.harts;
 }
 
+// A part of an entry that tells a register, a load or a store.
+function partInWords(part) {
+  const [what, size, access] = part.split(" ");
+  if (size === undefined) return " and sets " + what.replace("=", " to ");
+  const [address, value] = access.split("=");
+  return (what === "load" ? " and reads " + value + " from " : " and writes " + value + " to ") + address;
+}
+
+// What an entry says, in words.
+function inWords(entry) {
+  const [instruction, ...parts] = entry.split(" | ");
+  const [hart, what, third, fourth, block] = entry.split(" ");
+  switch (what) {
+    case "abort":
+      return "Hart " + hart + " aborts its transaction: " + entry.split(" abort ")[1] + ".";
+    case "trap":
+      return "Hart " + hart + " is stopped by a trap: " + entry.split(" ").slice(3).join(" ") + ".";
+    case "refuses":
+      return "Hart " + hart + " refuses hart " + third + " the block " + block + ".";
+    case "spills":
+      return "Hart " + hart + " gives up its line of the block " + fourth + ", which its transaction has used.";
+    default:
+      return "Hart " + hart + " executes " + instruction.split(" ").slice(3).join(" ") + parts.map(partInWords).join("") + ".";
+  }
+}
+
 function titleOf(moment) {
-  if (!moment) return "Before the first step. What a hart has is shown from its first step on.";
-  if (moment.step === "deliver") return moment.arrival === undefined ? "Nothing arrives." : "Arrives: " + texts.get(moment.arrival);
+  if (!moment) return "Before the first step.";
+  const said = moment.entry ? " " + inWords(moment.entry.trim()) : "";
+  if (moment.step === "deliver") return (moment.arrival === undefined ? "Nothing arrives." : "Arrives: " + texts.get(moment.arrival) + ".") + said;
   const hart = moment.hart ? "Hart " + moment.hart.id : "No hart";
-  return hart + (moment.step === "core" ? " makes a step of its core" : " is to give up its line: " + moment.step);
+  return (moment.step === "core" ? (moment.entry ? "" : hart + " makes a step of its core.") : hart + " is to give up its line: " + moment.step + ".") + said;
+}
+
+// The line of an entry, with the name of its first address where there is one.
+function entryOf(moment) {
+  if (!moment || !moment.entry) return "";
+  return moment.entry.trim().replace(/0x[0-9a-f]{8}/, (address) => address + (moment.name || ""));
+}
+
+// Puts elements into a parent, where those that it has already stay as they are.
+function replaceColumns(parent, columns) {
+  if (parent.children.length !== columns.length) return parent.replaceChildren(...columns);
+  columns.forEach((column, index) => {
+    if (parent.children[index] !== column) parent.children[index].replaceWith(column);
+  });
 }
 
 function showStep(number) {
-  shownStep = Math.max(0, Math.min(LAST, number));
+  shownStep = Math.max(0, Math.min(LAST, Math.trunc(number)));
   const moment = shownStep > 0 ? RUN.moments[shownStep - 1] : null;
-  const state = stateAt(shownStep);
-  const before = shownStep > 0 ? stateAt(shownStep - 1) : state;
-  const entry = moment && moment.entry ? moment.entry.trim() : "";
+  const before = stateAt(Math.max(0, shownStep - 1));
+  const state = copyOf(before);
+  if (moment) apply(state, moment);
   at("title").textContent = "Step " + shownStep + " of " + LAST + ". " + titleOf(moment);
-  at("entry").textContent = entry;
+  at("entry").textContent = entryOf(moment);
   at("entry").className = isRefusal(moment) ? "refusal" : isAbort(moment) ? "abort" : "";
   const actor = actorOf(moment);
-  const columns = state.harts.map((hart, id) => hartColumn(id, state, before, actor));
-  at("columns").replaceChildren(...columns, directoryColumn(state, before, actor));
+  replaceColumns(at("columns"), [...hartColumns(state, before, actor), directoryColumn(state, before, actor)]);
   showFlights(state, moment);
   showMemory(state, before);
   at("slider").value = shownStep;

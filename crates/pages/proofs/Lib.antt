@@ -3,5 +3,6 @@ mod Blocks
 mod Lists
 mod Naming
 mod Slots
+mod Spelling
 mod Staying
 mod Telling

@@ -100,6 +100,7 @@ changes_what_is_told g v w step e within made =
       harts = λ i differ. ap (λ (m : Machine). m.harts i) about.machine ∙ leaves.harts i differ;
       entries = λ b differ. ap (λ (m : Machine). m.entries b) about.machine ∙ leaves.entries b differ;
       flights = λ key f here. of_left key f (sent_later (change_by g.sets v step).sent about.left (mail_of w.flights) v.sent w.sent within about.sends key f here);
+      ways = made.ways;
     }
   where
     of_left : (key : ℕ) (f : Flight) → (made.made.left key ≡ Some f) ⊎ (v.sent ≤ f.number) → (slice_index_or v.flights key None ≡ Some f) ⊎ (v.sent ≤ f.number)

@@ -9,7 +9,7 @@ use Rattle.texts.specs.Puts.{Puts}
 use Rattle.texts.proofs.Putting.{puts-cut, took-nothing, took-both, took-then-part, took-part-longer}
 use Rattle.disassembler.specs.Tables.{Table}
 use Rattle.protocol.specs.Caches.{Geometry}
-use Rattle.machine.specs.States.{State, setting_of}
+use Rattle.machine.specs.States.{State}
 use Rattle.schedule.specs.Courses.{Behind, Course, course, forgotten, IsUnbegun}
 use Rattle.schedule.proofs.Going.{unbegun_still}
 use Rattle.schedule.specs.declared.choices.Choice.{Choice}
@@ -51,14 +51,14 @@ module _ (names : Table) (sets : ℕ) (words : List ℕ) where
 
 -- not all of what comes before the moments was put
 pub cut_opening : (names : Table) (g : Geometry) (words : List ℕ) (choices : List Choice) (c : Behind) (n : ℕ) (v : State) (a b : SinkState) (r : Result Unit SinkFault) → IsUnbegun c → IsErr r
-    → Puts a b (opening g (setting_of v).count words) r → IsPagedInPart names g words (course choices (forgotten c)) n v v a b Untold
+    → Puts a b (opening names g v words) r → IsPagedInPart names g words (course choices (forgotten c)) n v v a b Untold
 cut_opening names g words choices c n v a b (Ok _) unbegun failed puts = absurd (cc)
 cut_opening names g words choices c n v a b (Err e) unbegun failed puts =
-    let all : Puts a b (opening g (setting_of v).count words ++ tail) (Err e) = puts-cut tail {s = Err e} refl puts refl in
+    let all : Puts a b (opening names g v words ++ tail) (Err e) = puts-cut tail {s = Err e} refl puts refl in
     (0, omega arith, [], none_played g choices (forgotten c) v (unbegun_still c unbegun), record { part = all.part; fault = all.fault })
 
 module _ {L : Type 0} (state : L → SinkState) (names : Table) (g : Geometry) (words : List ℕ) (on : Course) (n : ℕ) (v w : State) (x y : L)
-    (a : SinkState) (begun : TookAll a (state x) (opening g (setting_of v).count words)) where
+    (a : SinkState) (begun : TookAll a (state x) (opening names g v words)) where
   abbrev Saw : L → List Moment → L → Type 0
   Saw before ms after = TookAll (state before) (state after) (text names g.sets words ms)
 
@@ -66,7 +66,7 @@ module _ {L : Type 0} (state : L → SinkState) (names : Table) (g : Geometry) (
   Missed before ms after = TookPart (state before) (state after) (text names g.sets words ms)
 
   abbrev first : List ℕ
-  first = opening g (setting_of v).count words
+  first = opening names g v words
 
   saw_both : (ms ns : List Moment) (z u : L) → Saw x ms z → Saw z ns u → Saw x (ms ++ ns) u
   saw_both ms ns z u before later = told_both names g.sets words (state x) (state z) (state u) ms ns before later

@@ -113,85 +113,60 @@ tail = concat (
     codes "</script>\n" ∷
     codes "<script>\n" ∷
     codes "\"use strict\";\n" ∷
-    codes "// Shows RUN, a run of logtm, one step after another. A moment of it tells what its step left of one hart and of one entry of the directory, what is in\n" ∷
-    codes "// flight, and the words; the states between are put together here. State n is the one behind n steps.\n" ∷
+    codes "// Shows RUN, a run of logtm, one step after another. It tells how the run begins; and a moment of it tells what its step left of one hart and of one\n" ∷
+    codes "// entry of the directory, what is in flight, and the words. The states between are put together here. State n is the one behind n steps.\n" ∷
     codes "\n" ∷
     codes "const LAST = RUN.moments.length;\n" ∷
-    codes "const APART = 200; // how many steps lie between two states that are kept\n" ∷
+    codes "const APART = 50; // how many steps lie between two states that are kept\n" ∷
     codes "const REGISTERS = \"zero ra sp gp tp t0 t1 t2 s0 s1 a0 a1 a2 a3 a4 a5 a6 a7 s2 s3 s4 s5 s6 s7 s8 s9 s10 s11 t3 t4 t5 t6\".split(\" \");\n" ∷
     codes "const FIRST_ENTRY = \"owner none sharers - busy -\";\n" ∷
     codes "\n" ∷
     codes "// ---- states\n" ∷
     codes "\n" ∷
-    codes "function emptyState() {\n" ∷
+    codes "const flightsOf = (told, before) => new Map(told.map((flight) => (Array.isArray(flight) ? flight : [flight, before.get(flight)])));\n" ∷
+    codes "\n" ∷
+    codes "function firstState() {\n" ∷
     codes "  return {\n" ∷
-    codes "    harts: Array.from({ length: RUN.harts }, () => null),\n" ∷
-    codes "    places: Array.from({ length: RUN.harts }, () => new Map()), // of each hart: the line in each place, by set and way\n" ∷
+    codes "    harts: RUN.first.harts.slice(),\n" ∷
     codes "    directory: new Map(),\n" ∷
-    codes "    flights: new Map(), // texts of messages, by their numbers\n" ∷
-    codes "    words: RUN.addresses.flatMap(() => [null, null]),\n" ∷
+    codes "    flights: flightsOf(RUN.first.flights, new Map()), // texts of messages, by their numbers\n" ∷
+    codes "    words: RUN.first.words,\n" ∷
     codes "  };\n" ∷
     codes "}\n" ∷
     codes "\n" ∷
     codes "function copyOf(state) {\n" ∷
-    codes "  return {\n" ∷
-    codes "    harts: state.harts.slice(),\n" ∷
-    codes "    places: state.places.map((places) => new Map(places)),\n" ∷
-    codes "    directory: new Map(state.directory),\n" ∷
-    codes "    flights: new Map(state.flights),\n" ∷
-    codes "    words: state.words,\n" ∷
-    codes "  };\n" ∷
-    codes "}\n" ∷
-    codes "\n" ∷
-    codes "// A line as its block, the state's letter, and its marks.\n" ∷
-    codes "function lineOf(text) {\n" ∷
-    codes "  const [block, state, marks] = text.split(\" \");\n" ∷
-    codes "  return { block, state, marks, text: state + \" \" + marks };\n" ∷
-    codes "}\n" ∷
-    codes "\n" ∷
-    codes "function setOf(block) {\n" ∷
-    codes "  return Math.floor(parseInt(block, 16) / 32) % RUN.sets;\n" ∷
-    codes "}\n" ∷
-    codes "\n" ∷
-    codes "// Where lines stand in a cache. A line stays in its way, and a new one takes the lowest free way of its set.\n" ∷
-    codes "function placed(before, lines) {\n" ∷
-    codes "  const after = new Map();\n" ∷
-    codes "  const left = new Map(lines.map((text) => [lineOf(text).block, lineOf(text)]));\n" ∷
-    codes "  for (const [place, line] of before) {\n" ∷
-    codes "    if (left.has(line.block)) {\n" ∷
-    codes "      after.set(place, left.get(line.block));\n" ∷
-    codes "      left.delete(line.block);\n" ∷
-    codes "    }\n" ∷
-    codes "  }\n" ∷
-    codes "  for (const line of left.values()) {\n" ∷
-    codes "    const from = setOf(line.block) * RUN.ways;\n" ∷
-    codes "    let way = 0;\n" ∷
-    codes "    while (after.has(from + way)) way += 1;\n" ∷
-    codes "    after.set(from + way, line);\n" ∷
-    codes "  }\n" ∷
-    codes "  return after;\n" ∷
+    codes "  return { harts: state.harts.slice(), directory: new Map(state.directory), flights: state.flights, words: state.words };\n" ∷
     codes "}\n" ∷
     codes "\n" ∷
     codes "// Makes of a state the one behind a moment.\n" ∷
     codes "function apply(state, moment) {\n" ∷
-    codes "  if (moment.hart) {\n" ∷
-    codes "    const id = moment.hart.id;\n" ∷
-    codes "    state.harts[id] = moment.hart;\n" ∷
-    codes "    state.places[id] = placed(state.places[id], moment.hart.lines);\n" ∷
-    codes "  }\n" ∷
+    codes "  if (moment.hart) state.harts[moment.hart.id] = moment.hart;\n" ∷
     codes "  if (moment.directory) {\n" ∷
     codes "    const block = moment.directory.slice(0, 8);\n" ∷
     codes "    const entry = moment.directory.slice(9);\n" ∷
     codes "    if (entry === FIRST_ENTRY) state.directory.delete(block);\n" ∷
     codes "    else state.directory.set(block, entry);\n" ∷
     codes "  }\n" ∷
-    codes "  const flights = new Map();\n" ∷
-    codes "  for (const flight of moment.flights) {\n" ∷
-    codes "    if (Array.isArray(flight)) flights.set(flight[0], flight[1]);\n" ∷
-    codes "    else flights.set(flight, state.flights.get(flight));\n" ∷
-    codes "  }\n" ∷
-    codes "  state.flights = flights;\n" ∷
+    codes "  state.flights = flightsOf(moment.flights, state.flights);\n" ∷
     codes "  state.words = moment.words;\n" ∷
+    codes "}\n" ∷
+    codes "\n" ∷
+    codes "const blockOf = (line) => line.slice(0, 8);\n" ∷
+    codes "const setOf = (line) => Math.floor(parseInt(blockOf(line), 16) / 32) % RUN.sets;\n" ∷
+    codes "\n" ∷
+    codes "// Says of a hart in which places, by set and way, its lines stand. As in the machine, a line stays where it stood, and a block that gets one gets the\n" ∷
+    codes "// lowest way of its set that was free.\n" ∷
+    codes "function placeLines(hart, before) {\n" ∷
+    codes "  const stood = before ? before.lines.map(blockOf) : [];\n" ∷
+    codes "  const taken = new Set(before ? before.places : []);\n" ∷
+    codes "  hart.places = hart.lines.map((line) => {\n" ∷
+    codes "    const index = stood.indexOf(blockOf(line));\n" ∷
+    codes "    if (index >= 0) return before.places[index];\n" ∷
+    codes "    let place = setOf(line) * RUN.ways;\n" ∷
+    codes "    while (taken.has(place)) place += 1;\n" ∷
+    codes "    taken.add(place);\n" ∷
+    codes "    return place;\n" ∷
+    codes "  });\n" ∷
     codes "}\n" ∷
     codes "\n" ∷
     codes "const kept = [];\n" ∷
@@ -199,18 +174,28 @@ tail = concat (
     codes "const blocks = new Set();\n" ∷
     codes "const usedSets = new Set();\n" ∷
     codes "\n" ∷
+    codes "function noteHart(hart, before) {\n" ∷
+    codes "  placeLines(hart, before);\n" ∷
+    codes "  for (const line of hart.lines) usedSets.add(setOf(line));\n" ∷
+    codes "}\n" ∷
+    codes "\n" ∷
+    codes "function noteFlights(flights) {\n" ∷
+    codes "  for (const flight of flights) {\n" ∷
+    codes "    if (!Array.isArray(flight)) continue;\n" ∷
+    codes "    texts.set(flight[0], flight[1]);\n" ∷
+    codes "    blocks.add(flight[1].split(\" \")[2]);\n" ∷
+    codes "  }\n" ∷
+    codes "}\n" ∷
+    codes "\n" ∷
     codes "function keepStates() {\n" ∷
-    codes "  const state = emptyState();\n" ∷
+    codes "  const state = firstState();\n" ∷
+    codes "  state.harts.forEach((hart) => noteHart(hart, null));\n" ∷
+    codes "  noteFlights(RUN.first.flights);\n" ∷
     codes "  RUN.moments.forEach((moment, number) => {\n" ∷
     codes "    if (number % APART === 0) kept.push(copyOf(state));\n" ∷
+    codes "    if (moment.hart) noteHart(moment.hart, state.harts[moment.hart.id]);\n" ∷
+    codes "    noteFlights(moment.flights);\n" ∷
     codes "    apply(state, moment);\n" ∷
-    codes "    for (const flight of moment.flights) {\n" ∷
-    codes "      if (Array.isArray(flight)) {\n" ∷
-    codes "        texts.set(flight[0], flight[1]);\n" ∷
-    codes "        blocks.add(flight[1].split(\" \")[2]);\n" ∷
-    codes "      }\n" ∷
-    codes "    }\n" ∷
-    codes "    for (const line of moment.hart ? moment.hart.lines : []) usedSets.add(setOf(line));\n" ∷
     codes "  });\n" ∷
     codes "  if (LAST % APART === 0) kept.push(copyOf(state));\n" ∷
     codes "}\n" ∷
@@ -235,11 +220,6 @@ tail = concat (
     codes "  return document.getElementById(id);\n" ∷
     codes "}\n" ∷
     codes "\n" ∷
-    codes "// A block's address, without the zeros before it.\n" ∷
-    codes "function short(block) {\n" ∷
-    codes "  return parseInt(block, 16).toString(16);\n" ∷
-    codes "}\n" ∷
-    codes "\n" ∷
     codes "function marked(now, before) {\n" ∷
     codes "  return now === before ? \"\" : \"changed\";\n" ∷
     codes "}\n" ∷
@@ -247,16 +227,14 @@ tail = concat (
     codes "const hex = (value) => \"0x\" + value.toString(16).padStart(8, \"0\");\n" ∷
     codes "\n" ∷
     codes "function transactionText(hart) {\n" ∷
-    codes "  if (!hart || !hart.tx) return \"none\";\n" ∷
+    codes "  if (!hart.tx) return \"none\";\n" ∷
     codes "  const { depth, records, stamp, overflow, cycle, aborting } = hart.tx;\n" ∷
     codes "  const bits = (overflow ? \" overflow\" : \"\") + (cycle ? \" cycle\" : \"\") + (aborting ? \" aborting\" : \"\");\n" ∷
     codes "  return \"depth \" + depth + \" records \" + records + \" stamp \" + stamp + bits;\n" ∷
     codes "}\n" ∷
     codes "\n" ∷
-    codes "function progressOf(hart) {\n" ∷
-    codes "  if (!hart) return [\"pc -\", \"no step yet\"];\n" ∷
-    codes "  return [\"pc=0x\" + hart.pc, hart.status];\n" ∷
-    codes "}\n" ∷
+    codes "const pcText = (hart) => \"pc=0x\" + hart.pc + (hart.name || \"\");\n" ∷
+    codes "const waitText = (hart) => (hart.waits ? \"waits 0x\" + hart.waits : \"\");\n" ∷
     codes "\n" ∷
     codes "// A fact of a hart, marked if it changed.\n" ∷
     codes "function fact(id, name, now, before, ...classes) {\n" ∷
@@ -265,48 +243,55 @@ tail = concat (
     codes "  return element;\n" ∷
     codes "}\n" ∷
     codes "\n" ∷
-    codes "function cacheOf(id, state, before) {\n" ∷
+    codes "// The line in a place as its block, its state and marks, or none.\n" ∷
+    codes "function lineIn(hart, place) {\n" ∷
+    codes "  const index = hart.places.indexOf(place);\n" ∷
+    codes "  if (index < 0) return null;\n" ∷
+    codes "  const [block, letter, marks] = hart.lines[index].split(\" \");\n" ∷
+    codes "  return { block, letter, text: parseInt(block, 16).toString(16) + \" \" + letter + \" \" + marks, told: block + \" \" + letter + \" \" + marks };\n" ∷
+    codes "}\n" ∷
+    codes "\n" ∷
+    codes "function cellOf(hart, was, set, way) {\n" ∷
+    codes "  const line = lineIn(hart, set * RUN.ways + way);\n" ∷
+    codes "  const before = lineIn(was, set * RUN.ways + way);\n" ∷
+    codes "  const text = line ? line.text : \"-\";\n" ∷
+    codes "  const cell = make(\"div\", text, \"way\", line ? line.letter : \"\", marked(text, before ? before.text : \"-\"));\n" ∷
+    codes "  cell.title = \"set \" + set + \", way \" + way + (line ? \": block 0x\" + line.block : \": no line\");\n" ∷
+    codes "  if (line) cell.dataset.line = hart.id + \" 0x\" + line.told;\n" ∷
+    codes "  return cell;\n" ∷
+    codes "}\n" ∷
+    codes "\n" ∷
+    codes "function cacheOf(hart, was) {\n" ∷
     codes "  const grid = make(\"div\", null, \"cache\");\n" ∷
     codes "  for (const set of [...usedSets].sort((a, b) => a - b)) {\n" ∷
     codes "    const row = make(\"div\", null, \"set\");\n" ∷
     codes "    row.append(make(\"span\", String(set)));\n" ∷
-    codes "    for (let way = 0; way < RUN.ways; way += 1) {\n" ∷
-    codes "      const place = set * RUN.ways + way;\n" ∷
-    codes "      const line = state.places[id].get(place);\n" ∷
-    codes "      const was = before.places[id].get(place);\n" ∷
-    codes "      const text = line ? short(line.block) + \" \" + line.text : \"-\";\n" ∷
-    codes "      const cell = make(\"div\", text, \"way\", line ? line.state : \"\", marked(text, was ? short(was.block) + \" \" + was.text : \"-\"));\n" ∷
-    codes "      cell.title = line ? \"set \" + set + \", way \" + way + \": block 0x\" + line.block : \"set \" + set + \", way \" + way + \": no line\";\n" ∷
-    codes "      if (line) cell.dataset.line = id + \" 0x\" + line.block + \" \" + line.text;\n" ∷
-    codes "      row.append(cell);\n" ∷
-    codes "    }\n" ∷
+    codes "    for (let way = 0; way < RUN.ways; way += 1) row.append(cellOf(hart, was, set, way));\n" ∷
     codes "    grid.append(row);\n" ∷
     codes "  }\n" ∷
     codes "  return grid;\n" ∷
     codes "}\n" ∷
     codes "\n" ∷
+    codes "const registerItem = (hart, was, number) => make(\"li\", REGISTERS[number] + \"=\" + hex(hart.regs[number]), marked(hart.regs[number], was.regs[number]));\n" ∷
+    codes "\n" ∷
     codes "function registersOf(hart, was) {\n" ∷
     codes "  const list = make(\"ul\", null);\n" ∷
-    codes "  REGISTERS.forEach((name, number) => {\n" ∷
-    codes "    const value = hart ? hart.regs[number] : 0;\n" ∷
-    codes "    const before = was ? was.regs[number] : value;\n" ∷
-    codes "    list.append(make(\"li\", name + \"=\" + hex(value), marked(value, before)));\n" ∷
-    codes "  });\n" ∷
+    codes "  REGISTERS.forEach((name, number) => list.append(registerItem(hart, was, number)));\n" ∷
     codes "  return list;\n" ∷
     codes "}\n" ∷
     codes "\n" ∷
     codes "function changedRegisters(hart, was) {\n" ∷
     codes "  const list = make(\"ul\", null);\n" ∷
-    codes "  if (!hart || !was) return list;\n" ∷
     codes "  REGISTERS.forEach((name, number) => {\n" ∷
-    codes "    if (hart.regs[number] !== was.regs[number]) list.append(make(\"li\", name + \"=\" + hex(hart.regs[number]), \"changed\"));\n" ∷
+    codes "    if (hart.regs[number] !== was.regs[number]) list.append(registerItem(hart, was, number));\n" ∷
     codes "  });\n" ∷
     codes "  return list;\n" ∷
     codes "}\n" ∷
     codes "\n" ∷
     codes "const opened = new Set(); // the harts whose registers are all shown\n" ∷
     codes "\n" ∷
-    codes "function allRegisters(id, hart, was) {\n" ∷
+    codes "function allRegisters(hart, was) {\n" ∷
+    codes "  const id = hart.id;\n" ∷
     codes "  const all = make(\"details\", null);\n" ∷
     codes "  all.open = opened.has(id);\n" ∷
     codes "  all.append(make(\"summary\", \"all registers\"));\n" ∷
@@ -324,23 +309,33 @@ tail = concat (
     codes "  return all;\n" ∷
     codes "}\n" ∷
     codes "\n" ∷
-    codes "function hartColumn(id, state, before, actor) {\n" ∷
-    codes "  const hart = state.harts[id];\n" ∷
-    codes "  const was = before.harts[id];\n" ∷
-    codes "  const column = make(\"section\", null, \"column\", actor === id ? \"actor\" : \"\");\n" ∷
+    codes "function hartColumn(hart, was, isActor) {\n" ∷
+    codes "  const id = hart.id;\n" ∷
+    codes "  const column = make(\"section\", null, \"column\", isActor ? \"actor\" : \"\");\n" ∷
     codes "  column.append(make(\"h2\", \"hart \" + id));\n" ∷
-    codes "  const [pc, status] = progressOf(hart);\n" ∷
-    codes "  const [pcBefore, statusBefore] = progressOf(was);\n" ∷
-    codes "  column.append(fact(id, \"pc\", pc, pcBefore), fact(id, \"status\", status, statusBefore));\n" ∷
-    codes "  column.append(fact(id, \"next\", hart ? hart.next : \"\", was ? was.next : \"\"));\n" ∷
-    codes "  if (hart && hart.waits) column.append(fact(id, \"waits\", \"waits 0x\" + hart.waits, was && was.waits ? \"waits 0x\" + was.waits : \"\"));\n" ∷
+    codes "  column.append(fact(id, \"pc\", pcText(hart), pcText(was)), fact(id, \"status\", hart.status, was.status), fact(id, \"next\", hart.next, was.next));\n" ∷
+    codes "  if (hart.waits) column.append(fact(id, \"waits\", waitText(hart), waitText(was)));\n" ∷
     codes "  column.append(make(\"h3\", \"transaction\"));\n" ∷
-    codes "  const classes = hart && hart.tx ? [\"tx\", hart.tx.aborting ? \"aborting\" : \"\"] : [];\n" ∷
+    codes "  const classes = hart.tx ? [\"tx\", hart.tx.aborting ? \"aborting\" : \"\"] : [];\n" ∷
     codes "  column.append(fact(id, \"tx\", transactionText(hart), transactionText(was), ...classes));\n" ∷
-    codes "  column.append(make(\"h3\", \"cache: set, ways\"), cacheOf(id, state, before));\n" ∷
+    codes "  column.append(make(\"h3\", \"cache: set, ways\"), cacheOf(hart, was));\n" ∷
     codes "  column.append(make(\"h3\", \"registers that changed\"), changedRegisters(hart, was));\n" ∷
-    codes "  column.append(allRegisters(id, hart, was));\n" ∷
+    codes "  column.append(allRegisters(hart, was));\n" ∷
     codes "  return column;\n" ∷
+    codes "}\n" ∷
+    codes "\n" ∷
+    codes "const shownHarts = []; // of each hart what its column shows, and the column\n" ∷
+    codes "\n" ∷
+    codes "// The columns of the harts. One that shows the same as before stays as it is.\n" ∷
+    codes "function hartColumns(state, before, actor) {\n" ∷
+    codes "  return state.harts.map((hart, id) => {\n" ∷
+    codes "    const [was, isActor] = [before.harts[id], actor === id];\n" ∷
+    codes "    const shown = shownHarts[id];\n" ∷
+    codes "    if (shown && shown.hart === hart && shown.was === was && shown.isActor === isActor) return shown.column;\n" ∷
+    codes "    const column = hartColumn(hart, was, isActor);\n" ∷
+    codes "    shownHarts[id] = { hart, was, isActor, column };\n" ∷
+    codes "    return column;\n" ∷
+    codes "  });\n" ∷
     codes "}\n" ∷
     codes "\n" ∷
     codes "function directoryColumn(state, before, actor) {\n" ∷
@@ -440,25 +435,65 @@ tail = concat (
     codes "  return moment.arrival === undefined ? null : RUN.harts;\n" ∷
     codes "}\n" ∷
     codes "\n" ∷
+    codes "// A part of an entry that tells a register, a load or a store.\n" ∷
+    codes "function partInWords(part) {\n" ∷
+    codes "  const [what, size, access] = part.split(\" \");\n" ∷
+    codes "  if (size === undefined) return \" and sets \" + what.replace(\"=\", \" to \");\n" ∷
+    codes "  const [address, value] = access.split(\"=\");\n" ∷
+    codes "  return (what === \"load\" ? \" and reads \" + value + \" from \" : \" and writes \" + value + \" to \") + address;\n" ∷
+    codes "}\n" ∷
+    codes "\n" ∷
+    codes "// What an entry says, in words.\n" ∷
+    codes "function inWords(entry) {\n" ∷
+    codes "  const [instruction, ...parts] = entry.split(\" | \");\n" ∷
+    codes "  const [hart, what, third, fourth, block] = entry.split(\" \");\n" ∷
+    codes "  switch (what) {\n" ∷
+    codes "    case \"abort\":\n" ∷
+    codes "      return \"Hart \" + hart + \" aborts its transaction: \" + entry.split(\" abort \")[1] + \".\";\n" ∷
+    codes "    case \"trap\":\n" ∷
+    codes "      return \"Hart \" + hart + \" is stopped by a trap: \" + entry.split(\" \").slice(3).join(\" \") + \".\";\n" ∷
+    codes "    case \"refuses\":\n" ∷
+    codes "      return \"Hart \" + hart + \" refuses hart \" + third + \" the block \" + block + \".\";\n" ∷
+    codes "    case \"spills\":\n" ∷
+    codes "      return \"Hart \" + hart + \" gives up its line of the block \" + fourth + \", which its transaction has used.\";\n" ∷
+    codes "    default:\n" ∷
+    codes "      return \"Hart \" + hart + \" executes \" + instruction.split(\" \").slice(3).join(\" \") + parts.map(partInWords).join(\"\") + \".\";\n" ∷
+    codes "  }\n" ∷
+    codes "}\n" ∷
+    codes "\n" ∷
     codes "function titleOf(moment) {\n" ∷
-    codes "  if (!moment) return \"Before the first step. What a hart has is shown from its first step on.\";\n" ∷
-    codes "  if (moment.step === \"deliver\") return moment.arrival === undefined ? \"Nothing arrives.\" : \"Arrives: \" + texts.get(moment.arrival);\n" ∷
+    codes "  if (!moment) return \"Before the first step.\";\n" ∷
+    codes "  const said = moment.entry ? \" \" + inWords(moment.entry.trim()) : \"\";\n" ∷
+    codes "  if (moment.step === \"deliver\") return (moment.arrival === undefined ? \"Nothing arrives.\" : \"Arrives: \" + texts.get(moment.arrival) + \".\") + said;\n" ∷
     codes "  const hart = moment.hart ? \"Hart \" + moment.hart.id : \"No hart\";\n" ∷
-    codes "  return hart + (moment.step === \"core\" ? \" makes a step of its core\" : \" is to give up its line: \" + moment.step);\n" ∷
+    codes "  return (moment.step === \"core\" ? (moment.entry ? \"\" : hart + \" makes a step of its core.\") : hart + \" is to give up its line: \" + moment.step + \".\") + said;\n" ∷
+    codes "}\n" ∷
+    codes "\n" ∷
+    codes "// The line of an entry, with the name of its first address where there is one.\n" ∷
+    codes "function entryOf(moment) {\n" ∷
+    codes "  if (!moment || !moment.entry) return \"\";\n" ∷
+    codes "  return moment.entry.trim().replace(/0x[0-9a-f]{8}/, (address) => address + (moment.name || \"\"));\n" ∷
+    codes "}\n" ∷
+    codes "\n" ∷
+    codes "// Puts elements into a parent, where those that it has already stay as they are.\n" ∷
+    codes "function replaceColumns(parent, columns) {\n" ∷
+    codes "  if (parent.children.length !== columns.length) return parent.replaceChildren(...columns);\n" ∷
+    codes "  columns.forEach((column, index) => {\n" ∷
+    codes "    if (parent.children[index] !== column) parent.children[index].replaceWith(column);\n" ∷
+    codes "  });\n" ∷
     codes "}\n" ∷
     codes "\n" ∷
     codes "function showStep(number) {\n" ∷
-    codes "  shownStep = Math.max(0, Math.min(LAST, number));\n" ∷
+    codes "  shownStep = Math.max(0, Math.min(LAST, Math.trunc(number)));\n" ∷
     codes "  const moment = shownStep > 0 ? RUN.moments[shownStep - 1] : null;\n" ∷
-    codes "  const state = stateAt(shownStep);\n" ∷
-    codes "  const before = shownStep > 0 ? stateAt(shownStep - 1) : state;\n" ∷
-    codes "  const entry = moment && moment.entry ? moment.entry.trim() : \"\";\n" ∷
+    codes "  const before = stateAt(Math.max(0, shownStep - 1));\n" ∷
+    codes "  const state = copyOf(before);\n" ∷
+    codes "  if (moment) apply(state, moment);\n" ∷
     codes "  at(\"title\").textContent = \"Step \" + shownStep + \" of \" + LAST + \". \" + titleOf(moment);\n" ∷
-    codes "  at(\"entry\").textContent = entry;\n" ∷
+    codes "  at(\"entry\").textContent = entryOf(moment);\n" ∷
     codes "  at(\"entry\").className = isRefusal(moment) ? \"refusal\" : isAbort(moment) ? \"abort\" : \"\";\n" ∷
     codes "  const actor = actorOf(moment);\n" ∷
-    codes "  const columns = state.harts.map((hart, id) => hartColumn(id, state, before, actor));\n" ∷
-    codes "  at(\"columns\").replaceChildren(...columns, directoryColumn(state, before, actor));\n" ∷
+    codes "  replaceColumns(at(\"columns\"), [...hartColumns(state, before, actor), directoryColumn(state, before, actor)]);\n" ∷
     codes "  showFlights(state, moment);\n" ∷
     codes "  showMemory(state, before);\n" ∷
     codes "  at(\"slider\").value = shownStep;\n" ∷

@@ -8,6 +8,8 @@ use Rattle.texts.specs.Numerals.{hexadecimal}
 use Rattle.table.specs.Effects.{reg}
 use Rattle.table.specs.Program.{word_at}
 use Rattle.disassembler.specs.Canonical.{canonical}
+use Rattle.disassembler.specs.Labels.{label}
+use Rattle.disassembler.specs.Tables.{Table}
 use Rattle.directory.specs.declared.entry.DirEntry.{DirEntry}
 use Rattle.protocol.specs.Lines.{Line}
 use Rattle.render.specs.Parts.{stamp_text}
@@ -16,6 +18,7 @@ use Rattle.render.specs.Registers.{status_text}
 use Rattle.machine.specs.declared.info.TxInfo.{TxInfo}
 use Rattle.machine.specs.Reads.{info_of}
 use Rattle.machine.specs.States.{State, setting_of, shown}
+use Rattle.pages.specs.Names.{name_text}
 
 -- the text of the word at the pc, if there is one
 abbrev pub next_text : Option ℕ → List ℕ
@@ -66,9 +69,17 @@ abbrev pub cache_text : ℕ → State → ℕ → List ℕ
 cache_text sets m i = codes "lines:[" ++ (flat_map (kept_line sets m i) m.directory.kept ++ codes "]}")
 
 -- all of hart i, with these registers, this pc and this status
-abbrev pub parts_text : ℕ → State → ℕ → List ℕ → ℕ → Status → List ℕ
-parts_text sets m i regs pc status = progress_text i pc status (word_at (setting_of m).segments pc) ++ (waits_text (option_map (λ r. r.block) ((shown sets m).harts i).request)
-    ++ (transaction_text (option_map info_of ((shown sets m).harts i).tx) ++ (registers_text regs ++ cache_text sets m i)))
+abbrev pub parts_text : Table → ℕ → State → ℕ → List ℕ → ℕ → Status → List ℕ
+parts_text names sets m i regs pc status = progress_text i pc status (word_at (setting_of m).segments pc) ++ (name_text (label names pc)
+    ++ (waits_text (option_map (λ r. r.block) ((shown sets m).harts i).request)
+    ++ (transaction_text (option_map info_of ((shown sets m).harts i).tx) ++ (registers_text regs ++ cache_text sets m i))))
 
-abbrev pub hart_text : ℕ → State → ℕ → List ℕ
-hart_text sets m i = parts_text sets m i ((shown sets m).harts i).regs ((shown sets m).harts i).pc ((shown sets m).harts i).status
+abbrev pub hart_text : Table → ℕ → State → ℕ → List ℕ
+hart_text names sets m i = parts_text names sets m i ((shown sets m).harts i).regs ((shown sets m).harts i).pc ((shown sets m).harts i).status
+
+-- all harts, one after another
+abbrev pub hart_item : Table → ℕ → State → ℕ → List ℕ
+hart_item names sets m i = hart_text names sets m i ++ codes ","
+
+abbrev pub harts_text : Table → ℕ → State → List ℕ
+harts_text names sets m = flat_map (hart_item names sets m) (range_with_len 0 (setting_of m).count)

@@ -1,3 +1,4 @@
+pub mod Names
 pub mod Harts
 pub mod Flights
 pub mod Memory

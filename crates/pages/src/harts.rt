@@ -8,7 +8,8 @@ ghost use Rattle.table.specs.Program.{word_at};
 ghost use Rattle.machine.specs.States.{setting_of, shown};
 ghost use Rattle.pages.specs.Harts as spec;
 
-use disassembler::text;
+use crate::names::put_name;
+use disassembler::{Symbols, text};
 use itoa::Buffer;
 use machine::{Machine, TxInfo};
 use render::{cached_text, first_byte, hart_text, stamp_text, status_text};
@@ -16,31 +17,61 @@ use table::register;
 use texts::{Line, hexadecimal, put_all};
 use words::{Addr, BlockNo, HartId, Reg, Regs, Sink, SinkFault, Status};
 
-/// Puts a hart.
-pub(crate) fn put_hart<const SETS: usize, const WAYS: usize, S: Sink>(
+/// Puts all harts, one after another.
+pub(crate) fn put_harts<const SETS: usize, const WAYS: usize, S: Sink>(
     sink: &mut S,
+    names: &Symbols<'_>,
+    machine: &Machine<SETS, WAYS>,
+) -> Result<(), SinkFault>
+    ensures { Puts (S.state sink.old) (S.state sink.new) (spec.harts_text names.now SETS machine.now) result }
+{
+    for number in 0..machine.harts() {
+        put_item(sink, names, machine, HartId::new(number as u8))?;
+    }
+    Ok(())
+}
+
+fn put_item<const SETS: usize, const WAYS: usize, S: Sink>(
+    sink: &mut S,
+    names: &Symbols<'_>,
     machine: &Machine<SETS, WAYS>,
     hart: HartId,
 ) -> Result<(), SinkFault>
     requires { hart < (setting_of machine.now).count }
-    ensures { Puts (S.state sink.old) (S.state sink.new) (spec.hart_text SETS machine.now hart) result }
+    ensures { Puts (S.state sink.old) (S.state sink.new) (spec.hart_item names.now SETS machine.now hart) result }
+{
+    put_hart(sink, names, machine, hart)?;
+    put_all(sink, &[b","])
+}
+
+/// Puts a hart.
+pub(crate) fn put_hart<const SETS: usize, const WAYS: usize, S: Sink>(
+    sink: &mut S,
+    names: &Symbols<'_>,
+    machine: &Machine<SETS, WAYS>,
+    hart: HartId,
+) -> Result<(), SinkFault>
+    requires { hart < (setting_of machine.now).count }
+    ensures { Puts (S.state sink.old) (S.state sink.new) (spec.hart_text names.now SETS machine.now hart) result }
 {
     let (regs, pc, status) = machine.regs(hart).unwrap();
-    put_parts(sink, machine, hart, &regs, pc, status)
+    put_parts(sink, names, machine, hart, &regs, pc, status)
 }
 
 /// Puts a hart with these registers, this pc and this status.
 fn put_parts<const SETS: usize, const WAYS: usize, S: Sink>(
     sink: &mut S,
+    names: &Symbols<'_>,
     machine: &Machine<SETS, WAYS>,
     hart: HartId,
     regs: &Regs,
     pc: Addr,
     status: Status,
 ) -> Result<(), SinkFault>
-    ensures { Puts (S.state sink.old) (S.state sink.new) (spec.parts_text SETS machine.now hart regs.now pc status) result }
+    ensures { Puts (S.state sink.old) (S.state sink.new) (spec.parts_text names.now SETS machine.now hart regs.now pc status) result }
 {
     put_progress(sink, hart, pc, status, machine.text().word(pc))?;
+    put_name(sink, names.label(pc).as_bytes())?;
     put_waits(sink, machine.waits_for(hart))?;
     put_transaction(sink, machine.tx(hart))?;
     put_registers(sink, regs)?;

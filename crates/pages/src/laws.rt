@@ -1,5 +1,6 @@
 //! That the lines of a page tell all that changes.
-ghost use Rattle.std.specs.Prelude.{ℕ, ◌≡◌, ◌<◌, ◌≤◌, Option, Some, IsSome};
+ghost use Rattle.std.specs.Prelude.{ℕ, List, true, ◌≡◌, ◌<◌, ◌≤◌, Option, Some, IsSome};
+ghost use Rattle.std.specs.List.{list_all};
 ghost use Rattle.words.specs.declared.entry.Entry.{Entry};
 ghost use Rattle.words.specs.declared.entry.Step.{Step};
 ghost use Rattle.flat.specs.State.{Flat};
@@ -9,9 +10,10 @@ ghost use Rattle.directory.specs.Blocks.{kept_at};
 ghost use Rattle.isolation.specs.Belongs.{Belongs};
 ghost use Rattle.machine.specs.States.{State, setting_of, shown};
 ghost use Rattle.schedule.specs.Runs.{Makes};
+ghost use Rattle.pages.specs.Names.{is_spelling, quoted};
 ghost use Rattle.pages.specs.Told.{ChangesWhatIsTold};
 
-/// What the line of a moment doesn't tell is as it was before. (No more messages were sent before than a u64 counts.)
+/// What the line of a moment doesn't tell is as it was before, and the ways of lines follow from what is told. (No more messages were sent before than a u64 counts.)
 pub fn what_is_not_told_stays()
     ensures { (g : Geometry) (v w : State) (step : Step) (e : Option Entry) → v.sent ≤ 18446744073709551615 → Makes g v (Some step) e w → ChangesWhatIsTold g.sets v step w }
 {}
@@ -23,3 +25,9 @@ pub fn all_lines_are_told()
 {
     isolation::lines_agree();
 }
+
+/// A name's text in a page has letters, digits, spaces, plus signs, dots, low lines and backslashes alone, whatever bytes the name has. So no name ends the
+/// string of JavaScript that it stands in, and none is markup.
+pub fn names_are_no_markup()
+    ensures { (name : List ℕ) → list_all is_spelling (quoted name) ≡ true }
+{}

@@ -4,14 +4,14 @@ ghost use Rattle.texts.specs.Puts.{Puts};
 ghost use Rattle.machine.specs.States.{geometry};
 ghost use Rattle.schedule.specs.Courses.{IsUnbegun, course, forgotten};
 ghost use Rattle.schedule.specs.declared.halt.Halt.TheVariants.{Untold};
-ghost use Rattle.disassembler.specs.Tables.{no_symbols};
 ghost use Rattle.pages.specs.Moments.{moments_text};
 ghost use Rattle.pages.specs.Pages as spec;
 ghost use Rattle.pages.specs.Pages.{IsPaged, IsPagedInPart};
 
 use crate::form::{head, tail};
+use crate::harts::put_harts;
 use crate::memory::put_addresses;
-use crate::moments::put_moment;
+use crate::moments::{put_moment, put_rest};
 use disassembler::Symbols;
 use itoa::Buffer;
 use machine::{Machine, Progress};
@@ -24,6 +24,7 @@ use words::{Addr, Entry, Sink, SinkFault, Step};
 /// Puts the moments of a run into a sink, with these names, and these words with each.
 #[derive(Drop)]
 struct Teller<'n, 'f, 'a> {
+    alloc: Global,
     names: &'n Symbols<'f>,
     words: &'a [Addr],
 }
@@ -44,7 +45,7 @@ impl<'n, 'f, 'a, const SETS: usize, const WAYS: usize, S: Sink> Observer<SETS, W
         sink: &mut S,
     ) -> Result<(), Unseen> {
         match put_moment(
-            sink, self.names, self.words, sent, step, arrival, entry, machine,
+            self.alloc, sink, self.names, self.words, sent, step, arrival, entry, machine,
         ) {
             Ok(()) => Ok(()),
             Err(_) => Err(Unseen),
@@ -52,17 +53,34 @@ impl<'n, 'f, 'a, const SETS: usize, const WAYS: usize, S: Sink> Observer<SETS, W
     }
 }
 
-/// Puts what comes before the moments of so many harts.
+/// Puts what comes before the moments of a run from this machine.
 fn put_opening<const SETS: usize, const WAYS: usize, S: Sink>(
     sink: &mut S,
-    harts: usize,
+    names: &Symbols<'_>,
+    machine: &Machine<SETS, WAYS>,
     words: &[Addr],
 ) -> Result<(), SinkFault>
-    ensures { Puts (S.state sink.old) (S.state sink.new) (spec.opening (geometry SETS WAYS) harts words.now) result }
+    ensures { Puts (S.state sink.old) (S.state sink.new) (spec.opening names.now (geometry SETS WAYS) machine.now words.now) result }
 {
-    put_sizes(sink, SETS, WAYS, harts)?;
+    put_sizes(sink, SETS, WAYS, machine.harts())?;
     put_addresses(sink, words)?;
-    put_all(sink, &[b"],moments:[\n"])
+    put_first(sink, names, machine, words)
+}
+
+/// Puts the machine before the first step: its harts, the messages in flight, with their texts, and the words.
+fn put_first<const SETS: usize, const WAYS: usize, S: Sink>(
+    sink: &mut S,
+    names: &Symbols<'_>,
+    machine: &Machine<SETS, WAYS>,
+    words: &[Addr],
+) -> Result<(), SinkFault>
+    ensures { Puts (S.state sink.old) (S.state sink.new) (spec.first_text names.now SETS words.now machine.now) result }
+{
+    put_all(sink, &[b"],first:{harts:["])?;
+    put_harts(sink, names, machine)?;
+    put_all(sink, &[b"],"])?;
+    put_rest(sink, words, 0, machine)?;
+    put_all(sink, &[b"moments:[\n"])
 }
 
 /// Puts the head of the page, how large the caches are, and how many harts there are.
@@ -88,12 +106,13 @@ fn put_sizes<S: Sink>(sink: &mut S, sets: usize, ways: usize, harts: usize) -> R
 }
 
 /// The choices in order, so many at most, and behind the last of them the steps that a chooser gives, as [`schedule::run`] makes them. Each moment is
-/// put before the next step, with these words. Progress is told on the way. The page has no names of the program's: they would stand in its script as they are.
+/// put before the next step, with these words, and with these names. Progress is told on the way.
 ///
 /// If memory runs out, the machine is left where the steps before led, and their moments were put, with no end of the page. If a put fails,
 /// the steps of all moments up to it were made, and a beginning of their page was taken.
 pub fn put_page<const SETS: usize, const WAYS: usize, C: Chooser<SETS, WAYS>, S: Sink, P: Progress>(
     alloc: Global,
+    names: &Symbols<'_>,
     machine: &mut Machine<SETS, WAYS>,
     choices: &[Choice],
     steps: u32,
@@ -104,15 +123,14 @@ pub fn put_page<const SETS: usize, const WAYS: usize, C: Chooser<SETS, WAYS>, S:
 ) -> Result<(), Halt>
     requires { IsUnbegun (C.behind chooser.old) }
     ensures { MatchResult result
-        (λ _. IsPaged no_symbols (geometry SETS WAYS) words.now (course choices.now (C.behind chooser.new)) steps machine.old machine.new (S.state sink.old) (S.state sink.new))
-        (IsPagedInPart no_symbols (geometry SETS WAYS) words.now (course choices.now (forgotten (C.behind chooser.new))) steps machine.old machine.new
+        (λ _. IsPaged names.now (geometry SETS WAYS) words.now (course choices.now (C.behind chooser.new)) steps machine.old machine.new (S.state sink.old) (S.state sink.new))
+        (IsPagedInPart names.now (geometry SETS WAYS) words.now (course choices.now (forgotten (C.behind chooser.new))) steps machine.old machine.new
         (S.state sink.old) (S.state sink.new)) }
 {
-    let harts = machine.harts();
-    put_or_halt(put_opening::<SETS, WAYS, S>(sink, harts, words))?;
-    let names = Symbols::none(alloc);
+    put_or_halt(put_opening(sink, names, machine, words))?;
     let teller = Teller {
-        names: &names,
+        alloc,
+        names,
         words,
     };
     run(machine, choices, steps, chooser, &teller, sink, progress)?;

@@ -8,6 +8,7 @@ use Rattle.command_line.specs.declared.request.Run.{Run}
 use Rattle.command_line.specs.Runs.{shown}
 use Rattle.disassembler.specs.Tables.{Table}
 use Rattle.protocol.specs.Caches.{Geometry}
+use Rattle.machine.specs.States.{State}
 use Rattle.schedule.specs.declared.choices.Choice.{Choice}
 use Rattle.schedule.specs.Courses.{Chance}
 use Rattle.schedule.specs.Moments.{Moment}
@@ -23,10 +24,10 @@ use Rattle.simulate.specs.declared.fault.Fault.{Fault}
 use Rattle.simulate.specs.declared.fault.Fault.TheVariants.{Unmade}
 
 -- nothing is shown in a file
-by_print : (names : Table) (p : Print) (g : Geometry) (words : List ℕ) (harts : ℕ) (ms : List Moment) (report : List ℕ) → (shown_texts names (shown p) g words harts ms report).file ≡ []
-by_print names print.Report g words harts ms report = refl
-by_print names (print.Counts stats) g words harts ms report = refl
-by_print names print.Trace g words harts ms report = refl
+by_print : (names : Table) (p : Print) (g : Geometry) (words : List ℕ) (first : State) (ms : List Moment) (report : List ℕ) → (shown_texts names (shown p) g words first ms report).file ≡ []
+by_print names print.Report g words first ms report = refl
+by_print names (print.Counts stats) g words first ms report = refl
+by_print names print.Trace g words first ms report = refl
 
 module _ (g : Geometry) (run : Run) (p : Print) (path : Bor (List ℕ)) (file list : List ℕ) (chosen choices : List Choice) (are : AreChosenBy list choices) (before middle : Sinks) (status : ℕ)
     (given : IsGiven g run (Chance (Some chosen)) (shown p) file list before middle status) (page : SinkState) where
@@ -42,7 +43,7 @@ module _ (g : Geometry) (run : Run) (p : Print) (path : Bor (List ℕ)) (file li
   none_yet : TookAll before.file middle.file []
   none_yet =
       let of : AreTextsOf g run (Chance (Some chosen)) (shown p) file list texts status = given.1.1 in
-      let none : texts.file ≡ [] = ap (λ (t : Texts). t.file) of.3.2 ∙ by_print (names_in run.setup.file.now file) p g (addresses run.words.items) of.1.setting.count of.0 of.3.0 in
+      let none : texts.file ≡ [] = ap (λ (t : Texts). t.file) of.3.2 ∙ by_print (names_in run.setup.file.now file) p g (addresses run.words.items) of.2.first of.0 of.3.0 in
       subst (λ (l : List ℕ). TookAll before.file middle.file l) none given.1.2.file
 
   of_history : IsOfHistory g run p path file list before after texts status history

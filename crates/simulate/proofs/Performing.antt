@@ -1,5 +1,5 @@
 -- Where a run has come to, from what its parts answered.
-use Rattle.std.proofs.Common.{◌≡◌, ℕ, List, [], ap, sym, subst, ◌∙◌}
+use Rattle.std.proofs.Common.{◌≡◌, ℕ, List, [], refl, ap, sym, subst, ◌∙◌}
 use Rattle.protocol.specs.Caches.{Geometry}
 use Rattle.table.specs.Program.{AreBytes}
 use Rattle.flat.specs.State.{Flat}
@@ -29,6 +29,7 @@ same_setting g f m b = (inv_of g f (shown g.sets m) b).1.same
 pub record HasEnd (g : Geometry) (run : Run) (b : Behind) (file list : List ℕ) (steps : ℕ) (moments : List Moment) (v w : State) : Type 0 where
   pub end : Flat
   pub comes : ComesBy g run.setup b file list steps moments end
+  pub first : comes.first ≡ v
   pub belongs : Belongs g end (shown g.sets w)
   pub same : end.setting ≡ setting_of v
 
@@ -44,6 +45,7 @@ module _ (g : Geometry) (run : Run) (b : Behind) (file list : List ℕ) (v : Sta
       record {
         end = carried.0;
         comes = record { program = start.program; holds = start.holds; first = v; begins = start.first; choices = choices; chosen = begun.chosen; last = w; made = as_chosen.0; run = carried.1; reasons = carried.2 };
+        first = refl;
         belongs = carried.3.0;
         same = run_setting booting carried.0 (entries_of moments) carried.1 ∙ same_setting g booting v start.belongs;
       }

@@ -6,9 +6,9 @@ use Rattle.words.specs.Sinks.{SinkState, TookAll, TookPart}
 use Rattle.command_line.specs.declared.request.Show.TheVariants as shows
 use Rattle.command_line.specs.declared.request.View.{View}
 use Rattle.command_line.specs.declared.request.View.TheVariants.{Trace, Timeline, Picture, Page}
-use Rattle.disassembler.specs.Tables.{Table, no_symbols}
+use Rattle.disassembler.specs.Tables.{Table}
 use Rattle.protocol.specs.Caches.{Geometry}
-use Rattle.machine.specs.States.{State, setting_of}
+use Rattle.machine.specs.States.{State}
 use Rattle.schedule.specs.Courses.{Course}
 use Rattle.schedule.specs.declared.halt.Halt.{Halt}
 use Rattle.schedule.specs.declared.halt.Halt.TheVariants as halt
@@ -62,7 +62,7 @@ module _ (names : Table) (g : Geometry) (words : List ℕ) (on : Course) (n : �
     -- a view in a file
     pub shown_view : (view : View) (path : Bor (List ℕ)) (counts : Tally) (output : SinkState) → IsViewed names view g words on n v w a b
         → IsShown names (shows.View view path) g words on n v w counts (record { output = output; file = a }) (record { output = output; file = b })
-    shown_view view path counts output (ms, plays, took) = (ms, plays, tt, into_file a b output (view_text names view g words (setting_of v).count ms) took)
+    shown_view view path counts output (ms, plays, took) = (ms, plays, tt, into_file a b output (view_text names view g words v ms) took)
 
     pub cut_view : (view : View) (path : Bor (List ℕ)) (output : SinkState) (fault : Fault) → IsViewFault names view g words on n v w a b path fault
         → IsCutShort names (shows.View view path) g words on n v w (record { output = output; file = a }) (record { output = output; file = b }) fault
@@ -89,7 +89,7 @@ module _ (names : Table) (g : Geometry) (words : List ℕ) (on early : Course) (
   as_picture (Err halt.NoMemory) ((m, less, ms, plays), same) = (m, less, (ms, plays, subst (λ (s : SinkState). TookAll a s []) (sym same) (took-nothing a)))
   as_picture (Err halt.Untold) (ms, plays, took) = let all : n ≤ n = omega arith in (n, all, (ms, plays, took))
 
-  pub as_page : (r : Result Unit Halt) → MatchResult r (λ _. IsPaged no_symbols g words on n v w a b) (IsPagedInPart no_symbols g words early n v w a b)
+  pub as_page : (r : Result Unit Halt) → MatchResult r (λ _. IsPaged names g words on n v w a b) (IsPagedInPart names g words early n v w a b)
       → MatchResult r (λ _. IsViewed names Page g words on n v w a b) (IsViewCut names Page g words early n v w a b)
   as_page (Ok _) (ms, plays, took) = (ms, plays, took)
   as_page (Err halt.NoMemory) (m, less, ms, plays, took) = (m, less, (ms, plays, took))
@@ -99,12 +99,12 @@ module _ (names : Table) (g : Geometry) (words : List ℕ) (on early : Course) (
 module _ (names : Table) (view : View) (g : Geometry) (words : List ℕ) (on : Course) (n : ℕ) (v w : State) (a b c : SinkState) where
   pub flushed : IsViewed names view g words on n v w a b → Puts b c [] (Ok tt) → IsViewed names view g words on n v w a c
   flushed (ms, plays, took) out =
-      let text : List ℕ = view_text names view g words (setting_of v).count ms in
+      let text : List ℕ = view_text names view g words v ms in
       (ms, plays, subst (λ (l : List ℕ). TookAll a c l) (append-nil text) (took-both a b c text [] took (record { whole = out.whole; clean = out.clean })))
 
   pub unflushed : (early : Course) (e : SinkFault) (path : Bor (List ℕ)) → ((ms : List Moment) → Plays g on n v ms w → Plays g early n v ms w) → IsViewed names view g words on n v w a b → Puts b c [] (Err e)
       → IsViewFault names view g words early n v w a c path (Unmade path)
   unflushed early e path still (ms, plays, took) out =
-      let text : List ℕ = view_text names view g words (setting_of v).count ms in
+      let text : List ℕ = view_text names view g words v ms in
       let all : n ≤ n = omega arith in
       inr (refl, (n, all, (ms, still ms plays, subst (λ (l : List ℕ). TookPart a c l) (append-nil text) (took-then-part a b c text [] took (record { part = out.part; fault = out.fault })))))

@@ -69,6 +69,11 @@ forget_comes g setup (Chance (Some chosen)) file list steps ms f comes = record 
   reasons = comes.reasons;
 }
 
+forget_first : (g : Geometry) (setup : Setup) (b : Behind) (file list : List ℕ) (steps : ℕ) (ms : List Moment) (f : Flat) (comes : ComesBy g setup b file list steps ms f) → (forget_comes g setup b file list steps ms f comes).first ≡ comes.first
+forget_first g setup Turns file list steps ms f comes = refl
+forget_first g setup (Chance None) file list steps ms f comes = refl
+forget_first g setup (Chance (Some chosen)) file list steps ms f comes = refl
+
 module _ (g : Geometry) (run : Run) (b : Behind) (show : Show) (file list : List ℕ) (v w : State) (addrs : List ℕ) (choices followed : List Choice) (begun : IsBegunBy g run file list v addrs choices) (same : followed ≡ choices) where
   ends : (c : Behind) (steps : ℕ) (ms : List Moment) → Plays g (course followed c) steps v ms w → HasEnd g run c file list steps ms v w
   ends c steps ms plays = end_of g run c file list v addrs choices followed begun same steps ms w plays
@@ -82,16 +87,16 @@ module _ (g : Geometry) (run : Run) (b : Behind) (show : Show) (file list : List
     pub cut_short : (before after : Sinks) (fault : Fault) → IsCutShort (names_in run.setup.file.now file) show g watched (course followed b) run.steps v w before after fault → IsNotGiven g run b show file list before after fault
     cut_short before after fault (inl (is, (m, less, (ms, plays, took)))) =
         let e = ends b m ms plays in
-        let all = subst (λ (words : List ℕ). TakeAll before after (shown_so_far (names_in run.setup.file.now file) show g words (setting_of v).count ms)) asked_words took in
-        inr (inl (is, (m, less, (ms, e.end, e.comes, subst (λ (s : Setting). TakeAll before after (shown_so_far (names_in run.setup.file.now file) show g (addresses run.words.items) s.count ms)) (sym e.same) all))))
+        let all = subst (λ (words : List ℕ). TakeAll before after (shown_so_far (names_in run.setup.file.now file) show g words v ms)) asked_words took in
+        inr (inl (is, (m, less, (ms, e.end, e.comes, subst (λ (s : State). TakeAll before after (shown_so_far (names_in run.setup.file.now file) show g (addresses run.words.items) s ms)) (sym e.first) all))))
     cut_short before after fault (inr (inl (is, trace, (m, within, (ms, plays, part, kept))))) =
         let e = ends b m ms plays in
-        let some = subst (λ (words : List ℕ). TookPart before.output after.output (shown_before (names_in run.setup.file.now file) show g words (setting_of v).count ms).output) asked_words part in
-        inr (inr (inl (is, trace, (m, within, (ms, e.end, e.comes, subst (λ (s : Setting). TookPart before.output after.output (shown_before (names_in run.setup.file.now file) show g (addresses run.words.items) s.count ms).output) (sym e.same) some, kept)))))
+        let some = subst (λ (words : List ℕ). TookPart before.output after.output (shown_before (names_in run.setup.file.now file) show g words v ms).output) asked_words part in
+        inr (inr (inl (is, trace, (m, within, (ms, e.end, e.comes, subst (λ (s : State). TookPart before.output after.output (shown_before (names_in run.setup.file.now file) show g (addresses run.words.items) s ms).output) (sym e.first) some, kept)))))
     cut_short before after fault (inr (inr (view, path, of, is, (m, within, (ms, plays, part, kept))))) =
         let e = ends b m ms plays in
-        let some = subst (λ (words : List ℕ). TookPart before.file after.file (shown_before (names_in run.setup.file.now file) show g words (setting_of v).count ms).file) asked_words part in
-        inr (inr (inr (inl (view, path, of, is, (m, within, (ms, e.end, e.comes, subst (λ (s : Setting). TookPart before.file after.file (shown_before (names_in run.setup.file.now file) show g (addresses run.words.items) s.count ms).file) (sym e.same) some, kept))))))
+        let some = subst (λ (words : List ℕ). TookPart before.file after.file (shown_before (names_in run.setup.file.now file) show g words v ms).file) asked_words part in
+        inr (inr (inr (inl (view, path, of, is, (m, within, (ms, e.end, e.comes, subst (λ (s : State). TookPart before.file after.file (shown_before (names_in run.setup.file.now file) show g (addresses run.words.items) s ms).file) (sym e.first) some, kept))))))
 
   module _ (watched : List ℕ) (as_begun : watched ≡ addrs) (words : List ℕ) (as_given : words ≡ addrs) (counts : Tally) (before middle : Sinks)
       (shown_all : IsShown (names_in run.setup.file.now file) show g watched (course followed b) run.steps v w counts before middle) where
@@ -106,31 +111,34 @@ module _ (g : Geometry) (run : Run) (b : Behind) (show : Show) (file list : List
     readable_then = still_readable g run b file list v addrs choices followed begun same words as_given ms w e
 
     abbrev pre : Texts
-    pre = shown_before (names_in run.setup.file.now file) show g (addresses run.words.items) e.end.setting.count ms
+    pre = shown_before (names_in run.setup.file.now file) show g (addresses run.words.items) e.comes.first ms
 
     taken : TakeAll before middle pre
     taken =
-        let all = subst (λ (l : List ℕ). TakeAll before middle (shown_before (names_in run.setup.file.now file) show g l (setting_of v).count ms)) (asked_words watched as_begun) shown_all.3 in
-        subst (λ (s : Setting). TakeAll before middle (shown_before (names_in run.setup.file.now file) show g (addresses run.words.items) s.count ms)) (sym e.same) all
+        let all = subst (λ (l : List ℕ). TakeAll before middle (shown_before (names_in run.setup.file.now file) show g l v ms)) (asked_words watched as_begun) shown_all.3 in
+        subst (λ (s : State). TakeAll before middle (shown_before (names_in run.setup.file.now file) show g (addresses run.words.items) s ms)) (sym e.first) all
 
     abbrev report : List ℕ
     report = report_of e.end words
 
     abbrev whole : Texts
-    whole = shown_texts (names_in run.setup.file.now file) show g (addresses run.words.items) e.end.setting.count ms report
+    whole = shown_texts (names_in run.setup.file.now file) show g (addresses run.words.items) e.comes.first ms report
 
     texts : (status : ℕ) → IsStatusOf e.end status → AreTextsOf g run b show file list whole status
     texts status of = (ms, e.end, e.comes, (report, its_report g run b file list v addrs choices followed begun same words as_given ms w e status of, refl))
 
     early_texts : (status : ℕ) → AreTextsOf g run b show file list whole status → AreTextsOf g run (forgotten b) show file list whole status
-    early_texts status (ns, f, comes, rest) = (ns, f, forget_comes g run.setup b file list run.steps ns f comes, rest)
+    early_texts status (ns, f, comes, (text, is_report, same_text)) =
+        let first = forget_first g run.setup b file list run.steps ns f comes in
+        (ns, f, forget_comes g run.setup b file list run.steps ns f comes, (text, is_report,
+        subst (λ (s : State). whole ≡ shown_texts (names_in run.setup.file.now file) show g (addresses run.words.items) s ns text) (sym first) same_text))
 
     -- a put of the report failed
     pub half_reported : (output : SinkState) (fault : Fault) → IsHalfConcluded g w words middle.output output fault
         → IsNotGiven g run (forgotten b) show file list before (record { output = output; file = middle.file }) fault
     half_reported output fault (unwritten, of) =
         let half = of e.end e.belongs in
-        let behind = behind_report show g.sets e.end.setting.count ms in
+        let behind = behind_report show g.sets (setting_of e.comes.first).count ms in
         let part = took-then-part before.output middle.output output pre.output (report ++ behind) taken.output (took-part-longer middle.output output report behind half.2) in
         inr (inr (inr (inr (unwritten, (whole, half.0, early_texts half.0 (texts half.0 half.1), part, taken.file)))))
 
@@ -138,14 +146,15 @@ module _ (g : Geometry) (run : Run) (b : Behind) (show : Show) (file list : List
       abbrev of_end : IsStatusOf e.end status × TookAll middle.output reported report
       of_end = concluded.1 e.end e.belongs
 
-      behind_as : counts_part show counts harts ≡ behind_report show g.sets e.end.setting.count ms
-      behind_as = put_as show g.sets ms counts harts e.end.setting.count shown_all.2 (count ∙ ap (λ (s : Setting). s.count) (sym (same_setting g e.end w e.belongs)))
+      behind_as : counts_part show counts harts ≡ behind_report show g.sets (setting_of e.comes.first).count ms
+      behind_as = put_as show g.sets ms counts harts (setting_of e.comes.first).count shown_all.2
+          (count ∙ ap (λ (s : Setting). s.count) (sym (same_setting g e.end w e.belongs) ∙ e.same) ∙ ap (λ (s : State). (setting_of s).count) (sym e.first))
 
       -- all was put
       pub given : (output : SinkState) → Puts reported output (counts_part show counts harts) (Ok tt)
           → IsGiven g run b show file list before (record { output = output; file = middle.file }) status
       given output puts =
-          let behind = behind_report show g.sets e.end.setting.count ms in
+          let behind = behind_report show g.sets (setting_of e.comes.first).count ms in
           let last : TookAll reported output behind = subst (λ (text : List ℕ). TookAll reported output text) behind_as (record { whole = puts.whole; clean = puts.clean }) in
           let all = took-both before.output middle.output output pre.output (report ++ behind) taken.output (took-both middle.output reported output report behind of_end.1 last) in
           (concluded.0, (whole, texts status of_end.0, record { output = all; file = taken.file }))
@@ -154,7 +163,7 @@ module _ (g : Geometry) (run : Run) (b : Behind) (show : Show) (file list : List
       pub half_counted : (output : SinkState) (e' : SinkFault) → Puts reported output (counts_part show counts harts) (Err e')
           → IsNotGiven g run (forgotten b) show file list before (record { output = output; file = middle.file }) Unwritten
       half_counted output e' puts =
-          let behind = behind_report show g.sets e.end.setting.count ms in
+          let behind = behind_report show g.sets (setting_of e.comes.first).count ms in
           let last : TookPart reported output behind = subst (λ (text : List ℕ). TookPart reported output text) behind_as (record { part = puts.part; fault = puts.fault }) in
           let part = took-then-part before.output middle.output output pre.output (report ++ behind) taken.output (took-then-part middle.output reported output report behind of_end.1 last) in
           inr (inr (inr (inr (refl, (whole, status, early_texts status (texts status of_end.0), part, taken.file)))))

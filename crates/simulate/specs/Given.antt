@@ -25,8 +25,8 @@ module _ (g : Geometry) (run : Run) (behind : Behind) (show : Show) (file list :
 
   -- the texts are all that is shown of the run, with the report on the state that its steps lead to; and the status goes with it
   abbrev pub AreTextsOf : Texts → ℕ → Type 0
-  AreTextsOf texts status = (ms : List Moment) × (f : Flat) × Comes run.steps ms f
-      × ((report : List ℕ) × IsReport f run.words.items report status × (texts ≡ shown_texts (names_in run.setup.file.now file) show g (addresses run.words.items) f.setting.count ms report))
+  AreTextsOf texts status = (ms : List Moment) × (f : Flat) × (comes : Comes run.steps ms f)
+      × ((report : List ℕ) × IsReport f run.words.items report status × (texts ≡ shown_texts (names_in run.setup.file.now file) show g (addresses run.words.items) comes.first ms report))
 
   module _ (before after : Sinks) where
     -- all texts of the run were taken
@@ -35,16 +35,16 @@ module _ (g : Geometry) (run : Run) (behind : Behind) (show : Show) (file list :
 
     -- memory ran out behind some steps, and all that can be shown of them was taken
     abbrev pub IsStopped : Type 0
-    IsStopped = (m : ℕ) × (m < run.steps) × ((ms : List Moment) × (f : Flat) × Comes m ms f × TakeAll before after (shown_so_far (names_in run.setup.file.now file) show g (addresses run.words.items) f.setting.count ms))
+    IsStopped = (m : ℕ) × (m < run.steps) × ((ms : List Moment) × (f : Flat) × (comes : Comes m ms f) × TakeAll before after (shown_so_far (names_in run.setup.file.now file) show g (addresses run.words.items) comes.first ms))
 
     -- a put failed while steps were made: a beginning of what is shown of them was taken by standard output, or by the file
     abbrev pub IsOutputCut : Type 0
-    IsOutputCut = (m : ℕ) × (m ≤ run.steps) × ((ms : List Moment) × (f : Flat) × Comes m ms f
-        × TookPart before.output after.output (shown_before (names_in run.setup.file.now file) show g (addresses run.words.items) f.setting.count ms).output × IsUntouched before.file after.file)
+    IsOutputCut = (m : ℕ) × (m ≤ run.steps) × ((ms : List Moment) × (f : Flat) × (comes : Comes m ms f)
+        × TookPart before.output after.output (shown_before (names_in run.setup.file.now file) show g (addresses run.words.items) comes.first ms).output × IsUntouched before.file after.file)
 
     abbrev pub IsFileCut : Type 0
-    IsFileCut = (m : ℕ) × (m ≤ run.steps) × ((ms : List Moment) × (f : Flat) × Comes m ms f
-        × TookPart before.file after.file (shown_before (names_in run.setup.file.now file) show g (addresses run.words.items) f.setting.count ms).file × IsUntouched before.output after.output)
+    IsFileCut = (m : ℕ) × (m ≤ run.steps) × ((ms : List Moment) × (f : Flat) × (comes : Comes m ms f)
+        × TookPart before.file after.file (shown_before (names_in run.setup.file.now file) show g (addresses run.words.items) comes.first ms).file × IsUntouched before.output after.output)
 
     -- a put of the report, or of what stands behind it, failed
     abbrev pub IsReportCut : Type 0

@@ -189,6 +189,7 @@ fn put_form<const SETS: usize, const WAYS: usize, C: Chooser<SETS, WAYS>, P: Pro
         View::Picture => put_picture(alloc, machine, choices, steps, chooser, &mut chart.sink),
         View::Page => put_page(
             alloc,
+            names,
             machine,
             choices,
             steps,

@@ -1,6 +1,7 @@
 //! The page of a program that stores 7 to 0x2000 in a transaction, and exits: the store misses, and its hart asks the directory for the block.
 use super::booted::booted;
 use super::refusing::Refusing;
+use disassembler::Symbols;
 use machine::Silent;
 use pages::put_page;
 use reference::COMMITS;
@@ -10,9 +11,10 @@ use std::process::Abort;
 use std::str;
 use words::{Addr, Sink, Taken};
 
-/// The hart begins its transaction and has 7 in a register; its store asks for the block; the request, the grant and the hart's answer arrive; and the store
+/// Before the first step the hart has its number, the number of harts and its stack. It begins its transaction and has 7 in a register; its store asks for the block; the request, the grant and the hart's answer arrive; and the store
 /// is made, with a record of the block.
-const LINES: &str = r#"sets:16,ways:4,harts:1,addresses:["00002000",],moments:[
+const LINES: &str = r#"sets:16,ways:4,harts:1,addresses:["00002000",],first:{harts:[{id:0,pc:"00001000",status:"running",next:"tbegin 20",regs:[0,0,126976,0,0,0,0,0,0,0,0,1,0,0,0,0,0,0,0,0,0,0,0,0,0,0,0,0,0,0,0,0,],lines:[]},],flights:[],words:["00000000","00000000",]},
+moments:[
 {entry:`0 0x00001000 00000a0b tbegin 20
 `,step:"core",hart:{id:0,pc:"00001004",status:"running",next:"lui t0, 0x2",tx:{depth:1,records:0,stamp:"0.0",overflow:false,cycle:false,aborting:false},regs:[0,0,126976,0,0,0,0,0,0,0,0,1,0,0,0,0,0,0,0,0,0,0,0,0,0,0,0,0,0,0,0,0,],lines:[]},flights:[],words:["00000000","00000000",]},
 {entry:`0 0x00001004 000022b7 lui t0, 0x2 | t0=0x00002000
@@ -42,6 +44,7 @@ fn paged<S: Sink>(
     let words = [Addr::new(0x2000)];
     put_page(
         rt.alloc(),
+        &Symbols::none(rt.alloc()),
         &mut machine,
         &[],
         steps,
