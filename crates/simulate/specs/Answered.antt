@@ -1,25 +1,18 @@
 -- What comes of the words of a command line: what is read and made of files, put into standard output and told, and the status.
-use Rattle.std.specs.Prelude.{ℕ, ◌≡◌, ◌<◌, ◌≤◌, ◌+◌, ◌⊎◌, List, [], length, Option, Some, None}
-use Rattle.std.specs.Borrow.{Bor}
+use Rattle.std.specs.Prelude.{ℕ, ◌≡◌, ◌⊎◌, List, [], Option}
 use Rattle.words.specs.Sinks.{IsPut, SinkState, TookAll, TookPart}
 use Rattle.command_line.specs.Reading.{IsRequestOf, IsFaultOf}
 use Rattle.command_line.specs.declared.fault.OrderFault.{OrderFault}
 use Rattle.command_line.specs.declared.request.Request.{Request}
-use Rattle.command_line.specs.declared.request.Request.TheVariants as request
-use Rattle.command_line.specs.declared.request.Show.{Show}
-use Rattle.command_line.specs.declared.request.Show.TheVariants.{View}
-use Rattle.command_line.specs.declared.request.Way.{Way}
-use Rattle.command_line.specs.declared.request.Way.TheVariants as way
-use Rattle.command_line.specs.declared.request.Witness.{Witness}
 use Rattle.debugger.specs.Plays.{Giving}
 use Rattle.render.specs.Statuses.{IsReported}
 use Rattle.simulate.specs.Carried.{IsCarriedOut}
 use Rattle.requests.specs.Faults.{fault_status, fault_text, of_order}
+use Rattle.requests.specs.NamedFiles.{file_of, schedule_of, page_of, IsReadAt, IsUnreadAt, IsReadIf, IsUnreadIf, IsUnbegunIf, IsSheetFor, IsClosed, IsImageMade, IsImageUnmade}
 use Rattle.requests.specs.Sheets.{state_of}
 use Rattle.requests.specs.declared.fault.Fault.{Fault}
-use Rattle.requests.specs.declared.fault.Fault.TheVariants.{Unread, TooLong, Unmade, Unwritten, NoMemory}
+use Rattle.requests.specs.declared.fault.Fault.TheVariants.{Unwritten}
 use Rattle.requests.specs.declared.page.Sheet.{Sheet}
-use Rattle.requests.specs.declared.page.Sheet.TheVariants.{Nowhere, Made}
 
 -- what there is around the program: the files, the input, standard output, and where the user is told of faults
 pub record World (S I : Type 0) : Type 0 where

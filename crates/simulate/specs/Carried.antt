@@ -1,8 +1,7 @@
 -- What becomes of a request, given the bytes of the files that it reads.
-use Rattle.std.specs.Prelude.{ℕ, ◌≡◌, ◌⊎◌, List, Option, Some, None}
+use Rattle.std.specs.Prelude.{ℕ, ◌≡◌, ◌⊎◌, List, Option, None}
 use Rattle.words.specs.Sinks.{IsPut, IsUntouched, SinkState}
 use Rattle.std.specs.Option.{option_map_or}
-use Rattle.command_line.specs.declared.request.Cache.{Cache}
 use Rattle.command_line.specs.declared.request.Cache.TheVariants.{Small}
 use Rattle.command_line.specs.declared.request.Request.{Request}
 use Rattle.command_line.specs.declared.request.Request.TheVariants as request
@@ -13,15 +12,13 @@ use Rattle.command_line.specs.declared.request.Way.TheVariants as way
 use Rattle.debugger.specs.Plays.{Giving}
 use Rattle.protocol.specs.Caches.{Geometry}
 use Rattle.simulate.specs.Debugging.{IsPlayedByHand}
-use Rattle.requests.specs.Ends.{AreEndsGiven, AreEndsNotGiven}
 use Rattle.requests.specs.Faults.{fault_status, fault_text}
-use Rattle.requests.specs.Files.{IsListed, IsUnlisted, IsImageOf}
+use Rattle.requests.specs.FileRequests.{IsMade, IsUnmade, cache_of}
 use Rattle.schedule.specs.Courses as behind
 use Rattle.simulate.specs.Given.{IsGiven, IsNotGiven}
 use Rattle.simulate.specs.Kept.{IsGivenAndKept, IsNotGivenOrKept}
 use Rattle.simulate.specs.Orders.{geometry_of}
-use Rattle.requests.specs.Outputs.{Sinks}
-use Rattle.requests.specs.Sources.{IsSourceFault}
+use Rattle.requests.specs.Outputs.{Sinks, AreUntouched}
 use Rattle.requests.specs.Starts.{IsStartFault}
 use Rattle.simulate.specs.Threaded.{IsGivenInThreads, IsNotGivenInThreads}
 use Rattle.requests.specs.declared.fault.Fault.{Fault}

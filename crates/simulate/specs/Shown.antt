@@ -20,6 +20,7 @@ use Rattle.timeline.specs.Timelines.{begun_timeline, timeline_of}
 use Rattle.timeline.specs.Pictures.{picture_of}
 use Rattle.pages.specs.Pages.{begun_page, page_of}
 use Rattle.simulate.specs.Counted.{AreCounts, behind_report}
+use Rattle.requests.specs.Outputs.{Texts, Sinks, TakeAll}
 use Rattle.requests.specs.declared.fault.Fault.{Fault}
 use Rattle.requests.specs.declared.fault.Fault.TheVariants.{Unmade, Unwritten, NoMemory}
 
