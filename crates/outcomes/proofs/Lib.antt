@@ -19,3 +19,9 @@ mod Listed
 mod Traced
 mod Begun
 mod Found
+pub mod Members
+pub mod Ascending
+pub mod SameEnds
+pub mod Told
+pub mod KeptEnds
+pub mod Gathered

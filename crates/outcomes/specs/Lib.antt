@@ -4,3 +4,5 @@ pub mod Standings
 pub mod Turns
 pub mod Pools
 pub mod Searches
+pub mod Ends
+pub mod Found

@@ -1,4 +1,3 @@
-mod boards;
 mod booted;
 mod chances;
 mod cut;

@@ -6,10 +6,11 @@ use Rattle.command_line.specs.declared.request.Request.{Request}
 use Rattle.command_line.specs.declared.request.Request.TheVariants as request
 use Rattle.debugger.specs.Plays.{Giving}
 use Rattle.protocol.specs.Caches.{Geometry}
-use Rattle.simulate.specs.Carried.{IsDoneOn, IsNotDoneOn, IsMade, IsUnmade, cache_of}
-use Rattle.simulate.specs.Shown.{Sinks}
-use Rattle.simulate.specs.declared.carry.Outcome.{Outcome}
-use Rattle.simulate.specs.declared.fault.Fault.{Fault}
+use Rattle.requests.specs.FileRequests.{IsMade, IsUnmade, cache_of}
+use Rattle.simulate.specs.Carried.{IsDoneOn, IsNotDoneOn}
+use Rattle.requests.specs.Outputs.{Sinks}
+use Rattle.requests.specs.declared.file_requests.Outcome.{Outcome}
+use Rattle.requests.specs.declared.fault.Fault.{Fault}
 
 module _ {I : Type 0} (g : Geometry) (gives : Giving I) (file list prompt : List ℕ) (i : I) (before after : Sinks) (told : SinkState) where
   done : (asked : Request) (status : ℕ) (image : Option (List ℕ)) → cache_of asked ≡ None → IsMade file before after asked status image

@@ -16,12 +16,13 @@ use Rattle.schedule.specs.Written.{text_of}
 use Rattle.texts.proofs.Putting.{took-both, took-then-part}
 use Rattle.simulate.specs.Given.{AreTextsOf, IsGiven}
 use Rattle.simulate.specs.Kept.{IsGivenAndKept, IsNotGivenOrKept, IsOfHistory}
-use Rattle.simulate.specs.Runs.{addresses}
-use Rattle.simulate.specs.Schedules.{AreChosenBy}
-use Rattle.simulate.specs.Sources.{names_in}
-use Rattle.simulate.specs.Shown.{Sinks, Texts, shown_texts}
-use Rattle.simulate.specs.declared.fault.Fault.{Fault}
-use Rattle.simulate.specs.declared.fault.Fault.TheVariants.{Unmade}
+use Rattle.requests.specs.Runs.{addresses}
+use Rattle.requests.specs.Schedules.{AreChosenBy}
+use Rattle.requests.specs.Sources.{names_in}
+use Rattle.requests.specs.Outputs.{Sinks, Texts}
+use Rattle.simulate.specs.Shown.{shown_texts}
+use Rattle.requests.specs.declared.fault.Fault.{Fault}
+use Rattle.requests.specs.declared.fault.Fault.TheVariants.{Unmade}
 
 -- nothing is shown in a file
 by_print : (names : Table) (p : Print) (g : Geometry) (words : List ℕ) (first : State) (ms : List Moment) (report : List ℕ) → (shown_texts names (shown p) g words first ms report).file ≡ []

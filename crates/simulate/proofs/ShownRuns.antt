@@ -22,10 +22,11 @@ use Rattle.timeline.specs.Pictures.{IsPictured, IsNotPictured}
 use Rattle.pages.specs.Pages.{IsPaged, IsPagedInPart}
 use Rattle.texts.specs.Puts.{Puts}
 use Rattle.texts.proofs.Putting.{took-nothing, took-both, took-then-part}
-use Rattle.simulate.specs.Faults.{of_halt}
-use Rattle.simulate.specs.Shown.{Sinks, TakeAll, IsShown, IsCutShort, IsViewed, IsViewCut, IsViewFault, view_text}
-use Rattle.simulate.specs.declared.fault.Fault.{Fault}
-use Rattle.simulate.specs.declared.fault.Fault.TheVariants.{Unmade, NoMemory}
+use Rattle.requests.specs.Faults.{of_halt}
+use Rattle.requests.specs.Outputs.{Sinks, TakeAll}
+use Rattle.simulate.specs.Shown.{IsShown, IsCutShort, IsViewed, IsViewCut, IsViewFault, view_text}
+use Rattle.requests.specs.declared.fault.Fault.{Fault}
+use Rattle.requests.specs.declared.fault.Fault.TheVariants.{Unmade, NoMemory}
 
 -- sinks of which only one took something
 module _ (a b : SinkState) where

@@ -10,7 +10,7 @@ use Rattle.command_line.specs.declared.request.Stats.TheVariants.{Table, Csv}
 use Rattle.protocol.specs.Caches.{Geometry}
 use Rattle.flat.specs.State.{Flat, Setting}
 use Rattle.command_line.specs.declared.request.Setup.{Setup}
-use Rattle.simulate.specs.Runs.{ComesBy, addresses}
+use Rattle.requests.specs.Runs.{ComesBy, addresses}
 use Rattle.machine.specs.States.{State, setting_of}
 use Rattle.schedule.specs.declared.choices.Choice.{Choice}
 use Rattle.schedule.specs.Courses.{Behind, Turns, Chance, course, forgotten}
@@ -23,17 +23,18 @@ use Rattle.watch.specs.Runs.{IsTally}
 use Rattle.watch.proofs.SameTexts.{same_table, same_csv, same_machine_table, same_machine_lines}
 use Rattle.texts.specs.Puts.{Puts}
 use Rattle.texts.proofs.Putting.{took-both, took-then-part, took-part-longer}
-use Rattle.simulate.specs.Begins.{IsBegunBy, IsUnbegun}
-use Rattle.simulate.specs.Conclusions.{IsConcluded, IsHalfConcluded}
+use Rattle.requests.specs.Begins.{IsBegunBy, IsUnbegun}
+use Rattle.requests.specs.Conclusions.{IsConcluded, IsHalfConcluded}
 use Rattle.simulate.specs.Counted.{AreCounts, behind_report, counts_part, counts_text}
 use Rattle.simulate.specs.Given.{AreTextsOf, IsGiven, IsNotGiven}
 use Rattle.render.specs.Reports.{AllReadable, report_of}
-use Rattle.simulate.specs.Sources.{names_in}
-use Rattle.simulate.specs.Shown.{Texts, Sinks, TakeAll, IsShown, IsCutShort, shown_before, shown_so_far, shown_texts}
+use Rattle.requests.specs.Sources.{names_in}
+use Rattle.requests.specs.Outputs.{Texts, Sinks, TakeAll}
+use Rattle.simulate.specs.Shown.{IsShown, IsCutShort, shown_before, shown_so_far, shown_texts}
 use Rattle.render.specs.Statuses.{IsStatusOf}
-use Rattle.simulate.specs.declared.fault.Fault.{Fault}
-use Rattle.simulate.specs.declared.fault.Fault.TheVariants.{Unwritten}
-use Rattle.simulate.proofs.Performing.{HasEnd, end_of, its_report, same_setting, still_readable}
+use Rattle.requests.specs.declared.fault.Fault.{Fault}
+use Rattle.requests.specs.declared.fault.Fault.TheVariants.{Unwritten}
+use Rattle.requests.proofs.Performing.{HasEnd, end_of, its_report, same_setting, still_readable}
 
 -- a run that has not begun
 pub not_begun : (g : Geometry) (run : Run) (b : Behind) (show : Show) (file list : List ℕ) (sinks : Sinks) (fault : Fault) → IsUnbegun run file list fault → IsNotGiven g run b show file list sinks sinks fault

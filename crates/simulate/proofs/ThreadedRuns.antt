@@ -27,21 +27,21 @@ use Rattle.board.specs.Histories.{first_flat, Told, IsCourse, IsCourseIf, IsEnd}
 use Rattle.schedule.specs.declared.choices.Choice.{Choice}
 use Rattle.schedule.specs.Lines.{lines_of, AreSpelledBy}
 use Rattle.schedule.specs.Written.{text_of, IsWritable}
-use Rattle.simulate.specs.Conclusions.{IsConcluded, IsHalfConcluded, IsHalfPut}
+use Rattle.requests.specs.Conclusions.{IsConcluded, IsHalfConcluded, IsHalfPut}
 use Rattle.schedule.specs.Courses.{Turns}
 use Rattle.simulate.specs.Given.{AreTextsOf}
 use Rattle.render.specs.Reports.{AllReadable, report_of}
-use Rattle.simulate.specs.Runs.{addresses, ComesBy}
-use Rattle.simulate.specs.Schedules.{AreChosenBy, HasSteps}
-use Rattle.simulate.specs.Shown.{Sinks, Texts}
-use Rattle.simulate.specs.Sources.{IsProgramIn, IsProgramFault}
-use Rattle.simulate.specs.Starts.{flat_start}
+use Rattle.requests.specs.Runs.{addresses, ComesBy}
+use Rattle.requests.specs.Schedules.{AreChosenBy, HasSteps}
+use Rattle.requests.specs.Outputs.{Sinks, Texts}
+use Rattle.requests.specs.Sources.{IsProgramIn, IsProgramFault}
+use Rattle.requests.specs.Starts.{flat_start}
 use Rattle.render.specs.Statuses.{IsStatusOf}
 use Rattle.simulate.specs.Threaded.{IsReady, IsUnready, IsGivenInThreads, IsNotGivenInThreads, history_text, with_steps}
-use Rattle.simulate.specs.Unreadable.{IsFirstUnreadable, IsUnreadable}
-use Rattle.simulate.specs.declared.fault.Fault.{Fault}
-use Rattle.simulate.specs.declared.fault.Fault.TheVariants.{NoMemory, Exchanged}
-use Rattle.simulate.proofs.Performing.{same_setting}
+use Rattle.requests.specs.Unreadable.{IsFirstUnreadable, IsUnreadable}
+use Rattle.requests.specs.declared.fault.Fault.{Fault}
+use Rattle.requests.specs.declared.fault.Fault.TheVariants.{NoMemory, Exchanged}
+use Rattle.requests.proofs.Performing.{same_setting}
 
 -- ---- the program before the first turn
 

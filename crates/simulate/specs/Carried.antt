@@ -1,8 +1,7 @@
 -- What becomes of a request, given the bytes of the files that it reads.
-use Rattle.std.specs.Prelude.{ℕ, ◌≡◌, ◌⊎◌, List, Option, Some, None}
+use Rattle.std.specs.Prelude.{ℕ, ◌≡◌, ◌⊎◌, List, Option, None}
 use Rattle.words.specs.Sinks.{IsPut, IsUntouched, SinkState}
 use Rattle.std.specs.Option.{option_map_or}
-use Rattle.command_line.specs.declared.request.Cache.{Cache}
 use Rattle.command_line.specs.declared.request.Cache.TheVariants.{Small}
 use Rattle.command_line.specs.declared.request.Request.{Request}
 use Rattle.command_line.specs.declared.request.Request.TheVariants as request
@@ -13,22 +12,16 @@ use Rattle.command_line.specs.declared.request.Way.TheVariants as way
 use Rattle.debugger.specs.Plays.{Giving}
 use Rattle.protocol.specs.Caches.{Geometry}
 use Rattle.simulate.specs.Debugging.{IsPlayedByHand}
-use Rattle.simulate.specs.Ends.{AreEndsGiven, AreEndsNotGiven}
-use Rattle.simulate.specs.Faults.{fault_status, fault_text}
-use Rattle.simulate.specs.Files.{IsListed, IsUnlisted, IsImageOf}
+use Rattle.requests.specs.Faults.{fault_status, fault_text}
+use Rattle.requests.specs.FileRequests.{IsMade, IsUnmade, cache_of}
 use Rattle.schedule.specs.Courses as behind
 use Rattle.simulate.specs.Given.{IsGiven, IsNotGiven}
 use Rattle.simulate.specs.Kept.{IsGivenAndKept, IsNotGivenOrKept}
 use Rattle.simulate.specs.Orders.{geometry_of}
-use Rattle.simulate.specs.Shown.{Sinks}
-use Rattle.simulate.specs.Sources.{IsSourceFault}
-use Rattle.simulate.specs.Starts.{IsStartFault}
+use Rattle.requests.specs.Outputs.{Sinks, AreUntouched}
+use Rattle.requests.specs.Starts.{IsStartFault}
 use Rattle.simulate.specs.Threaded.{IsGivenInThreads, IsNotGivenInThreads}
-use Rattle.simulate.specs.declared.fault.Fault.{Fault}
-
--- neither standard output nor the file took anything
-abbrev pub AreUntouched : Sinks → Sinks → Type 0
-AreUntouched before after = IsUntouched before.output after.output × IsUntouched before.file after.file
+use Rattle.requests.specs.declared.fault.Fault.{Fault}
 
 -- a run gave all its texts, or it did not, for a fault
 module _ (g : Geometry) (run : Run) (file list : List ℕ) (before after : Sinks) where
@@ -43,28 +36,6 @@ module _ (g : Geometry) (run : Run) (file list : List ℕ) (before after : Sinks
   RunFails (way.Chance schedule chance show) fault = IsNotGiven g run (behind.Chance None) show file list before after fault
   RunFails (Kept schedule chance path print) fault = IsNotGivenOrKept g run print path file list before after fault
   RunFails (Threads history) fault = IsNotGivenInThreads g run history file before after fault
-
--- the cache that a request asks for, where it is carried out on a machine
-abbrev pub cache_of : Request → Option Cache
-cache_of (request.Run run) = Some run.setup.cache
-cache_of (request.Debug setup) = Some setup.cache
-cache_of (request.Outcomes asked) = None
-cache_of (request.Dis path) = None
-cache_of (request.Asm source target) = None
-
--- a request that needs no machine: what it asks for was made, with this status, and these bytes for the file that it asks for; or it was not, for a fault
-module _ (file : List ℕ) (before after : Sinks) where
-  abbrev pub IsMade : Request → ℕ → Option (List ℕ) → Type 0
-  IsMade (request.Outcomes asked) status image = AreEndsGiven asked file before after status × (image ≡ None)
-  IsMade (request.Dis path) status image = IsListed file before.output after.output status × (image ≡ None) × IsUntouched before.file after.file
-  IsMade (request.Asm source target) status image = (status ≡ 0) × ((bytes : List ℕ) × IsImageOf file bytes × (image ≡ Some bytes)) × AreUntouched before after
-  IsMade other status image = ⊥
-
-  abbrev pub IsUnmade : Request → Fault → Type 0
-  IsUnmade (request.Outcomes asked) fault = AreEndsNotGiven asked file before after fault
-  IsUnmade (request.Dis path) fault = IsUnlisted file before.output after.output fault × IsUntouched before.file after.file
-  IsUnmade (request.Asm source target) fault = IsSourceFault file fault × AreUntouched before after
-  IsUnmade other fault = ⊥
 
 -- the request was carried out, where the caches are as large as this, with this status, and these bytes for the file that it asks for
 module _ {I : Type 0} (g : Geometry) (gives : Giving I) (file list prompt : List ℕ) (i j : I) (before after : Sinks) (told_before told_after : SinkState) where

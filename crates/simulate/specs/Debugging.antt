@@ -8,9 +8,9 @@ use Rattle.debugger.specs.declared.fault.ConsoleFault.{ConsoleFault}
 use Rattle.debugger.specs.declared.fault.ConsoleFault.TheVariants.{Unreadable, Unwritten}
 use Rattle.debugger.specs.Plays.{Giving}
 use Rattle.debugger.specs.Debugging.{IsDebugged}
-use Rattle.simulate.specs.Faults.{line}
-use Rattle.simulate.specs.Sources.{names_in}
-use Rattle.simulate.specs.Starts.{IsStartOf}
+use Rattle.requests.specs.Faults.{line}
+use Rattle.requests.specs.Sources.{names_in}
+use Rattle.requests.specs.Starts.{IsStartOf}
 
 -- what the user is told where a line could not be read, or a text not be put
 abbrev pub end_text : ConsoleFault → List ℕ

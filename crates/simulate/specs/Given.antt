@@ -10,13 +10,14 @@ use Rattle.command_line.specs.declared.request.Show.TheVariants as shows
 use Rattle.command_line.specs.declared.request.View.{View}
 use Rattle.schedule.specs.Courses.{Behind}
 use Rattle.schedule.specs.Moments.{Moment}
-use Rattle.simulate.specs.Begins.{IsUnbegun}
-use Rattle.simulate.specs.Runs.{ComesBy, IsReport, addresses}
-use Rattle.simulate.specs.Sources.{names_in}
-use Rattle.simulate.specs.Shown.{Texts, Sinks, TakeAll, shown_before, shown_so_far, shown_texts}
+use Rattle.requests.specs.Begins.{IsUnbegun}
+use Rattle.requests.specs.Runs.{ComesBy, IsReport, addresses}
+use Rattle.requests.specs.Sources.{names_in}
+use Rattle.requests.specs.Outputs.{Texts, Sinks, TakeAll}
+use Rattle.simulate.specs.Shown.{shown_before, shown_so_far, shown_texts}
 use Rattle.render.specs.Statuses.{IsReported}
-use Rattle.simulate.specs.declared.fault.Fault.{Fault}
-use Rattle.simulate.specs.declared.fault.Fault.TheVariants.{Unmade, Unwritten, NoMemory}
+use Rattle.requests.specs.declared.fault.Fault.{Fault}
+use Rattle.requests.specs.declared.fault.Fault.TheVariants.{Unmade, Unwritten, NoMemory}
 
 module _ (g : Geometry) (run : Run) (behind : Behind) (show : Show) (file list : List ℕ) where
   -- so many steps of the file with these bytes, by this list and what comes behind it, have these moments, and lead to this flat state

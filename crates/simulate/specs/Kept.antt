@@ -10,11 +10,11 @@ use Rattle.schedule.specs.declared.choices.Choice.{Choice}
 use Rattle.schedule.specs.Courses.{Chance}
 use Rattle.schedule.specs.Written.{text_of}
 use Rattle.simulate.specs.Given.{AreTextsOf, IsNotGiven}
-use Rattle.simulate.specs.Schedules.{AreChosenBy}
-use Rattle.simulate.specs.Shown.{Texts, Sinks}
+use Rattle.requests.specs.Schedules.{AreChosenBy}
+use Rattle.requests.specs.Outputs.{Texts, Sinks}
 use Rattle.render.specs.Statuses.{IsReported}
-use Rattle.simulate.specs.declared.fault.Fault.{Fault}
-use Rattle.simulate.specs.declared.fault.Fault.TheVariants.{Unmade}
+use Rattle.requests.specs.declared.fault.Fault.{Fault}
+use Rattle.requests.specs.declared.fault.Fault.TheVariants.{Unmade}
 
 -- the history of so many steps: the choices of the list that were made, and what chance chose behind them, line by line
 abbrev pub IsHistoryOf : ℕ → List ℕ → List Choice → List ℕ → Type 0

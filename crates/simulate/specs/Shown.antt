@@ -20,22 +20,9 @@ use Rattle.timeline.specs.Timelines.{begun_timeline, timeline_of}
 use Rattle.timeline.specs.Pictures.{picture_of}
 use Rattle.pages.specs.Pages.{begun_page, page_of}
 use Rattle.simulate.specs.Counted.{AreCounts, behind_report}
-use Rattle.simulate.specs.declared.fault.Fault.{Fault}
-use Rattle.simulate.specs.declared.fault.Fault.TheVariants.{Unmade, Unwritten, NoMemory}
-
--- the texts that standard output and a file take, and the sinks that they are put into
-pub record Texts : Type 0 where
-  pub output : List ℕ
-  pub file : List ℕ
-
-pub record Sinks : Type 0 where
-  pub output : SinkState
-  pub file : SinkState
-
--- both took just their texts
-pub record TakeAll (before after : Sinks) (texts : Texts) : Type 0 where
-  pub output : TookAll before.output after.output texts.output
-  pub file : TookAll before.file after.file texts.file
+use Rattle.requests.specs.Outputs.{Texts, Sinks, TakeAll}
+use Rattle.requests.specs.declared.fault.Fault.{Fault}
+use Rattle.requests.specs.declared.fault.Fault.TheVariants.{Unmade, Unwritten, NoMemory}
 
 -- what a view shows of moments, with these caches, of a run from this machine, and these words: the lines of their entries, their timeline, its picture, or their page
 abbrev pub view_text : Table → View → Geometry → List ℕ → State → List Moment → List ℕ

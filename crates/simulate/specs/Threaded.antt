@@ -12,17 +12,17 @@ use Rattle.command_line.specs.declared.request.Word.{Word as Asked}
 use Rattle.protocol.specs.Caches.{Geometry}
 use Rattle.schedule.specs.Courses.{Turns}
 use Rattle.schedule.specs.Moments.{Moment}
-use Rattle.simulate.specs.Begins.{IsUnbegun}
+use Rattle.requests.specs.Begins.{IsUnbegun}
 use Rattle.simulate.specs.Given.{AreTextsOf, Comes}
 use Rattle.render.specs.Reports.{AllReadable}
-use Rattle.simulate.specs.Runs.{addresses}
-use Rattle.simulate.specs.Schedules.{HasSteps}
-use Rattle.simulate.specs.Shown.{Texts, Sinks}
-use Rattle.simulate.specs.Starts.{flat_start}
+use Rattle.requests.specs.Runs.{addresses}
+use Rattle.requests.specs.Schedules.{HasSteps}
+use Rattle.requests.specs.Outputs.{Texts, Sinks}
+use Rattle.requests.specs.Starts.{flat_start}
 use Rattle.render.specs.Statuses.{IsReported}
-use Rattle.simulate.specs.Unreadable.{IsFirstUnreadable}
-use Rattle.simulate.specs.declared.fault.Fault.{Fault}
-use Rattle.simulate.specs.declared.fault.Fault.TheVariants.{Boot, Word, Exchanged, Unmade, Unwritten, NoMemory}
+use Rattle.requests.specs.Unreadable.{IsFirstUnreadable}
+use Rattle.requests.specs.declared.fault.Fault.{Fault}
+use Rattle.requests.specs.declared.fault.Fault.TheVariants.{Boot, Word, Exchanged, Unmade, Unwritten, NoMemory}
 
 -- the same run, by turns and with so many steps
 abbrev pub with_steps : Run → ℕ → Run

@@ -1,39 +1,23 @@
 //! A request, carried out: all but reading and writing files.
-ghost use Rattle.std.specs.Prelude.{◌≡◌, ◌<◌, ◌*◌, ◌^◌, None, IsSome, MatchResult, option_map};
+ghost use Rattle.std.specs.Prelude.{◌≡◌, ◌<◌, ◌*◌, ◌^◌, IsSome, MatchResult, option_map};
 ghost use Rattle.words.specs.Sinks.{IsUntouched};
 ghost use Rattle.machine.specs.States.{geometry};
-ghost use Rattle.simulate.specs.Carried.{IsCarriedOut, IsDoneOn, IsNotDoneOn, IsMade, IsUnmade, RunGives, RunFails, asked_for, cache_of};
-ghost use Rattle.simulate.specs.Files.{IsListed, IsUnlisted, IsImageOf};
-ghost use Rattle.simulate.specs.Sources.{IsSourceFault};
+ghost use Rattle.requests.specs.FileRequests.{cache_of};
+ghost use Rattle.simulate.specs.Carried.{IsCarriedOut, IsDoneOn, IsNotDoneOn, RunGives, RunFails, asked_for};
 
 use crate::debugging::play_by_hand;
-use crate::fault::Fault;
 use crate::kept::{chance_of, run_and_keep};
-use crate::live::Live;
-use crate::page::Page;
-use crate::search::find_ends;
-use crate::source::program_of_source;
 use crate::steps::run_by_steps;
 use crate::threads::run_in_threads;
 use command_line::{Cache, Request, Run, Way};
 use debugger::LineInput;
-use disassembler::{Symbols, listing};
-use loader::{read_elf, write_elf};
+use requests::{Fault, Live, Outcome, Page, on_file};
 use schedule::{Chance, Turns};
 use std::alloc::Global;
 use std::sync::Wait;
 use std::thread::Threads;
 use timeline::Chart;
 use words::Sink;
-
-/// What came of a request.
-#[derive(Debug, Drop)]
-pub struct Outcome {
-    /// The status that the program ends with.
-    pub status: u8,
-    /// The bytes of the file that is to be written, where the request asks for one.
-    pub image: Option<Vec<u8>>,
-}
 
 /// Carries out a request, given the bytes of its file and those of its schedule, none where it has none. What it asks for goes into `out`, and into
 /// `chart`, whose sink stands for the file of a view, of a history or of a run to an outcome; what the user is told goes into `error`. A program that is played by hand reads
@@ -252,57 +236,4 @@ fn make_run<
             out,
         ),
     }
-}
-
-/// Carries out a request that needs no machine.
-fn on_file<'a, P: Live, T: Page, O: Sink>(
-    alloc: Global,
-    request: &Request<'a>,
-    file: &'a [u8],
-    progress: &mut P,
-    page: &mut T,
-    out: &mut O,
-) -> Result<Outcome, Fault<'a>>
-    requires { cache_of request.now ≡ None }
-    ensures { MatchResult result
-        (λ o. IsMade file.now
-        (record { output = O.state out.old; file = T.state page.old }) (record { output = O.state out.new; file = T.state page.new })
-        request.now o.status (option_map (λ image. image.items) o.image))
-        (IsUnmade file.now
-        (record { output = O.state out.old; file = T.state page.old }) (record { output = O.state out.new; file = T.state page.new })
-        request.now) }
-{
-    match request {
-        Request::Outcomes(asked) => Ok(Outcome {
-            status: find_ends(alloc, asked, file, progress, page, out)?,
-            image: None,
-        }),
-        Request::Dis { .. } => Ok(Outcome {
-            status: list(alloc, file, out)?,
-            image: None,
-        }),
-        Request::Asm { .. } => Ok(Outcome {
-            status: 0,
-            image: Some(image(alloc, file)?),
-        }),
-        Request::Run(_) | Request::Debug(_) => unreachable!(),
-    }
-}
-
-/// Puts the listing of the program in a file, with its names. It answers the status.
-fn list<'a, O: Sink>(alloc: Global, file: &[u8], out: &mut O) -> Result<u8, Fault<'a>>
-    ensures { MatchResult result (IsListed file.now (O.state out.old) (O.state out.new)) (IsUnlisted file.now (O.state out.old) (O.state out.new)) }
-{
-    let program = read_elf(alloc, file)?;
-    let names = Symbols::read(alloc, file)?;
-    listing(&program, &names, out)?;
-    Ok(0)
-}
-
-/// The bytes of the file of the program that a source makes.
-fn image(alloc: Global, source: &[u8]) -> Result<Vec<u8>, Fault<'_>>
-    ensures { MatchResult result (λ bytes. IsImageOf source.now bytes.items) (IsSourceFault source.now) }
-{
-    let program = program_of_source(alloc, source)?;
-    Ok(write_elf(alloc, &program)?)
 }

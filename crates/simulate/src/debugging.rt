@@ -3,13 +3,13 @@ ghost use Rattle.std.specs.Prelude.{◌<◌, ◌*◌, ◌^◌, ◌≡◌, MatchR
 ghost use Rattle.words.specs.Sinks.{IsUntouched};
 ghost use Rattle.machine.specs.States.{geometry};
 ghost use Rattle.simulate.specs.Debugging.{IsPlayedByHand, TellsEnd};
-ghost use Rattle.simulate.specs.Starts.{IsStartFault};
+ghost use Rattle.requests.specs.Starts.{IsStartFault};
 
-use crate::begin::boot;
-use crate::fault::{Fault, put_line};
-use crate::source::names_in;
 use command_line::Setup;
 use debugger::{ConsoleFault, LineInput, debug};
+use requests::begin::boot;
+use requests::source::names_in;
+use requests::{Fault, put_line};
 use std::alloc::Global;
 use words::Sink;
 
@@ -55,7 +55,7 @@ fn tell_end<E: Sink>(end: &Result<(), ConsoleFault>, error: &mut E) -> u8
     match end {
         Ok(()) => 0,
         Err(ConsoleFault::Unreadable) => {
-            let _ = put_line(error, b"cannot read standard input", "");
+            let _ = put_line(error, "cannot read standard input", "");
             3
         }
         Err(ConsoleFault::Unwritten) => Fault::Unwritten.tell(error),

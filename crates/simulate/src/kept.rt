@@ -5,15 +5,14 @@ ghost use Rattle.command_line.specs.Runs.{shown};
 ghost use Rattle.machine.specs.States.{geometry};
 ghost use Rattle.schedule.specs.Written.{text_of};
 ghost use Rattle.texts.specs.Puts.{Puts};
-ghost use Rattle.simulate.specs.Conclusions.{IsHistoryUnput};
+ghost use Rattle.requests.specs.Conclusions.{IsHistoryUnput};
 ghost use Rattle.simulate.specs.Kept.{IsGivenAndKept, IsNotGivenOrKept};
 
-use crate::begin::{Begun, begin};
-use crate::fault::Fault;
-use crate::page::Page;
 use crate::steps::run_by_steps;
 use command_line::{Chance as Asked, Mix as Weights, Print, Run, Show};
 use machine::Progress;
+use requests::begin::{Begun, begin};
+use requests::{Fault, Page};
 use schedule::{Chance, Choice, History, KeptChance, Mix, put_choices, put_history};
 use std::alloc::Global;
 use timeline::Chart;

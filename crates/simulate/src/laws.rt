@@ -13,19 +13,19 @@ ghost use Rattle.isolation.specs.Belongs.{Belongs};
 ghost use Rattle.loader.specs.Programs.{Program};
 ghost use Rattle.render.specs.Reports.{report_of};
 ghost use Rattle.isolation.specs.Walks.{IsEnded};
-ghost use Rattle.ends.specs.declared.gathering.End.{End};
-ghost use Rattle.ends.specs.Ends.{reports_of};
-ghost use Rattle.ends.specs.EndTexts.{ends_text};
+ghost use Rattle.outcomes.specs.declared.gathering.End.{End};
+ghost use Rattle.outcomes.specs.Ends.{reports_of};
+ghost use Rattle.requests.specs.EndTexts.{ends_text};
 ghost use Rattle.command_line.specs.declared.request.Search.{Search};
 ghost use Rattle.command_line.specs.declared.request.Setup.{Setup};
 ghost use Rattle.schedule.specs.Courses.{Behind};
 ghost use Rattle.schedule.specs.Moments.{Moment, entries_of};
-ghost use Rattle.simulate.specs.Ends.{search_start, AreEndsGiven};
-ghost use Rattle.simulate.specs.Files.{IsListed, IsImageOf};
-ghost use Rattle.simulate.specs.Runs.{ComesBy, addresses};
-ghost use Rattle.simulate.specs.Shown.{Sinks};
-ghost use Rattle.simulate.specs.Sources.{IsProgramIn, IsSourceOf, is_source};
-ghost use Rattle.simulate.specs.Starts.{flat_start};
+ghost use Rattle.requests.specs.Ends.{search_start, AreEndsGiven};
+ghost use Rattle.requests.specs.Files.{IsListed, IsImageOf};
+ghost use Rattle.requests.specs.Runs.{ComesBy, addresses};
+ghost use Rattle.requests.specs.Outputs.{Sinks};
+ghost use Rattle.requests.specs.Sources.{IsProgramIn, IsSourceOf, is_source};
+ghost use Rattle.requests.specs.Starts.{flat_start};
 
 /// Where a search ends with status 0, all ends are told: for every cache, and for every list of core, eviction and delivery steps from where the file's
 /// program begins to a machine whose harts have all stopped, the report on that machine is among those that standard output took.

@@ -3,36 +3,23 @@
 //! writing files.
 #![tactic(auto)]
 
-mod begin;
 mod carry;
-mod conclude;
 mod counting;
 mod debugging;
 mod entry;
-mod fault;
-mod hint;
 mod kept;
 mod laws;
-mod live;
-mod meter;
-mod page;
-mod quote;
-pub mod readable;
-mod search;
 mod serving;
-pub mod source;
 mod steps;
-mod store;
 mod threads;
 
-pub use carry::{Outcome, carry_out};
+pub use carry::carry_out;
 pub use entry::answer;
-pub use fault::{Fault, RefusedLine};
 pub use laws::{
     all_ends_are_told, assembled_files_are_one, assembled_files_run_as_spelled,
     files_hold_one_program, listings_are_one, told_ends_are_one, told_ends_are_reached,
 };
-pub use live::Live;
-pub use meter::Meter;
-pub use page::{Outlet, Page};
-pub use store::{HostFiles, Store, StoreFault};
+pub use requests::{
+    Fault, HostFiles, Live, Meter, Outcome, Outlet, Page, RefusedLine, Store, StoreFault, readable,
+    source,
+};

@@ -2,11 +2,11 @@ ghost use Rattle.std.specs.Prelude.{◌≡◌, ◌≤◌, ◌<◌, ◌*◌, ◌^
 ghost use Rattle.words.specs.Limits.{most_harts};
 ghost use Rattle.machine.specs.States.{geometry};
 ghost use Rattle.board.specs.Histories.{IsEnd};
-ghost use Rattle.simulate.specs.declared.fault.Fault.TheVariants.{NoMemory, Exchanged};
+ghost use Rattle.requests.specs.declared.fault.Fault.TheVariants.{NoMemory, Exchanged};
 
-use crate::fault::Fault;
 use board::{Board, Finished, Gate, Journal, Lease, STEPS, Trace, Untraced, serve};
 use loader::Program;
+use requests::Fault;
 use std::alloc::{AllocError, Global};
 use std::sync::{Mutex, Wait};
 use std::thread::Threads;

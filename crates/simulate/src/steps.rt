@@ -7,16 +7,15 @@ ghost use Rattle.command_line.specs.declared.request.View.TheVariants.{Trace, Ti
 ghost use Rattle.simulate.specs.Given.{IsGiven, IsNotGiven};
 ghost use Rattle.simulate.specs.Shown.{IsShown, IsCutShort, IsViewed, IsViewCut, IsViewFault};
 
-use crate::begin::{Begun, begin};
-use crate::conclude::conclude;
 use crate::counting::put_counts;
-use crate::fault::Fault;
-use crate::page::Page;
-use crate::source::names_in;
 use command_line::{Run, Show, View};
 use disassembler::Symbols;
 use machine::{Machine, Progress, Silent};
 use pages::put_page;
+use requests::begin::{Begun, begin};
+use requests::conclude::conclude;
+use requests::source::names_in;
+use requests::{Fault, Page};
 use schedule::{Choice, Chooser, Halt};
 use std::alloc::Global;
 use timeline::{Chart, put_picture, put_timeline};

@@ -2,7 +2,7 @@ use Rattle.std.proofs.Common.{MatchResult, subst, sym}
 use Rattle.machine.specs.States.{geometry}
 use Rattle.command_line.specs.declared.request.Way.{Way}
 use Rattle.simulate.specs.Carried.{RunGives, RunFails}
-use Rattle.simulate.specs.Shown.{Sinks}
+use Rattle.requests.specs.Outputs.{Sinks}
 use Rattle.simulate.proofs.carry.make_run.Goals as goal
 
 pub returns-in-Turns : goal.returns-in-Turns

@@ -1,6 +1,6 @@
 use Rattle.std.proofs.Common.{sym, ◌∙◌}
 use Rattle.simulate.specs.Carried.{asked_for}
-use Rattle.simulate.specs.Shown.{Sinks}
+use Rattle.requests.specs.Outputs.{Sinks}
 use Rattle.simulate.proofs.Carrying.{carried}
 use Rattle.simulate.proofs.carry.try_carry_out.Goals as goal
 

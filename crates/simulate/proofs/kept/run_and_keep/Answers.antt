@@ -4,7 +4,7 @@ use Rattle.command_line.specs.declared.request.Show.{Show}
 use Rattle.machine.specs.States.{geometry}
 use Rattle.schedule.specs.Courses.{Chance}
 use Rattle.simulate.specs.Given.{IsGiven, IsNotGiven}
-use Rattle.simulate.specs.Shown.{Sinks}
+use Rattle.requests.specs.Outputs.{Sinks}
 use Rattle.simulate.proofs.KeptRuns.{kept, unkept}
 use Rattle.simulate.proofs.StepRuns.{not_begun}
 use Rattle.command_line.specs.Runs.{shown}

@@ -1,4 +1,4 @@
-use Rattle.simulate.proofs.Determined.{one_run}
+use Rattle.requests.proofs.Determined.{one_run}
 use Rattle.simulate.proofs.laws.assembled_files_run_as_spelled.Goals as goal
 
 pub returns : goal.returns

@@ -1,4 +1,4 @@
-use Rattle.simulate.proofs.Determined.{one_in_file}
+use Rattle.requests.proofs.Determined.{one_in_file}
 use Rattle.simulate.proofs.laws.files_hold_one_program.Goals as goal
 
 pub returns : goal.returns

@@ -1,4 +1,4 @@
-use Rattle.simulate.proofs.Determined.{one_listing}
+use Rattle.requests.proofs.Determined.{one_listing}
 use Rattle.simulate.proofs.laws.listings_are_one.Goals as goal
 
 pub returns : goal.returns

@@ -1,4 +1,4 @@
-use Rattle.simulate.proofs.Telling.{told_one}
+use Rattle.requests.proofs.Telling.{told_one}
 use Rattle.simulate.proofs.laws.told_ends_are_one.Goals as goal
 
 pub returns : goal.returns

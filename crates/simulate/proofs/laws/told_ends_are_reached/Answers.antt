@@ -1,4 +1,4 @@
-use Rattle.simulate.proofs.Telling.{told_reached}
+use Rattle.requests.proofs.Telling.{told_reached}
 use Rattle.simulate.proofs.laws.told_ends_are_reached.Goals as goal
 
 pub returns : goal.returns

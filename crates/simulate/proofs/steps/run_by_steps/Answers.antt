@@ -2,7 +2,7 @@ use Rattle.std.proofs.Common.{arith}
 use Rattle.std.proofs.lemmas.Result.{err_from_is_err_and}
 use Rattle.machine.specs.States.{geometry}
 use Rattle.schedule.specs.Courses.{forgotten}
-use Rattle.simulate.specs.Shown.{Sinks}
+use Rattle.requests.specs.Outputs.{Sinks}
 use Rattle.simulate.proofs.StepRuns.{not_begun, cut_short, given, half_counted, half_reported, readable_then}
 use Rattle.simulate.proofs.steps.run_by_steps.Goals as goal
 

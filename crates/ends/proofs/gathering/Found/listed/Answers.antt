@@ -1,5 +1,0 @@
-use Rattle.ends.proofs.Kept.{ascend}
-use Rattle.ends.proofs.gathering.Found.listed.Goals as goal
-
-pub returns-clause-ascending : goal.returns-clause-ascending
-returns-clause-ascending c = ascend c.args.self c.into_iter.ensures.into_iter_gives.5

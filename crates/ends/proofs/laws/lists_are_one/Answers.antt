@@ -1,5 +1,0 @@
-use Rattle.ends.proofs.Told.{lists_one}
-use Rattle.ends.proofs.laws.lists_are_one.Goals as goal
-
-pub returns : goal.returns
-returns c = lists_one

@@ -1,3 +1,0 @@
-pub mod Ends
-pub mod Found
-pub mod EndTexts

@@ -1,0 +1,175 @@
+//! The files that a request names: which they are, and how they are read and made.
+ghost use Rattle.std.specs.Prelude.{◌≡◌, MatchResult};
+ghost use Rattle.std.specs.Option.{option_map};
+ghost use Rattle.texts.specs.Puts.{Puts};
+ghost use Rattle.requests.specs.NamedFiles.{file_of, schedule_of, page_of, IsReadAt, IsUnreadAt, IsReadIf, IsUnreadIf, IsUnbegunAt, IsUnbegunIf, IsSheetFor, IsClosed, IsFileMade, IsFileUnmade, IsImageMade, IsImageUnmade};
+
+use crate::fault::Fault;
+use crate::file_requests::Outcome;
+use crate::page::{Page, Sheet};
+use crate::store::{Store, StoreFault};
+use command_line::{Request, Show, Way};
+use std::alloc::Global;
+use words::SinkFault;
+
+/// How many bytes a program, a source or a schedule may have: 32 MiB.
+const MOST_BYTES: usize = 33_554_432;
+
+/// The path of the file that a request reads: a program's, or a source's.
+pub fn file_of<'a>(request: &Request<'a>) -> &'a str
+    ensures { result ≡ file_of request.now }
+{
+    match request {
+        Request::Run(run) => run.setup.file,
+        Request::Debug(setup) => setup.file,
+        Request::Outcomes(asked) => asked.file,
+        Request::Dis { file } => file,
+        Request::Asm { source, .. } => source,
+    }
+}
+
+/// The path of the schedule's file, if a request names one.
+pub fn schedule_of<'a>(request: &Request<'a>) -> Option<&'a str>
+    ensures { result ≡ schedule_of request.now }
+{
+    match request {
+        Request::Run(run) => match run.way {
+            Way::Turns { schedule, .. }
+            | Way::Chance { schedule, .. }
+            | Way::Kept { schedule, .. } => schedule,
+            Way::Threads { .. } => None,
+        },
+        _ => None,
+    }
+}
+
+/// The path of the file for a view, a history or a run to an outcome, if a request asks for one.
+pub fn page_of<'a>(request: &Request<'a>) -> Option<&'a str>
+    ensures { result ≡ page_of request.now }
+{
+    match request {
+        Request::Run(run) => match run.way {
+            Way::Turns { show, .. } | Way::Chance { show, .. } => match show {
+                Show::View(_, path) => Some(path),
+                _ => None,
+            },
+            Way::Kept { history, .. } => Some(history),
+            Way::Threads { history } => history,
+        },
+        Request::Outcomes(asked) => match asked.witness {
+            Some(witness) => Some(witness.path),
+            None => None,
+        },
+        _ => None,
+    }
+}
+
+/// The bytes of a file, of which one more than are taken is read at most: a file may have no end.
+pub fn read<'a, S: Store>(store: &S, path: &'a str) -> Result<Vec<u8>, Fault<'a>>
+    ensures { MatchResult result
+        (λ bytes. IsReadAt S.reads S.refuses store.now path.now bytes.items)
+        (IsUnreadAt S.reads S.refuses store.now path.entry) }
+{
+    match store.read(path, MOST_BYTES + 1) {
+        Ok(bytes) if bytes.len() > MOST_BYTES => Err(Fault::TooLong(path)),
+        Ok(bytes) => Ok(bytes),
+        Err(StoreFault::Refused) => Err(Fault::Unread(path)),
+        Err(StoreFault::NoMemory) => Err(Fault::NoMemory),
+    }
+}
+
+/// The bytes of a file, or none where there is no path.
+pub fn read_if_any<'a, S: Store>(
+    alloc: Global,
+    store: &S,
+    path: Option<&'a str>,
+) -> Result<Vec<u8>, Fault<'a>>
+    ensures { MatchResult result
+        (λ bytes. IsReadIf S.reads S.refuses store.now path.entry bytes.items)
+        (IsUnreadIf S.reads S.refuses store.now path.entry) }
+{
+    match path {
+        Some(path) => read(store, path),
+        None => Ok(Vec::new(alloc)),
+    }
+}
+
+/// A file that is begun, where there is a path.
+pub fn sheet_for<'a, S: Store>(
+    store: &mut S,
+    path: Option<&'a str>,
+) -> Result<Sheet<S::Page>, Fault<'a>>
+    ensures { MatchResult result
+        (IsSheetFor S.begins S.ends S.Page.state path.entry store.old store.new)
+        (λ fault. IsUnbegunIf S.refuses store.old path.entry fault × (store.new ≡ store.old)) }
+{
+    match path {
+        Some(path) => Ok(Sheet::Made(begin(store, path)?)),
+        None => Ok(Sheet::Nowhere),
+    }
+}
+
+fn begin<'a, S: Store>(store: &mut S, path: &'a str) -> Result<S::Page, Fault<'a>>
+    ensures { MatchResult result
+        (S.begins store.old path.now store.new)
+        (λ fault. IsUnbegunAt S.refuses store.old path.entry fault × (store.new ≡ store.old)) }
+{
+    match store.begin(path) {
+        Ok(page) => Ok(page),
+        Err(StoreFault::Refused) => Err(Fault::Unmade(path)),
+        Err(StoreFault::NoMemory) => Err(Fault::NoMemory),
+    }
+}
+
+/// Has written out what a file kept back: where memory ran out, not all was written by then. And the file is done.
+pub fn close<S: Store>(store: &mut S, sheet: Sheet<S::Page>)
+    ensures { IsClosed S.begins S.ends S.Page.state store.old sheet store.new }
+{
+    match sheet {
+        Sheet::Made(page) => {
+            let mut page = page;
+            let _ = page.flush();
+            store.end(page);
+        }
+        Sheet::Nowhere => {}
+    }
+}
+
+/// Makes the file that a request asks for, if it asks for one.
+pub fn make_image<'a, S: Store>(
+    request: &Request<'a>,
+    outcome: &Outcome,
+    store: &mut S,
+) -> Result<(), Fault<'a>>
+    ensures { MatchResult result
+        (λ _. IsImageMade S.refuses S.begins S.ends S.Page.state request.now (option_map (λ image. image.items) outcome.now.image) store.old store.new)
+        (λ fault. IsImageUnmade S.refuses S.begins S.ends S.Page.state request.now (option_map (λ image. image.items) outcome.now.image) store.old fault store.new) }
+{
+    match (request, &outcome.image) {
+        (Request::Asm { target, .. }, Some(image)) => make_file(store, target, image),
+        _ => Ok(()),
+    }
+}
+
+/// Makes a file of some bytes.
+fn make_file<'a, S: Store>(store: &mut S, path: &'a str, bytes: &[u8]) -> Result<(), Fault<'a>>
+    ensures { MatchResult result
+        (λ _. IsFileMade S.begins S.ends S.Page.state path.now bytes.now store.old store.new)
+        (λ fault. IsFileUnmade S.refuses S.begins S.ends S.Page.state path.entry bytes.now store.old fault store.new) }
+{
+    let mut page = begin(store, path)?;
+    let written = put_whole(&mut page, bytes);
+    store.end(page);
+    match written {
+        Ok(()) => Ok(()),
+        Err(_) => Err(Fault::Unmade(path)),
+    }
+}
+
+/// Puts bytes, and has them written out.
+fn put_whole<P: Page>(page: &mut P, bytes: &[u8]) -> Result<(), SinkFault>
+    ensures { Puts (P.state page.old) (P.state page.new) bytes.now result }
+{
+    page.put(bytes)?;
+    page.flush()
+}

@@ -1,0 +1,111 @@
+//! The files that the program reads and makes, by their paths.
+ghost use Rattle.std.specs.Prelude.{◌≡◌, ⊤, ℕ, List, OnErr, MatchResult};
+ghost use Rattle.requests.specs.Stored.{IsRefusedIf};
+
+use crate::page::{Outlet, Page};
+use std::fs::File;
+use std::io::{ErrorKind, Read};
+use std::rt::Files;
+use std::{fs, io};
+use thiserror::Error;
+
+/// Why a file was not read, or not begun.
+#[derive(Clone, Copy, Debug, PartialEq, Eq, Error)]
+pub enum StoreFault {
+    /// The store doesn't let it be.
+    #[error("the file is refused")]
+    Refused,
+    #[error("no memory")]
+    NoMemory,
+}
+
+/// Files by their paths: those that the program reads, and those that it makes.
+pub trait Store {
+    /// A file that is being made.
+    type Page: Page + Drop;
+
+    /// From the file with a path so many bytes are read at most, and these were.
+    ghost reads: { Self → List ℕ → ℕ → List ℕ → Type 0 };
+
+    /// A file with a path can't be read, or can't be made.
+    ghost refuses: { Self → List ℕ → Type 0 };
+
+    /// A file with a path was begun.
+    ghost begins: { Self → List ℕ → Self → Self.Page → Type 0 };
+
+    /// A file that was being made is done.
+    ghost ends: { Self → Self.Page → Self → Type 0 };
+
+    /// Reads a file, and so many bytes of it at most.
+    fn read(&self, path: &str, most: usize) -> Result<Vec<u8>, StoreFault>
+        ensures { MatchResult result (λ bytes. reads self.now path.now most bytes.items) (IsRefusedIf (refuses self.now path.now)) };
+
+    /// Begins a file, which is empty then.
+    fn begin(&mut self, path: &str) -> Result<Self::Page, StoreFault>
+        ensures begun { MatchResult result (begins self.old path.now self.new) (IsRefusedIf (refuses self.old path.now)) }
+        ensures stays { OnErr result (self.new ≡ self.old) };
+
+    /// A file is done.
+    fn end(&mut self, page: Self::Page)
+        ensures { ends self.old page self.new };
+}
+
+/// The host's files. What they hold, no clause can say.
+#[derive(Drop)]
+pub struct HostFiles<'r, R> {
+    pub host: &'r R,
+}
+
+impl<R: Files + AllocGlobal> Store for HostFiles<'_, R> {
+    type Page = Outlet<R::File>;
+
+    ghost reads = { λ _ _ _ _. ⊤ };
+
+    ghost refuses = { λ _ _. ⊤ };
+
+    ghost begins = { λ s _ t _. t ≡ s };
+
+    ghost ends = { λ s _ t. t ≡ s };
+
+    fn read(&self, path: &str, most: usize) -> Result<Vec<u8>, StoreFault> {
+        match read_beginning(self.host, path, most) {
+            Ok(bytes) => Ok(bytes),
+            Err(error) => Err(fault_of(&error)),
+        }
+    }
+
+    fn begin(&mut self, path: &str) -> Result<Outlet<R::File>, StoreFault> {
+        let file = match fs::create(self.host, path) {
+            Ok(file) => file,
+            Err(error) => return Err(fault_of(&error)),
+        };
+        match Outlet::new(self.host.alloc(), file) {
+            Ok(page) => Ok(page),
+            Err(_) => Err(StoreFault::NoMemory),
+        }
+    }
+
+    fn end(&mut self, _page: Outlet<R::File>) {}
+}
+
+/// Why the host did not let a file be.
+fn fault_of(error: &io::Error) -> StoreFault {
+    if error.kind() == ErrorKind::OutOfMemory {
+        StoreFault::NoMemory
+    } else {
+        StoreFault::Refused
+    }
+}
+
+/// The first bytes of a file, which may have no end.
+fn read_beginning<R: Files + AllocGlobal>(
+    host: &R,
+    path: &str,
+    most: usize,
+) -> io::Result<Vec<u8>> {
+    let mut bytes = Vec::new(host.alloc());
+    File::open(host, path)?
+        .take(most as u64)
+        .read_to_end(&mut bytes)?;
+    Ok(bytes)
+}

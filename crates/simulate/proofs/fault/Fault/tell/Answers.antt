@@ -1,5 +1,0 @@
-use Rattle.simulate.proofs.Refusing.{puts-put}
-use Rattle.simulate.proofs.fault.Fault.tell.Goals as goal
-
-pub returns-clause-told : goal.returns-clause-told
-returns-clause-told g c = puts-put _ _ _ c.put.result c.put.ensures
