@@ -17,6 +17,7 @@ use Rattle.isolation.specs.Belongs.{Belongs}
 use Rattle.isolation.specs.Reasons.{HaveReasons}
 use Rattle.isolation.proofs.Belongs.Belonging.{belongs_after}
 use Rattle.isolation.proofs.Reached.{have_reasons}
+use Rattle.isolation.proofs.Leading.{bytes_of}
 use Rattle.machine.specs.States.{State, shown}
 use Rattle.machine.specs.Unused.{IsUnused}
 use Rattle.board.specs.Histories.{first_flat, IsReplay}
@@ -30,12 +31,6 @@ run_settings g v w (s ∷ ss) es r = run_settings g r.0 w ss r.2 r.4 ∙ setting
 pub replay_segments : (g : Geometry) (p : Program) (n size : ℕ) (steps : List Step) (m : State) (es : List Entry) → IsReplay g p n size steps m es → m.program.segments ≡ p.segments
 replay_segments g p n size steps m es r =
     ap (λ (s : Setting). s.segments) (run_settings g (start (first_flat p n size).setting p.entry) (shown g.sets m) steps es r.runs)
-
--- a program that a flat state belongs to has bytes in its segments
-pub bytes_of : (g : Geometry) (f : Flat) (s : Setting) (entry : ℕ) (w : Machine) → w ≡ start s entry → Belongs g f w → AreBytes s.segments
-bytes_of g f s entry w is b =
-    let same : s ≡ b.setting = ap (λ (m : Machine). m.setting) (sym is) ∙ run_settings g (start b.setting b.entry) w b.steps b.entries b.run in
-    subst (λ (t : Setting). AreBytes t.segments) (sym same) b.bytes
 
 -- a program that isn't refused boots
 pub boots_if_ok : {A : Type 0} (o : Option BootFault) (r : Result A BootFault) (a : A) → ((e : BootFault) → o ≡ Some e → r ≡ Err e) → r ≡ Ok a → o ≡ None

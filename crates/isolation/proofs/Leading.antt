@@ -8,15 +8,21 @@ use Rattle.flat.specs.State.{Setting, Flat}
 use Rattle.flat.specs.Start.{first_state}
 use Rattle.flat.specs.Steps.{IsRun}
 use Rattle.flat.specs.Reasons.{no_history, history_of}
-use Rattle.flat.proofs.Runs.{run_then}
+use Rattle.flat.proofs.Runs.{run_then, run_setting}
 use Rattle.protocol.specs.Caches.{Geometry}
 use Rattle.protocol.specs.Machine.{Machine, Steps, Runs}
 use Rattle.protocol.specs.Start.{start}
 use Rattle.protocol.proofs.Splits.{runs_then}
 use Rattle.isolation.specs.Belongs.{Belongs, BelongsAfter}
 use Rattle.isolation.specs.Reasons.{HasReason, HaveReasonsAfter, LeadOn}
-use Rattle.isolation.proofs.Belongs.Belonging.{belongs_later}
+use Rattle.isolation.proofs.Belongs.Belonging.{inv_of, belongs_later}
 use Rattle.isolation.proofs.Reached.{reason_among}
+
+-- a program that a flat state belongs to has bytes in its segments
+pub bytes_of : (g : Geometry) (f : Flat) (s : Setting) (entry : ℕ) (w : Machine) → w ≡ start s entry → Belongs g f w → AreBytes s.segments
+bytes_of g f s entry w is b =
+    let same : b.setting ≡ s = sym (run_setting (first_state b.setting b.entry) f b.entries b.flat_run) ∙ ((inv_of g f w b).1.same ∙ ap (λ (m : Machine). m.setting) is) in
+    subst (λ (t : Setting). AreBytes t.segments) same b.bytes
 
 -- before the first step no entry was given
 pub starts_unled : (g : Geometry) (s : Setting) (entry : ℕ) → AreBytes s.segments → BelongsAfter g [] (first_state s entry) (start s entry)

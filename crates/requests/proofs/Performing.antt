@@ -7,8 +7,7 @@ use Rattle.flat.proofs.Runs.{run_setting}
 use Rattle.command_line.specs.declared.request.Run.{Run}
 use Rattle.isolation.specs.Belongs.{Belongs, BelongsAfter}
 use Rattle.isolation.proofs.Belongs.Belonging.{inv_of}
-use Rattle.isolation.proofs.Leading.{starts_unled}
-use Rattle.board.proofs.Replays.{bytes_of}
+use Rattle.isolation.proofs.Leading.{starts_unled, bytes_of}
 use Rattle.machine.specs.States.{State, setting_of, shown}
 use Rattle.schedule.specs.declared.choices.Choice.{Choice}
 use Rattle.schedule.specs.Courses.{Behind, course}
