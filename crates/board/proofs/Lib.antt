@@ -5,3 +5,4 @@ mod Locals
 mod Payments
 mod Turns
 mod Boxed
+mod PlayedAgain
