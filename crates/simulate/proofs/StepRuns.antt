@@ -71,6 +71,7 @@ forget_comes g setup (Chance (Some chosen)) file list steps ms f comes = record 
 }
 
 forget_first : (g : Geometry) (setup : Setup) (b : Behind) (file list : List ℕ) (steps : ℕ) (ms : List Moment) (f : Flat) (comes : ComesBy g setup b file list steps ms f) → (forget_comes g setup b file list steps ms f comes).first ≡ comes.first
+unfolding forget_comes
 forget_first g setup Turns file list steps ms f comes = refl
 forget_first g setup (Chance None) file list steps ms f comes = refl
 forget_first g setup (Chance (Some chosen)) file list steps ms f comes = refl
@@ -130,9 +131,16 @@ module _ (g : Geometry) (run : Run) (b : Behind) (show : Show) (file list : List
 
     early_texts : (status : ℕ) → AreTextsOf g run b show file list whole status → AreTextsOf g run (forgotten b) show file list whole status
     early_texts status (ns, f, comes, (text, is_report, same_text)) =
-        let first = forget_first g run.setup b file list run.steps ns f comes in
-        (ns, f, forget_comes g run.setup b file list run.steps ns f comes, (text, is_report,
-        subst (λ (s : State). whole ≡ shown_texts (names_in run.setup.file.now file) show g (addresses run.words.items) s ns text) (sym first) same_text))
+        let first = forget_first g run.setup b file list run.steps ns f comes in (
+          ns,
+          f,
+          forget_comes g run.setup b file list run.steps ns f comes,
+          (
+            text,
+            is_report,
+            subst (λ (s : State). whole ≡ shown_texts (names_in run.setup.file.now file) show g (addresses run.words.items) s ns text) (sym first) same_text,
+          ),
+        )
 
     -- a put of the report failed
     pub half_reported : (output : SinkState) (fault : Fault) → IsHalfConcluded g w words middle.output output fault

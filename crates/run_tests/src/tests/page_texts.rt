@@ -13,7 +13,8 @@ use words::{Addr, Sink, Taken};
 
 /// Before the first step the hart has its number, the number of harts and its stack. It begins its transaction and has 7 in a register; its store asks for the block; the request, the grant and the hart's answer arrive; and the store
 /// is made, with a record of the block.
-const LINES: &str = r#"sets:16,ways:4,harts:1,addresses:["00002000",],first:{harts:[{id:0,pc:"00001000",status:"running",next:"tbegin 20",regs:[0,0,126976,0,0,0,0,0,0,0,0,1,0,0,0,0,0,0,0,0,0,0,0,0,0,0,0,0,0,0,0,0,],lines:[]},],flights:[],words:["00000000","00000000",]},
+const LINES: &str =
+    r#"sets:16,ways:4,harts:1,addresses:["00002000",],first:{harts:[{id:0,pc:"00001000",status:"running",next:"tbegin 20",regs:[0,0,126976,0,0,0,0,0,0,0,0,1,0,0,0,0,0,0,0,0,0,0,0,0,0,0,0,0,0,0,0,0,],lines:[]},],flights:[],words:["00000000","00000000",]},
 moments:[
 {entry:`0 0x00001000 00000a0b tbegin 20
 `,step:"core",hart:{id:0,pc:"00001004",status:"running",next:"lui t0, 0x2",tx:{depth:1,records:0,stamp:"0.0",overflow:false,cycle:false,aborting:false},regs:[0,0,126976,0,0,0,0,0,0,0,0,1,0,0,0,0,0,0,0,0,0,0,0,0,0,0,0,0,0,0,0,0,],lines:[]},flights:[],words:["00000000","00000000",]},
