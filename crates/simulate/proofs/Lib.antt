@@ -13,3 +13,4 @@ mod ShownRuns
 mod ThreadedRuns
 mod Telling
 mod Determined
+mod OneReport

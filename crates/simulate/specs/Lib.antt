@@ -22,3 +22,4 @@ pub mod ProgressLines
 pub mod Stored
 pub mod Sheets
 pub mod Answered
+pub mod OneText
