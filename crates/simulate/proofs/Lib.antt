@@ -3,3 +3,4 @@ mod StepRuns
 mod KeptRuns
 mod ShownRuns
 mod ThreadedRuns
+mod OneReport

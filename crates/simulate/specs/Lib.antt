@@ -7,3 +7,4 @@ pub mod Kept
 pub mod Threaded
 pub mod Carried
 pub mod Answered
+pub mod OneText

@@ -16,14 +16,18 @@ ghost use Rattle.isolation.specs.Walks.{IsEnded};
 ghost use Rattle.outcomes.specs.declared.gathering.End.{End};
 ghost use Rattle.outcomes.specs.Ends.{reports_of};
 ghost use Rattle.requests.specs.EndTexts.{ends_text};
+ghost use Rattle.command_line.specs.declared.request.Run.{Run};
 ghost use Rattle.command_line.specs.declared.request.Search.{Search};
 ghost use Rattle.command_line.specs.declared.request.Setup.{Setup};
-ghost use Rattle.schedule.specs.Courses.{Behind};
+ghost use Rattle.command_line.specs.declared.request.Show.{Show};
+ghost use Rattle.schedule.specs.Courses.{Behind, IsTold};
 ghost use Rattle.schedule.specs.Moments.{Moment, entries_of};
 ghost use Rattle.requests.specs.Ends.{search_start, AreEndsGiven};
 ghost use Rattle.requests.specs.Files.{IsListed, IsImageOf};
 ghost use Rattle.requests.specs.Runs.{ComesBy, addresses};
-ghost use Rattle.requests.specs.Outputs.{Sinks};
+ghost use Rattle.simulate.specs.Given.{IsGiven};
+ghost use Rattle.simulate.specs.OneText.{ShowsSteps};
+ghost use Rattle.requests.specs.Outputs.{Sinks, Texts, TakeAll};
 ghost use Rattle.requests.specs.Sources.{IsProgramIn, IsSourceOf, is_source};
 ghost use Rattle.requests.specs.Starts.{flat_start};
 
@@ -76,4 +80,12 @@ pub fn assembled_files_run_as_spelled()
     ensures { (g : Geometry) (setup : Setup) (behind : Behind) (source image list : List ℕ) (steps : ℕ) (moments : List Moment) (f : Flat) →
         IsImageOf source image → is_source setup.file.now ≡ false → ComesBy g setup behind image list steps moments f →
         (p : Program) × IsSourceOf source p × IsRun (flat_start p setup) (entries_of moments) f }
+{}
+
+/// Two runs of one file by one schedule, behind which come turns or choices of chance that were kept, give one report and one status. If they show them, they
+/// also give one trace, one timeline and one picture.
+pub fn reports_are_one()
+    ensures { (g : Geometry) (run : Run) (behind : Behind) (show : Show) (file list : List ℕ) (before after earlier later : Sinks) (status other : ℕ) →
+        IsTold behind → ShowsSteps show → IsGiven g run behind show file list before after status → IsGiven g run behind show file list earlier later other →
+        (other ≡ status) × ((texts : Texts) × TakeAll before after texts × TakeAll earlier later texts) }
 {}
