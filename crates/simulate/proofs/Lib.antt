@@ -4,3 +4,4 @@ mod KeptRuns
 mod ShownRuns
 mod ThreadedRuns
 mod OneReport
+mod OneHistory

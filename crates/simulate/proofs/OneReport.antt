@@ -44,7 +44,7 @@ use Rattle.requests.proofs.Determined.{one_in_file}
 -- The run
 
 -- lines spell one list of choices
-one_list : (cs ds : List Choice) → map Some cs ≡ map Some ds → cs ≡ ds
+pub one_list : (cs ds : List Choice) → map Some cs ≡ map Some ds → cs ≡ ds
 one_list [] [] same = refl
 one_list [] (d ∷ ds) same = absurd (cc)
 one_list (c ∷ cs) [] same = absurd (cc)
@@ -163,7 +163,7 @@ module _ (g : Geometry) where
   same_texts names (shows.View view path) words v w ms ns report harts shows twin = λ i. record { output = [] ++ (report ++ []); file = same_view names view words v w ms ns harts shows twin i }
 
 module _ (g : Geometry) (run : Run) (behind : Behind) (show : Show) (file list : List ℕ) (told : IsTold behind) (shows : ShowsSteps show) where
-  texts_once : (t u : Texts) (s r : ℕ) → AreTextsOf g run behind show file list t s → AreTextsOf g run behind show file list u r → (r ≡ s) × (u ≡ t)
+  pub texts_once : (t u : Texts) (s r : ℕ) → AreTextsOf g run behind show file list t s → AreTextsOf g run behind show file list u r → (r ≡ s) × (u ≡ t)
   texts_once t u s r (ms, f, one, (report, is_report, texts)) (ns, h, other, (report_too, is_report_too, texts_too)) =
       let words = addresses run.words.items in
       let names = names_in run.setup.file.now file in

@@ -1,4 +1,5 @@
-ghost use Rattle.std.specs.Prelude.{◌≡◌, ◌≢◌, ◌<◌, ℕ, List, Bool, true, false};
+ghost use Rattle.std.specs.Prelude.{◌≡◌, ◌≢◌, ◌<◌, ℕ, List, [], Bool, true, false, Some};
+ghost use Rattle.std.specs.Borrow.{Bor};
 ghost use Rattle.std.specs.List.{Contains};
 ghost use Rattle.words.specs.Sinks.{SinkState, TookAll};
 ghost use Rattle.words.specs.declared.entry.Entry.{Entry};
@@ -27,6 +28,7 @@ ghost use Rattle.requests.specs.Files.{IsListed, IsImageOf};
 ghost use Rattle.requests.specs.Runs.{ComesBy, addresses};
 ghost use Rattle.simulate.specs.Given.{IsGiven};
 ghost use Rattle.simulate.specs.OneText.{ShowsSteps};
+ghost use Rattle.simulate.specs.Threaded.{IsGivenInThreads};
 ghost use Rattle.requests.specs.Outputs.{Sinks, Texts, TakeAll};
 ghost use Rattle.requests.specs.Sources.{IsProgramIn, IsSourceOf, is_source};
 ghost use Rattle.requests.specs.Starts.{flat_start};
@@ -88,4 +90,12 @@ pub fn reports_are_one()
     ensures { (g : Geometry) (run : Run) (behind : Behind) (show : Show) (file list : List ℕ) (before after earlier later : Sinks) (status other : ℕ) →
         IsTold behind → ShowsSteps show → IsGiven g run behind show file list before after status → IsGiven g run behind show file list earlier later other →
         (other ≡ status) × ((texts : Texts) × TakeAll before after texts × TakeAll earlier later texts) }
+{}
+
+/// Two runs in threads of one file that have written one history, each in an empty file, give one report and one status.
+pub fn threaded_reports_are_one()
+    ensures { (g : Geometry) (run : Run) (path : Bor (List ℕ)) (file history : List ℕ) (before after earlier later : Sinks) (status other : ℕ) →
+        before.file.taken ≡ Some [] → after.file.taken ≡ Some history → earlier.file.taken ≡ Some [] → later.file.taken ≡ Some history →
+        IsGivenInThreads g run (Some path) file before after status → IsGivenInThreads g run (Some path) file earlier later other →
+        (other ≡ status) × ((report : List ℕ) × TookAll before.output after.output report × TookAll earlier.output later.output report) }
 {}
