@@ -1,6 +1,7 @@
 mod calls;
 mod choices;
 mod counters;
+mod faults;
 mod gates;
 mod histories;
 mod lending;

@@ -1,6 +1,5 @@
-//! The text of each fault of a schedule, a run, a session and a lease.
+//! The text of each fault of a schedule, a run and a session.
 
-use board::Refusal;
 use debugger::ConsoleFault;
 use debugger::commands::DebugFault;
 use schedule::{Halt, ScheduleFault, Unseen};
@@ -44,7 +43,5 @@ fn other_faults_have_their_texts(rt: HostRuntime) -> Result<(), AllocError> {
     check_text(&rt, &ScheduleFault::from(AllocError), "no memory")?;
     check_text(&rt, &Halt::from(AllocError), "no memory")?;
     check_text(&rt, &Halt::Untold, "an observer could not tell of a moment")?;
-    check_text(&rt, &Unseen, "an observer could not tell of a moment")?;
-    check_text(&rt, &Refusal::Stale, "the lease is stale")?;
-    check_text(&rt, &Refusal::NoMemory, "no memory")
+    check_text(&rt, &Unseen, "an observer could not tell of a moment")
 }
