@@ -1,8 +1,7 @@
 ghost use Rattle.std.specs.Prelude.{◌≡◌, ℕ, List, Option, Some, None, IsSomeAnd, IfSome, true, false};
 ghost use Rattle.std.specs.Option.{option_map};
 ghost use Rattle.cache.specs.Sets.{line_at};
-ghost use Rattle.words.specs.Harts.{names};
-ghost use Rattle.protocol.specs.Messages.{shown, Granted as ProtocolGranted, Done};
+ghost use Rattle.protocol.specs.Messages.{shown, Done};
 ghost use Rattle.protocol.specs.Lines.{refuses, line_given, line_filled, state_given};
 ghost use Rattle.protocol.specs.Hart.{Request as ProtocolRequest, quiet, sends, with_line, overflow_of};
 ghost use Rattle.protocol.specs.Requests.{granted_so_far, gives_way, grant_row, ack_row, nack_row};
@@ -15,11 +14,12 @@ use cache::Line;
 use conflict::{
     Granted, content_back, earlier, have_answered, keep_ack, keep_grant, keep_nack, refuses,
 };
-use words::{Block, BlockNo, Entry, HartId, HartSet, Kind, LineState, Message, Stamp};
+use words::{Block, BlockNo, Entry, HartId, Kind, LineState, Message, Stamp};
 
 impl<const SETS: usize, const WAYS: usize> Hart<SETS, WAYS> {
     ghost use Rattle.hart.specs.Parts.{StaysPut};
     ghost use Rattle.hart.specs.Places.{KeepsWays};
+    ghost use Rattle.conflict.specs.Requests.{shown_granted};
     ghost use Rattle.hart.specs.Shown.{shown_line, shown_tx, shown_hart};
     ghost use Rattle.hart.specs.Rows.{replied};
 
@@ -40,7 +40,14 @@ impl<const SETS: usize, const WAYS: usize> Hart<SETS, WAYS> {
                 give,
                 content,
                 expect,
-            } => self.on_grant(*block, *give, content, expect),
+            } => self.on_grant(
+                *block,
+                &Granted {
+                    give: *give,
+                    content: *content,
+                    expect: *expect,
+                },
+            ),
             Message::Forward {
                 to: _,
                 block,
@@ -186,26 +193,14 @@ impl<const SETS: usize, const WAYS: usize> Hart<SETS, WAYS> {
     }
 
     #[inline(always)]
-    fn on_grant(
-        &mut self,
-        block: BlockNo,
-        give: LineState,
-        content: &Block,
-        expect: &HartSet,
-    ) -> Reply
+    fn on_grant(&mut self, block: BlockNo, granted: &Granted) -> Reply
         ensures row { (output : List ℕ) →
-            let granted : ProtocolGranted = record { give = give; content = content.now; expect = names expect.now } in
-            grant_row self.old.harts self.old.index block granted (shown_hart SETS output self.old)
+            grant_row self.old.harts self.old.index block (shown_granted granted.now) (shown_hart SETS output self.old)
             ≡ replied SETS output self.new result }
         ensures ways { KeepsWays SETS self.old.cache self.new.cache }
         ensures stays { StaysPut self.old self.new }
     {
-        let granted = Granted {
-            give,
-            content: *content,
-            expect: *expect,
-        };
-        if !keep_grant(&mut self.request, block, &granted) {
+        if !keep_grant(&mut self.request, block, granted) {
             return Reply::none();
         }
         self.settle()
