@@ -97,7 +97,7 @@ module _ (g : Geometry) (v w : State) (twins : AreTwins g v w) where
   victim_is i b (Some s) None at is = absurd (omega (arith, none_past w.seats i is, slice_get_within v.seats i s at, count))
   victim_is i b (Some s) (Some t) at is = ap (λ ways. block_of (victim_in ways)) ((twins.caches i s t at is).ways (b % g.sets))
 
-  victims_are : (step : Step) → victims g.sets v step ≡ victims g.sets w step
+  pub victims_are : (step : Step) → victims g.sets v step ≡ victims g.sets w step
   victims_are (Core i) = fun_ext (λ b. victim_is i b (slice_get v.seats i) (slice_get w.seats i) refl refl)
   victims_are (Evict i c) = refl
   victims_are (Deliver key) = refl

@@ -31,3 +31,6 @@ returns-in-None-receiver g c =
     (subst (λ (m : State). IsEnabledByRule (geometry g.row.SETS g.row.WAYS) m (Deliver c.in-Deliver.key) (not c.is_held.result)) c.self.view_is
     (arrives_if g.row.SETS g.row.WAYS c.in-Deliver.key here (shown_message c.in-Some.message.now) None _ (ap (option_map shown_message) (sym c.in-Some.ensures)) (sym c.in-None-receiver.ensures)
     (ap not (c.is_held.ensures (setting_of here).count ((shown g.row.SETS here).memory (block_of (shown_message c.in-Some.message.now)))))))
+
+pub returns-in-Core : goal.returns-in-Core
+returns-in-Core g c = subst (λ (s : Step). IsEnabledByRule (geometry g.row.SETS g.row.WAYS) c.args.self.now s c.is_core_enabled.result) (sym c.in-Core.is) c.is_core_enabled.ensures
