@@ -9,3 +9,10 @@ mod Lists
 mod Readable
 mod Sent
 mod Showing
+mod OneTurns
+mod OneTold
+mod OneDeed
+mod OneLook
+mod OneAnswer
+mod OneLine
+pub mod OneSession

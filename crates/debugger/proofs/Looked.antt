@@ -39,22 +39,22 @@ module _ (names : Table) (sets : ℕ) (m : State) (l : Look) (a b : SinkState) w
   abbrev IsRefusedAs : Option DebugFault → Result Unit DebugFault → Type 0
   IsRefusedAs o r = IfSome o (λ f. (r ≡ Err f) × (b ≡ a))
 
-  whole : (o : Option DebugFault) (r : Result Unit DebugFault) → refusal m l ≡ o → IsRefusedAs o r → (refusal m l ≡ None → Shown r) → r ≡ Ok tt → Shows names sets m l a b (Ok tt)
-  whole None r is refused shown ok = let s = shown is in put_whole s.0 s.1 (sym ok ∙ s.2)
+  whole : (o : Option DebugFault) (r : Result Unit DebugFault) → refusal m l ≡ o → IsRefusedAs o r → (refusal m l ≡ None → Shown r) → r ≡ Ok tt → (refusal m l ≡ None) × Shows names sets m l a b (Ok tt)
+  whole None r is refused shown ok = let s = shown is in (is, put_whole s.0 s.1 (sym ok ∙ s.2))
   whole (Some f) r is refused shown ok = absurd (not_both r f ok refused.0)
 
   -- it was put
-  pub look_whole : (r : Result Unit DebugFault) → IsRefusedAs (refusal m l) r → (refusal m l ≡ None → Shown r) → r ≡ Ok tt → Shows names sets m l a b (Ok tt)
+  pub look_whole : (r : Result Unit DebugFault) → IsRefusedAs (refusal m l) r → (refusal m l ≡ None → Shown r) → r ≡ Ok tt → (refusal m l ≡ None) × Shows names sets m l a b (Ok tt)
   look_whole r refused shown ok = whole (refusal m l) r refl refused shown ok
 
   cut : (o : Option DebugFault) (r : Result Unit DebugFault) (fault : DebugFault) → refusal m l ≡ o → IsRefusedAs o r → (refusal m l ≡ None → Shown r) → r ≡ Err fault
-      → ((fault ≡ Device) × (f : SinkFault) × Shows names sets m l a b (Err f)) ⊎ ((refusal m l ≡ Some fault) × (b ≡ a))
-  cut None r fault is refused shown err = let s = shown is in inl (put_cut s.0 fault s.1 (sym err ∙ s.2))
+      → ((fault ≡ Device) × (refusal m l ≡ None) × (f : SinkFault) × Shows names sets m l a b (Err f)) ⊎ ((refusal m l ≡ Some fault) × (b ≡ a))
+  cut None r fault is refused shown err = let s = shown is in let p = put_cut s.0 fault s.1 (sym err ∙ s.2) in inl (p.0, is, p.1, p.2)
   cut (Some f) r fault is refused shown err = inr (is ∙ ap (λ x. Some x) (same_err r f fault refused.0 err), refused.1)
 
   -- or not
   pub look_cut : (r : Result Unit DebugFault) (fault : DebugFault) → IsRefusedAs (refusal m l) r → (refusal m l ≡ None → Shown r) → r ≡ Err fault
-      → ((fault ≡ Device) × (f : SinkFault) × Shows names sets m l a b (Err f)) ⊎ ((refusal m l ≡ Some fault) × (b ≡ a))
+      → ((fault ≡ Device) × (refusal m l ≡ None) × (f : SinkFault) × Shows names sets m l a b (Err f)) ⊎ ((refusal m l ≡ Some fault) × (b ≡ a))
   look_cut r fault refused shown err = cut (refusal m l) r fault refl refused shown err
 
 -- of a look that is refused nothing is put

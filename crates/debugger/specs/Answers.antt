@@ -1,5 +1,5 @@
 -- How a session answers a command.
-use Rattle.std.specs.Prelude.{ℕ, ◌≡◌, ◌⊎◌, List, Option, Some, Result, Ok, Err}
+use Rattle.std.specs.Prelude.{ℕ, ◌≡◌, ◌⊎◌, List, Option, Some, None, Result, Ok, Err}
 use Rattle.words.specs.declared.sink.SinkFault.{SinkFault}
 use Rattle.words.specs.Sinks.{SinkState}
 use Rattle.texts.specs.Puts.{Puts}
@@ -32,11 +32,11 @@ Carries g names s command t before after (Err Device) =
     (report : Report) × (text : List ℕ) × (fault : SinkFault) × Does g s command report t × IsTextOf names t.machine report text × Puts before after text (Err fault)
 Carries g names s command t before after (Err fault) = Fails g s command fault t × (after ≡ before)
 
--- what a look shows was put; or a put failed; or the look was refused, and nothing was put
+-- a look isn't refused, and what it shows was put; or a put failed; or it was refused, and nothing was put
 abbrev pub ShowsLook : Table → ℕ → State → Look → SinkState → SinkState → Result Flow DebugFault → Type 0
-ShowsLook names sets m l before after (Ok f) = Shows names sets m l before after (Ok tt) × (f ≡ flow.Go)
+ShowsLook names sets m l before after (Ok f) = (refusal m l ≡ None) × Shows names sets m l before after (Ok tt) × (f ≡ flow.Go)
 ShowsLook names sets m l before after (Err fault) =
-    ((fault ≡ Device) × (put : SinkFault) × Shows names sets m l before after (Err put))
+    ((fault ≡ Device) × (refusal m l ≡ None) × (put : SinkFault) × Shows names sets m l before after (Err put))
     ⊎ ((refusal m l ≡ Some fault) × (after ≡ before))
 
 -- how a command is answered. A look leaves the session as it is

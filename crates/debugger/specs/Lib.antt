@@ -1,10 +1,12 @@
 pub mod Sessions
+pub mod Twins
 pub mod Texts
 pub mod Answers
 pub mod Lines
 pub mod LineAnswers
 pub mod Plays
 pub mod Debugging
+pub mod Sure
 pub mod Faults
 pub mod Manual
 pub mod Spelling

@@ -13,7 +13,7 @@ use Rattle.machine.specs.Making.{MakesStep}
 use Rattle.machine.specs.Reads.{regs_if}
 use Rattle.machine.specs.States.{State, shown, setting_of}
 use Rattle.machine.specs.Turns.{TakesTurn, hart_after}
-use Rattle.machine.specs.Watch.{IsOver, IsEnabled}
+use Rattle.machine.specs.Watch.{IsOver, IsEnabledByRule}
 use Rattle.schedule.specs.Spelling.{name}
 use Rattle.schedule.specs.declared.choices.Choice.{Choice}
 use Rattle.schedule.specs.declared.choices.Choice.TheVariants as choice
@@ -110,13 +110,13 @@ Sets s b t = (has_breakpoint s.breakpoints b ≡ false) × (length s.breakpoints
 -- a step isn't enabled
 abbrev pub IsDisabled : Geometry → Session → Option MachineStep → Type 0
 IsDisabled g s None = Unit {0}
-IsDisabled g s (Some step) = IsEnabled g (shown g.sets s.machine) step false
+IsDisabled g s (Some step) = IsEnabledByRule g s.machine step false
 
 -- a step is enabled, and is made. A core's step makes its hart the last
 abbrev pub Makes : Geometry → Session → Option MachineStep → Option Entry → Session → Type 0
 Makes g s None e t = ⊥
 Makes g s (Some step) e t =
-    IsEnabled g (shown g.sets s.machine) step true × MakesStep g s.machine step e t.machine × (t.last ≡ hart_after step s.last) × (t.breakpoints ≡ s.breakpoints)
+    IsEnabledByRule g s.machine step true × MakesStep g s.machine step e t.machine × (t.last ≡ hart_after step s.last) × (t.breakpoints ≡ s.breakpoints)
 
 -- what is told of a choice: the entry of its step; or the messages that it sent, from the number that the first of them got; or that there was nothing to do
 abbrev pub Chooses : Geometry → Session → Choice → Report → Session → Type 0
@@ -127,7 +127,7 @@ Chooses g s c other t = ⊥
 
 -- there is no memory for a step that is enabled: nothing is done
 abbrev pub LacksRoom : Geometry → Session → Choice → Session → Type 0
-LacksRoom g s c t = (step : MachineStep) × IsStepOf g.sets s.machine s.last c (Some step) × IsEnabled g (shown g.sets s.machine) step true × (t ≡ s)
+LacksRoom g s c t = (step : MachineStep) × IsStepOf g.sets s.machine s.last c (Some step) × IsEnabledByRule g s.machine step true × (t ≡ s)
 
 -- Commands
 
@@ -154,7 +154,7 @@ patience = 1000000
 
 -- a command ends at a limit: so many turns were made; or there is no room for a further breakpoint
 abbrev pub IsLimited : Geometry → Session → Command → Session → Type 0
-IsLimited g s Step t = (n : ℕ) × (n ≡ patience) × Waits g n s t
+IsLimited g s Step t = (IsIdle g.sets s → ⊥) × ((n : ℕ) × (n ≡ patience) × Waits g n s t)
 IsLimited g s (Run n) t = RunsOn g n s t × (IsIdle g.sets t → ⊥)
 IsLimited g s (Break b) t = IsPlaced s (Break b) × (has_breakpoint s.breakpoints b ≡ false) × (length s.breakpoints ≡ most_breakpoints) × (t ≡ s)
 IsLimited g s other t = ⊥

@@ -1,3 +1,4 @@
 pub mod Alone
 pub mod Forwards
 pub mod Kept
+pub mod OneKept

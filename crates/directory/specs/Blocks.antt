@@ -1,5 +1,5 @@
 -- The directory as a value, and as maps from blocks to entries and words.
-use Rattle.std.specs.Prelude.{ℕ, ◌≡◌, ◌≢◌, ◌<◌, ◌≤◌, ⊤, List, [], Option, Some, None, IsSomeAnd, length}
+use Rattle.std.specs.Prelude.{ℕ, ◌≡◌, ◌≢◌, ◌<◌, ◌≤◌, ◌↔◌, ⊤, List, [], Option, Some, None, IsSome, IsSomeAnd, length, map}
 use Rattle.std.specs.Option.{option_map_or}
 use Rattle.std.specs.List.{slice_index_or}
 use Rattle.std.specs.List.Sorted.{IsStrictlySortedBy}
@@ -57,6 +57,15 @@ pub record SetsBlock (old new : Blocks) (b : ℕ) (e : DirEntry) (words : Block)
 -- the entries stand by rising number of their blocks, so that no block has two
 abbrev pub IsInOrder : Blocks → Type 0
 IsInOrder d = IsStrictlySortedBy nat_cmp (keys_of d.kept)
+
+-- the entries that are kept are just those in use, each that of its block, by rising number of their blocks
+pub record KeepsUsed (d : Blocks) : Type 0 where
+  pub order : IsInOrder d
+  pub exact : (b : ℕ) → IsSome (kept_at d b) ↔ (entry_at d b ≢ first_entry)
+
+-- the same entries, as the rows of the protocol speak of them
+abbrev pub shown_kept : Blocks → List (ℕ × DirEntry)
+shown_kept d = map (λ e. (e.0, shown_entry e.1)) d.kept
 
 -- what the protocol's row makes of a message here
 abbrev pub row_of : Blocks → Message → Option Served

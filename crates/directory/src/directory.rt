@@ -3,7 +3,7 @@ ghost use Rattle.words.specs.Limits.{most_harts};
 ghost use Rattle.protocol.specs.Messages.{shown, block_of, Get, Put};
 ghost use Rattle.protocol.specs.Directory.{first_entry, done_of, done_row};
 ghost use Rattle.directory.specs.Entries.{shown_entry, NamesBelow};
-ghost use Rattle.directory.specs.Blocks.{kept_at, entry_at, memory_at, row_of, sender_of, SetsBlock, Follows, Answers, IsInOrder, IsGet};
+ghost use Rattle.directory.specs.Blocks.{kept_at, entry_at, memory_at, row_of, sender_of, SetsBlock, Follows, Answers, IsInOrder, IsGet, KeepsUsed};
 ghost use Rattle.directory.specs.Sends.{AwaitsOthers};
 
 use crate::entry::{Busy, DirEntry, Owner};
@@ -130,6 +130,7 @@ impl Directory {
         ensures err { OnErr result (self.new ≡ self.old) }
         ensures request { OnErr result (IsGet (shown message)) }
         ensures absent { OnErr result (kept_at self.old (block_of (shown message)) ≡ None) }
+        ensures kept { KeepsUsed self.new }
     {
         match self.serve(&message)? {
             Some(answer) => Ok(Received::Sent(sends_of(&answer, self.harts))),
@@ -140,6 +141,25 @@ impl Directory {
     /// The same, with the messages told in short. `None` where the message has to wait.
     #[inline(always)]
     pub fn serve(&mut self, message: &Message) -> Result<Option<Answer>, AllocError>
+        requires block { block_of (shown message.now) < length self.old.memory }
+        requires hart { IfSome (sender_of (shown message.now)) (λ h. h < self.old.harts) }
+        ensures ok { let row = row_of self.old (shown message.now) in
+            IfOk result (λ answer. Answers answer row (block_of (shown message.now)) self.old self.new) }
+        ensures harts { self.new.harts ≡ self.old.harts }
+        ensures others { IfOk result (λ answer. IfSome answer AwaitsOthers) }
+        ensures err { OnErr result (self.new ≡ self.old) }
+        ensures request { OnErr result (IsGet (shown message.now)) }
+        ensures absent { OnErr result (kept_at self.old (block_of (shown message.now)) ≡ None) }
+        ensures kept { KeepsUsed self.new }
+    {
+        let answer = self.follow(message);
+        let _used = self.used();
+        answer
+    }
+
+    /// The same, of which `used` tells that just the entries in use are kept.
+    #[inline(always)]
+    fn follow(&mut self, message: &Message) -> Result<Option<Answer>, AllocError>
         requires block { block_of (shown message.now) < length self.old.memory }
         requires hart { IfSome (sender_of (shown message.now)) (λ h. h < self.old.harts) }
         ensures ok { let row = row_of self.old (shown message.now) in

@@ -1,7 +1,7 @@
 -- Which steps are enabled.
 use Rattle.std.proofs.Common.{◌≡◌, ◌<◌, ◌≤◌, ℕ, Bool, true, false, arith, List, Option, Some, None, length, get_or, refl, sym, ap, subst, ◌∙◌}
 use Rattle.std.specs.Prelude.{◌&&◌, is_some, nat_lt, slice_get}
-use Rattle.std.specs.Option.{option_map_or}
+use Rattle.std.specs.Option.{option_and_then, option_map_or}
 use Rattle.std.proofs.lemmas.Bool.Decides.{nat_tests}
 use Rattle.std.proofs.lemmas.Option.{slice_get_read}
 use Rattle.words.specs.declared.entry.Step.TheVariants.{Core, Evict, Deliver}
@@ -16,7 +16,7 @@ use Rattle.hart.specs.Rows.{setting_of as hart_setting, victim_of}
 use Rattle.machine.specs.Mail.{in_flight}
 use Rattle.machine.specs.Making.{victims}
 use Rattle.machine.specs.States.{Seat, State, shown, geometry, hart_at, setting_of, IsSeated, IsSound}
-use Rattle.machine.specs.Watch.{arrives, IsEnabled}
+use Rattle.machine.specs.Watch.{applies, arrives, IsEnabledByRule}
 use Rattle.machine.proofs.Cores.{Names, may_lack, core_of_none}
 use Rattle.machine.proofs.Reading.{within_count}
 
@@ -52,7 +52,7 @@ module _ (sets ways i : ℕ) (v : State) (s : Seat) (sound : IsSound sets ways v
   -- its core's
   pub core_enabled : (enabled : Bool) → Names sets ways s
       → enabled ≡ is_some (core_row (hart_setting v.program.segments s.hart) s.hart.index v.stamps (victim_of sets s.hart.cache) (shown_hart sets s.output s.hart))
-      → IsEnabled (geometry sets ways) (shown sets v) (Core i) enabled
+      → IsEnabledByRule (geometry sets ways) v (Core i) enabled
   core_enabled enabled names is =
       let victim = victim_of sets s.hart.cache in
       let named : MayNameIn (geometry sets ways) (shown sets v) (Core i) victim =
@@ -61,32 +61,34 @@ module _ (sets ways i : ℕ) (v : State) (s : Seat) (sound : IsSound sets ways v
       ap (λ h. is_some (core_row (setting_of v) i v.stamps victim h)) hart_is
       ∙ (λ k. is_some (core_row (sym setting_is k) (sym seated.index k) v.stamps victim (shown_hart sets s.output s.hart)))
       ∙ sym is in
-      (victim, named, sym (here (is_some (core_row (setting_of v) i v.stamps victim (hart_at sets v.seats i))) ∙ row))
+      let rule : victim ≡ victims sets v (Core i) = sym (ap (λ o b. option_and_then (λ (x : Seat). victim_of sets x.hart.cache b) o) at) in
+      subst (λ victim. MayNameIn (geometry sets ways) (shown sets v) (Core i) victim × (enabled ≡ applies victim (Core i) (shown sets v))) rule
+      (named, sym (here (is_some (core_row (setting_of v) i v.stamps victim (hart_at sets v.seats i))) ∙ row))
 
   -- its eviction of a block
-  pub evict_enabled : (b : ℕ) (enabled : Bool) → enabled ≡ is_some (evict_row s.hart.index b (shown_hart sets s.output s.hart)) → IsEnabled (geometry sets ways) (shown sets v) (Evict i b) enabled
+  pub evict_enabled : (b : ℕ) (enabled : Bool) → enabled ≡ is_some (evict_row s.hart.index b (shown_hart sets s.output s.hart)) → IsEnabledByRule (geometry sets ways) v (Evict i b) enabled
   evict_enabled b enabled is =
       let row : is_some (evict_row i b (hart_at sets v.seats i)) ≡ enabled =
       ap (λ h. is_some (evict_row i b h)) hart_is ∙ ap (λ n. is_some (evict_row n b (shown_hart sets s.output s.hart))) (sym seated.index) ∙ sym is in
-      (λ c. None, tt {0}, sym (here (is_some (evict_row i b (hart_at sets v.seats i))) ∙ row))
+      (tt {0}, sym (here (is_some (evict_row i b (hart_at sets v.seats i))) ∙ row))
 
 -- a number that is no hart's has none
-pub no_core : (sets ways i : ℕ) (v : State) → IsSound sets ways v → length v.seats ≤ i → IsEnabled (geometry sets ways) (shown sets v) (Core i) false
+pub no_core : (sets ways i : ℕ) (v : State) → IsSound sets ways v → length v.seats ≤ i → IsEnabledByRule (geometry sets ways) v (Core i) false
 no_core sets ways i v sound past =
     let step = core_of_none sets ways i v sound past in
-    (victims sets v (Core i), step.may, sym (ap (λ b. b && is_some (core_row (setting_of v) i v.stamps (victims sets v (Core i)) (hart_at sets v.seats i))) (is_past i (length v.seats) past)))
+    (step.may, sym (ap (λ b. b && is_some (core_row (setting_of v) i v.stamps (victims sets v (Core i)) (hart_at sets v.seats i))) (is_past i (length v.seats) past)))
 
-pub no_evict : (sets ways i b : ℕ) (v : State) → length v.seats ≤ i → IsEnabled (geometry sets ways) (shown sets v) (Evict i b) false
-no_evict sets ways i b v past = (λ c. None, tt {0}, sym (ap (λ t. t && is_some (evict_row i b (hart_at sets v.seats i))) (is_past i (length v.seats) past)))
+pub no_evict : (sets ways i b : ℕ) (v : State) → length v.seats ≤ i → IsEnabledByRule (geometry sets ways) v (Evict i b) false
+no_evict sets ways i b v past = (tt {0}, sym (ap (λ t. t && is_some (evict_row i b (hart_at sets v.seats i))) (is_past i (length v.seats) past)))
 
 -- Messages
 
 -- none is under a key
-pub no_message : (sets ways key : ℕ) (v : State) → in_flight v.flights key ≡ None → IsEnabled (geometry sets ways) (shown sets v) (Deliver key) false
-no_message sets ways key v none = (λ b. None, tt {0}, sym (ap (λ o. option_map_or (λ m. arrives (shown sets v) m (receiver_of m)) o false) none))
+pub no_message : (sets ways key : ℕ) (v : State) → in_flight v.flights key ≡ None → IsEnabledByRule (geometry sets ways) v (Deliver key) false
+no_message sets ways key v none = (tt {0}, sym (ap (λ o. option_map_or (λ m. arrives (shown sets v) m (receiver_of m)) o false) none))
 
 -- one is
 pub arrives_if : (sets ways key : ℕ) (v : State) (m : Message) (to : Option ℕ) (enabled : Bool) → in_flight v.flights key ≡ Some m → receiver_of m ≡ to → enabled ≡ arrives (shown sets v) m to
-    → IsEnabled (geometry sets ways) (shown sets v) (Deliver key) enabled
+    → IsEnabledByRule (geometry sets ways) v (Deliver key) enabled
 arrives_if sets ways key v m to enabled at goes is =
-    (λ b. None, tt {0}, is ∙ sym (ap (λ o. option_map_or (λ m. arrives (shown sets v) m (receiver_of m)) o false) at ∙ ap (arrives (shown sets v) m) goes))
+    (tt {0}, is ∙ sym (ap (λ o. option_map_or (λ m. arrives (shown sets v) m (receiver_of m)) o false) at ∙ ap (arrives (shown sets v) m) goes))

@@ -4,6 +4,7 @@ mod Sending
 pub mod Made
 mod OneMessage
 pub mod Twins
+pub mod TwinReads
 pub mod OneTurn
 mod Acting
 mod Staying

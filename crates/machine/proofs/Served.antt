@@ -11,7 +11,7 @@ use Rattle.protocol.specs.Messages.{Block, Message as Told, Get, Put, Done, Gran
 use Rattle.protocol.specs.Network.{taken}
 use Rattle.protocol.specs.Directory.{Served, directory_row}
 use Rattle.protocol.specs.Machine.{served_change, directory_change}
-use Rattle.directory.specs.Blocks.{Blocks, entry_at, row_of, sender_of, SetsBlock, Answers}
+use Rattle.directory.specs.Blocks.{Blocks, KeepsUsed, entry_at, row_of, sender_of, SetsBlock, Answers}
 use Rattle.directory.specs.Sends.{messages_in}
 use Rattle.directory.specs.declared.received.Answer.{Answer}
 use Rattle.isolation.specs.Memory.{IsWithinMemory}
@@ -75,6 +75,7 @@ pub record Serves (key : ℕ) (v w : State) (m : Message) (s : Served) : Type 0 
   pub stamps : w.stamps ≡ v.stamps
   pub row : row_of v.directory (shown_message m) ≡ Some s
   pub block : SetsBlock v.directory w.directory (block_of (shown_message m)) s.entry s.memory
+  pub used : KeepsUsed w.directory
   pub sends : SendsOn (put_at key None (mail_of v.flights)) v.sent s.sent (mail_of w.flights) w.sent
 
 -- the row, as the protocol's machine has it
@@ -87,7 +88,7 @@ row_is sets ways key v m sound here =
 -- a message that is held stays in flight
 pub holds : (sets ways key : ℕ) (v : State) (m : Message) → IsSound sets ways v → in_flight v.flights key ≡ Some (shown_message m) → receiver_of (shown_message m) ≡ None
     → row_of v.directory (shown_message m) ≡ None → MakesStep (geometry sets ways) v (Deliver key) None v
-holds sets ways key v m sound here goes held = arrives sets ways key v m None None v here goes (seats_stay sets v v refl)
+holds sets ways key v m sound here goes held = arrives sets ways key v m None None v here goes (seats_stay sets v v refl) sound.kept
     (subst (λ o. BringsAbout sets v (served_change key (block_of (shown_message m)) o (shown sets v)) None v) (sym (row_is sets ways key v m sound here ∙ held)) (nothing sets v))
 
 -- and one that is served is taken, and the answers are sent
@@ -120,7 +121,7 @@ serves sets ways key v w m s sound here goes d = (made, kept)
     about = record { entry = refl; machine = same; left = put_at key None (mail_of v.flights); leaves = left_without key v.flights; sends = d.sends }
 
     made : MakesStep (geometry sets ways) v (Deliver key) None w
-    made = arrives sets ways key v m None None w here goes (seats_stay sets v w d.seats)
+    made = arrives sets ways key v m None None w here goes (seats_stay sets v w d.seats) d.used
         (subst (λ o. BringsAbout sets v (served_change key b o (shown sets v)) None w) (sym (row_is sets ways key v m sound here ∙ d.row)) about)
 
     kept : IsSound sets ways w
@@ -131,21 +132,22 @@ serves sets ways key v w m s sound here goes d = (made, kept)
           fits = sound.fits;
           count = ap length d.seats ∙ sound.count ∙ sym d.block.harts;
           seats = λ i seat at. subst (λ set. IsSeated set i seat.hart) (sym setting) (sound.seats i seat (sym (ap (λ l. slice_get l i) d.seats) ∙ at));
+          kept = d.used;
           flat = next.0;
           belongs = next.2;
         }
 
 -- the same, of what the directory has answered
 pub follows : (sets ways key : ℕ) (v w : State) (m : Message) (answer : Answer) → IsSound sets ways v → in_flight v.flights key ≡ Some (shown_message m) → receiver_of (shown_message m) ≡ None
-    → Answers (Some answer) (row_of v.directory (shown_message m)) (block_of (shown_message m)) v.directory w.directory
+    → Answers (Some answer) (row_of v.directory (shown_message m)) (block_of (shown_message m)) v.directory w.directory → KeepsUsed w.directory
     → w.program ≡ v.program → w.seats ≡ v.seats → w.stamps ≡ v.stamps → SendsOn (put_at key None (mail_of v.flights)) v.sent (messages_in v.directory.harts answer) (mail_of w.flights) w.sent
     → MakesStep (geometry sets ways) v (Deliver key) None w × IsSound sets ways w
-follows sets ways key v w m answer sound here goes f program seats stamps sends = at (row_of v.directory (shown_message m)) refl f
+follows sets ways key v w m answer sound here goes f used program seats stamps sends = at (row_of v.directory (shown_message m)) refl f
   where
     at : (row : Option Served) → row_of v.directory (shown_message m) ≡ row → Answers (Some answer) row (block_of (shown_message m)) v.directory w.directory
         → MakesStep (geometry sets ways) v (Deliver key) None w × IsSound sets ways w
     at None is none = absurd none
-    at (Some s) is (told, block) = serves sets ways key v w m s sound here goes (record { program = program; seats = seats; stamps = stamps; row = is; block = block; sends = subst (λ ms. SendsOn (put_at key None (mail_of v.flights)) v.sent ms (mail_of w.flights) w.sent) told sends })
+    at (Some s) is (told, block) = serves sets ways key v w m s sound here goes (record { program = program; seats = seats; stamps = stamps; row = is; block = block; used = used; sends = subst (λ ms. SendsOn (put_at key None (mail_of v.flights)) v.sent ms (mail_of w.flights) w.sent) told sends })
 
 -- or has held
 pub held : (sets ways key : ℕ) (v : State) (m : Message) (new : Blocks) → IsSound sets ways v → in_flight v.flights key ≡ Some (shown_message m) → receiver_of (shown_message m) ≡ None

@@ -7,6 +7,7 @@ use Rattle.flat.specs.State.{Setting}
 use Rattle.flat.proofs.Maps.{one_number, two_numbers}
 use Rattle.hart.specs.Parts.{Parts, StaysPut}
 use Rattle.protocol.specs.Machine.{Steps}
+use Rattle.directory.specs.Blocks.{KeepsUsed}
 use Rattle.isolation.proofs.Belongs.Belonging.{belongs_next}
 use Rattle.machine.specs.States.{Seat, State, shown, setting_of, geometry, IsSeated, IsSound}
 use Rattle.machine.proofs.Places.{got_there, got_elsewhere}
@@ -42,6 +43,7 @@ still_sound sets ways i v w old new step e sound a steps =
       fits = sound.fits;
       count = count_after i v w old new a ∙ sound.count ∙ sym (ap (λ d. d.harts) a.directory);
       seats = all_seated i v w old new a sound.seats;
+      kept = subst KeepsUsed (sym a.directory) sound.kept;
       flat = next.0;
       belongs = next.2;
     }

@@ -1,5 +1,5 @@
 -- A step has one outcome: it leads from twins to twins.
-use Rattle.std.proofs.Common.{◌≡◌, ◌<◌, ◌%◌, ◌∙◌, ℕ, true≢false, Option, Some, None, List, [], ◌∷◌, length, inl, inr, arith, refl, sym, ap, subst}
+use Rattle.std.proofs.Common.{◌≡◌, ◌<◌, ◌%◌, ◌∙◌, ℕ, true≢false, Option, Some, None, List, [], ◌∷◌, length, map, inl, inr, arith, refl, sym, ap, subst}
 use Rattle.std.specs.Prelude.{slice_get, is_some, IsSome}
 use Rattle.std.specs.Option.{option_map, option_map_or, option_and_then}
 use Rattle.std.proofs.Math.Path.{fun_ext}
@@ -18,6 +18,8 @@ use Rattle.protocol.specs.Start.{first_hart}
 use Rattle.protocol.specs.Network.{Network}
 use Rattle.protocol.specs.Machine.{Machine, Change, change_of}
 use Rattle.protocol.proofs.Settings.{setting_stays}
+use Rattle.directory.specs.Entries.{shown_entry}
+use Rattle.directory.proofs.OneKept.{one_kept}
 use Rattle.cache.specs.Ways.{victim_in}
 use Rattle.cache.specs.Sets.{IsSound, ways_at, victim_at}
 use Rattle.hart.specs.Places.{IsLaidOut, AreLaidAlike}
@@ -95,7 +97,7 @@ module _ (g : Geometry) (v w : State) (twins : AreTwins g v w) where
   victim_is i b (Some s) None at is = absurd (omega (arith, none_past w.seats i is, slice_get_within v.seats i s at, count))
   victim_is i b (Some s) (Some t) at is = ap (λ ways. block_of (victim_in ways)) ((twins.caches i s t at is).ways (b % g.sets))
 
-  victims_are : (step : Step) → victims g.sets v step ≡ victims g.sets w step
+  pub victims_are : (step : Step) → victims g.sets v step ≡ victims g.sets w step
   victims_are (Core i) = fun_ext (λ b. victim_is i b (slice_get v.seats i) (slice_get w.seats i) refl refl)
   victims_are (Evict i c) = refl
   victims_are (Deliver key) = refl
@@ -139,7 +141,13 @@ module _ (g : Geometry) (v w : State) (twins : AreTwins g v w) where
         (λ c. ap (λ (h : Hart). h.lines c) (sym (hart_is g.sets i u.seats s at) ∙ (ap (λ (m : Machine). m.harts i) machine_is ∙ hart_is g.sets i x.seats t is)))
 
     pub twins_on : AreTwins g u x
-    twins_on = record { machine = machine_is; mail = sent_is.0; sent = sent_is.1; caches = caches_are }
+    twins_on = record {
+      machine = machine_is;
+      mail = sent_is.0;
+      sent = sent_is.1;
+      kept = one_kept u.directory x.directory (ap (λ (m : Machine). m.entries) machine_is) one.kept other.kept;
+      caches = caches_are;
+    }
 
 -- machines of which no step was made
 pub twins_first : (g : Geometry) (v w : State) → shown g.sets v ≡ shown g.sets w → IsUnused g v → IsUnused g w → AreTwins g v w
@@ -147,6 +155,7 @@ twins_first g v w same one other = record {
   machine = same;
   mail = fun_ext (λ key. one.flights key ∙ sym (other.flights key));
   sent = one.sent ∙ sym other.sent;
+  kept = ap (map (λ e. (e.0, shown_entry e.1))) (one.kept ∙ sym other.kept);
   caches = λ i s t at is. record {
     laid = subst (IsLaidOut g.sets) (sym (one.caches i s at)) (laid_empty g.sets g.sets g.ways);
     ways = λ set. ap (λ cache. ways_at cache set) (one.caches i s at ∙ sym (other.caches i t is));
@@ -159,6 +168,7 @@ own_twin g v sound = record {
   machine = refl;
   mail = refl;
   sent = refl;
+  kept = refl;
   caches = λ i s t at is. record {
     laid = laid_sound g.sets g.ways s.hart.cache (sound i s at);
     ways = λ set. ap (λ (x : Seat). ways_at x.hart.cache set) (same_Some s t (sym at ∙ is));

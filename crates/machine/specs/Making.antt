@@ -1,4 +1,5 @@
--- A step of the machine: one of the protocol, in which the cache's rules say which line makes way and where lines stand, and each message that is sent has the next number.
+-- A step of the machine: one of the protocol, in which the cache's rules say which line makes way and where lines stand, each message that is sent has the next number, and the
+-- directory keeps just the entries in use.
 use Rattle.std.specs.Prelude.{ℕ, ◌≡◌, Option, Some, None, slice_get}
 use Rattle.std.specs.Option.{option_and_then}
 use Rattle.words.specs.declared.entry.Entry.{Entry}
@@ -6,6 +7,7 @@ use Rattle.words.specs.declared.entry.Step.{Step}
 use Rattle.words.specs.declared.entry.Step.TheVariants.{Core, Evict, Deliver}
 use Rattle.protocol.specs.Caches.{Geometry}
 use Rattle.protocol.specs.Machine.{Change, MayNameIn, change_of}
+use Rattle.directory.specs.Blocks.{KeepsUsed}
 use Rattle.hart.specs.Rows.{victim_of}
 use Rattle.hart.specs.Places.{KeepsWays}
 use Rattle.machine.specs.Mail.{Mail, SendsOn, IsLeft, in_flight, mail_of}
@@ -38,3 +40,4 @@ pub record MakesStep (g : Geometry) (v : State) (step : Step) (e : Option Entry)
   pub may : MayNameIn g (shown g.sets v) step (victims g.sets v step)
   pub made : BringsAbout g.sets v (change_by g.sets v step) e w
   pub ways : AllKeepWays g.sets v w
+  pub kept : KeepsUsed w.directory

@@ -11,7 +11,7 @@ use Rattle.protocol.specs.Hart.{Hart}
 use Rattle.protocol.specs.Caches.{Geometry}
 use Rattle.protocol.specs.Start.{first_hart}
 use Rattle.protocol.specs.Machine.{Machine}
-use Rattle.directory.specs.Blocks.{Blocks, entry_at}
+use Rattle.directory.specs.Blocks.{Blocks, KeepsUsed, entry_at}
 use Rattle.hart.specs.Parts.{Parts}
 use Rattle.hart.specs.Shown.{shown_hart}
 use Rattle.isolation.specs.Belongs.{Belongs}
@@ -67,11 +67,12 @@ pub record IsSeated (s : Setting) (i : ℕ) (h : Parts) : Type 0 where
   pub log : h.tx.log.base ≡ s.size - log_bytes * (i + 1)
 
 -- what a machine keeps: its caches have a way, and are of a size that fits in memory; there are as many harts as the directory knows of, each at its
--- place; and a flat state belongs to it
+-- place; the directory keeps just the entries in use; and a flat state belongs to it
 pub record IsSound (sets ways : ℕ) (m : State) : Type 0 where
   pub some_way : 0 < ways
   pub fits : sets * ways < 2 ^ 32
   pub count : length m.seats ≡ m.directory.harts
   pub seats : (i : ℕ) (s : Seat) → slice_get m.seats i ≡ Some s → IsSeated (setting_of m) i s.hart
+  pub kept : KeepsUsed m.directory
   pub flat : Flat
   pub belongs : Belongs (geometry sets ways) flat (shown sets m)

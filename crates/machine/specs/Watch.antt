@@ -9,6 +9,7 @@ use Rattle.protocol.specs.Core.{core_row}
 use Rattle.protocol.specs.Evict.{evict_row}
 use Rattle.protocol.specs.Machine.{Machine, MayNameIn}
 use Rattle.machine.specs.States.{State, shown, setting_of}
+use Rattle.machine.specs.Making.{victims}
 use Rattle.machine.specs.Turns.{NoneRuns, is_held}
 
 -- no hart runs
@@ -29,3 +30,7 @@ applies victim (Deliver key) w = option_map_or (λ m. arrives w m (receiver_of m
 -- whether a step is enabled, with victims that the hart's cache may name
 abbrev pub IsEnabled : Geometry → Machine → Step → Bool → Type 0
 IsEnabled g w step enabled = (victim : ℕ → Option ℕ) × MayNameIn g w step victim × (enabled ≡ applies victim step w)
+
+-- the same with the victims that it does name
+abbrev pub IsEnabledByRule : Geometry → State → Step → Bool → Type 0
+IsEnabledByRule g m step enabled = MayNameIn g (shown g.sets m) step (victims g.sets m step) × (enabled ≡ applies (victims g.sets m step) step (shown g.sets m))

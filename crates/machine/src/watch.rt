@@ -7,7 +7,7 @@ ghost use Rattle.flat.specs.State.{Flat};
 ghost use Rattle.network.specs.Flights.{AreNumbered, IsNewest, HasNewestArrived};
 ghost use Rattle.isolation.specs.Belongs.{Belongs};
 ghost use Rattle.machine.specs.Turns.{IsNextTurn, TakesTurn, hart_after};
-ghost use Rattle.machine.specs.Watch.{IsOver, IsEnabled};
+ghost use Rattle.machine.specs.Watch.{IsOver, IsEnabled, IsEnabledByRule};
 
 use crate::machine::Machine;
 use crate::mail::receiver;
@@ -85,7 +85,7 @@ impl<const SETS: usize, const WAYS: usize> Machine<SETS, WAYS> {
 
     /// Whether a hart's core has a step to make.
     fn is_core_enabled(&self, id: HartId) -> bool
-        ensures { IsEnabled (geometry SETS WAYS) (shown SETS self.now) (Core id) result }
+        ensures { IsEnabledByRule (geometry SETS WAYS) self.now (Core id) result }
     {
         match self.seats.get(id.index()) {
             Some(seat) => seat.has_step(&self.program.text(), self.stamps),
@@ -95,7 +95,7 @@ impl<const SETS: usize, const WAYS: usize> Machine<SETS, WAYS> {
 
     /// Whether a hart has a line of a block that it can give up.
     fn is_evict_enabled(&self, id: HartId, block: BlockNo) -> bool
-        ensures { IsEnabled (geometry SETS WAYS) (shown SETS self.now) (Evict id block) result }
+        ensures { IsEnabledByRule (geometry SETS WAYS) self.now (Evict id block) result }
     {
         match self.seats.get(id.index()) {
             Some(seat) => seat.can_evict(block),
@@ -105,7 +105,16 @@ impl<const SETS: usize, const WAYS: usize> Machine<SETS, WAYS> {
 
     /// Whether a step is enabled: one that isn't changes nothing.
     pub fn is_enabled(&self, step: Step) -> bool
-        ensures { IsEnabled (geometry SETS WAYS) (shown SETS self.now) step result }
+        ensures steps { IsEnabled (geometry SETS WAYS) (shown SETS self.now) step result }
+        ensures rule { IsEnabledByRule (geometry SETS WAYS) self.now step result }
+    {
+        self.has_row(step)
+    }
+
+    /// Whether a row of the protocol applies to a step.
+    #[inline(always)]
+    fn has_row(&self, step: Step) -> bool
+        ensures { IsEnabledByRule (geometry SETS WAYS) self.now step result }
     {
         match step {
             Step::Core(id) => self.is_core_enabled(id),

@@ -6,3 +6,4 @@ mod Slots
 mod Spelling
 mod Staying
 mod Telling
+pub mod OnePage

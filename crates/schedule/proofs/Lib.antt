@@ -17,3 +17,4 @@ mod Spelled
 mod Texts
 mod Repeats
 pub mod OneRun
+pub mod SameFlights

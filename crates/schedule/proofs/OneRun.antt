@@ -34,7 +34,7 @@ one_arrival w n (Some (step.Deliver key)) (Some (step.Core i)) one other = absur
 one_arrival w n (Some (step.Deliver key)) (Some (step.Evict i b)) one other = absurd other
 one_arrival w n (Some (step.Deliver key)) (Some (step.Deliver also)) one other = ap (λ k. Some (step.Deliver k)) (other.1 key one.0)
 
-one_step : (g : Geometry) (v w : State) (after : ℕ) (c : Choice) (s t : Option Step) → AreTwins g v w → IsStepOf g.sets v after c s → IsStepOf g.sets w after c t → s ≡ t
+pub one_step : (g : Geometry) (v w : State) (after : ℕ) (c : Choice) (s t : Option Step) → AreTwins g v w → IsStepOf g.sets v after c s → IsStepOf g.sets w after c t → s ≡ t
 one_step g v w after (Core h) s t twins one other = one ∙ sym other
 one_step g v w after (Evict h b) s t twins one other = one ∙ sym other
 one_step g v w after (Deliver n) s t twins one other = one_arrival (shown g.sets w) n s t (subst (λ m. IsArrivalOf m n s) twins.machine one) other

@@ -35,5 +35,5 @@ threaded_once g run path file history before after earlier later status other em
     let again : AreTextsOf g (with_steps run n) Turns Report file list texts_too other =
     subst (λ (k : ℕ). AreTextsOf g (with_steps run k) Turns Report file list texts_too other) steps
     (subst (λ (l : List ℕ). AreTextsOf g (with_steps run m) Turns Report file l texts_too other) same are_too) in
-    let once = texts_once g (with_steps run n) Turns Report file list tt tt texts texts_too status other are again in
+    let once = texts_once g (with_steps run n) Turns Report file list tt texts texts_too status other are again in
     (once.0, (texts.output, took, subst (λ (t : Texts). TookAll earlier.output later.output t.output) once.1 took_too))

@@ -1,6 +1,6 @@
 -- Two runs of one file by one schedule give one report.
 use Rattle.std.proofs.Common.{◌≡◌, ◌<◌, ◌≤◌, ◌+◌, ◌-◌, ◌⊎◌, ◌++◌, ◌∙◌, ℕ, suc, Option, Some, None, List, [], ◌∷◌, map, inl, inr, arith, refl, sym, ap, subst}
-use Rattle.std.specs.List.{flat_map, slice_index_or}
+use Rattle.std.specs.List.{flat_map}
 use Rattle.flat.specs.State.{Flat}
 use Rattle.flat.specs.Steps.{IsRun}
 use Rattle.flat.proofs.Determined.{one_last}
@@ -26,6 +26,9 @@ use Rattle.schedule.specs.Moments.{Moment, entries_of}
 use Rattle.schedule.specs.Runs.{Goes}
 use Rattle.schedule.specs.Twins.{AreTwinRuns}
 use Rattle.schedule.proofs.OneRun.{run_once, same_entries}
+use Rattle.schedule.proofs.SameFlights.{same_items}
+use Rattle.watch.proofs.OneCount.{same_number, same_figures}
+use Rattle.pages.proofs.OnePage.{same_page}
 use Rattle.watch.specs.Traces.{line_if, trace_of}
 use Rattle.timeline.specs.Events.{events_before, events_behind, events_from, slice_event, arrival_event, sent_event, sent_events, next_time}
 use Rattle.timeline.specs.Marks.{lane_of, label_of, edge_of}
@@ -33,7 +36,7 @@ use Rattle.timeline.specs.Timelines.{opening, closing}
 use Rattle.timeline.specs.Drawings.{drawn}
 use Rattle.timeline.specs.Rows.{rows_from}
 use Rattle.simulate.specs.Given.{AreTextsOf, IsGiven}
-use Rattle.simulate.specs.OneText.{ShowsMoments, ShowsSteps}
+use Rattle.simulate.specs.Counted.{counts_text}
 use Rattle.requests.specs.Runs.{ComesBy, addresses}
 use Rattle.requests.specs.Outputs.{Texts, Sinks, TakeAll}
 use Rattle.simulate.specs.Shown.{shown_texts, view_text}
@@ -98,21 +101,6 @@ one_greatest f n s t one other =
 
 -- What is shown
 
--- what is made of the messages in flight doesn't depend on how they lie in memory
-same_items : {T : Type 0} (item : Option T → List ℕ) → item None ≡ [] → (xs ys : List (Option T)) → ((key : ℕ) → slice_index_or xs key None ≡ slice_index_or ys key None) → flat_map item xs ≡ flat_map item ys
-same_items item empty [] [] same = refl
-same_items item empty [] (y ∷ ys) same =
-    let first : item y ≡ [] = ap item (sym (same 0)) ∙ empty in
-    let rest : [] ≡ flat_map item ys = same_items item empty [] ys (λ key. same (suc key)) in
-    λ i. sym first i ++ rest i
-same_items item empty (x ∷ xs) [] same =
-    let first : item x ≡ [] = ap item (same 0) ∙ empty in
-    let rest : flat_map item xs ≡ [] = same_items item empty xs [] (λ key. same (suc key)) in
-    λ i. first i ++ rest i
-same_items item empty (x ∷ xs) (y ∷ ys) same =
-    let rest : flat_map item xs ≡ flat_map item ys = same_items item empty xs ys (λ key. same (suc key)) in
-    λ i. item (same 0 i) ++ rest i
-
 module _ (g : Geometry) where
   same_trace : (names : Table) (ms ns : List Moment) → AreTwinRuns g ms ns → trace_of names ms ≡ trace_of names ns
   same_trace names [] [] twin = refl
@@ -148,36 +136,39 @@ module _ (g : Geometry) where
       ++ (arrival_event time (lane i) (first.arrival i) ++ (all i ++ events_behind time (lane i) (edge_of (first.entry i) (first.after.machine i))))))
       ++ same_events (next_time time) ms ns rest i
 
-  same_view : (names : Table) (view : View) (words : List ℕ) (v w : State) (ms ns : List Moment) → (setting_of v).count ≡ (setting_of w).count → ShowsMoments view → AreTwinRuns g ms ns
+  same_view : (names : Table) (view : View) (words : List ℕ) (v w : State) (ms ns : List Moment) → AreTwins g v w → AreTwinRuns g ms ns
       → view_text names view g words v ms ≡ view_text names view g words w ns
-  same_view names views.Trace words v w ms ns harts shows twin = same_trace names ms ns twin
-  same_view names views.Timeline words v w ms ns harts shows twin = λ i. opening (harts i) ++ (same_events 0 ms ns twin i ++ closing)
-  same_view names views.Picture words v w ms ns harts shows twin = λ i. drawn (harts i) (same_rows 0 ms ns twin i)
-  same_view names views.Page words v w ms ns harts shows twin = absurd shows
+  same_view names views.Trace words v w ms ns first twin = same_trace names ms ns twin
+  same_view names views.Timeline words v w ms ns first twin = λ i. opening (first.machine i).setting.count ++ (same_events 0 ms ns twin i ++ closing)
+  same_view names views.Picture words v w ms ns first twin = λ i. drawn (first.machine i).setting.count (same_rows 0 ms ns twin i)
+  same_view names views.Page words v w ms ns first twin = same_page names g words v w ms ns first twin
 
-  same_texts : (names : Table) (show : Show) (words : List ℕ) (v w : State) (ms ns : List Moment) (report : List ℕ) → (setting_of v).count ≡ (setting_of w).count → ShowsSteps show → AreTwinRuns g ms ns
+  same_texts : (names : Table) (show : Show) (words : List ℕ) (v w : State) (ms ns : List Moment) (report : List ℕ) → AreTwins g v w → AreTwinRuns g ms ns
       → shown_texts names show g words v ms report ≡ shown_texts names show g words w ns report
-  same_texts names shows.Report words v w ms ns report harts shows twin = refl
-  same_texts names (shows.Counts form) words v w ms ns report harts shows twin = absurd shows
-  same_texts names shows.Trace words v w ms ns report harts shows twin = λ i. record { output = same_trace names ms ns twin i ++ (report ++ []); file = [] }
-  same_texts names (shows.View view path) words v w ms ns report harts shows twin = λ i. record { output = [] ++ (report ++ []); file = same_view names view words v w ms ns harts shows twin i }
+  same_texts names shows.Report words v w ms ns report first twin = refl
+  same_texts names (shows.Counts form) words v w ms ns report first twin = λ i. record {
+    output = [] ++ (report ++ counts_text form (λ h k. same_number g h k ms ns twin i) (first.machine i).setting.count (same_figures g ms ns twin i));
+    file = [];
+  }
+  same_texts names shows.Trace words v w ms ns report first twin = λ i. record { output = same_trace names ms ns twin i ++ (report ++ []); file = [] }
+  same_texts names (shows.View view path) words v w ms ns report first twin = λ i. record { output = [] ++ (report ++ []); file = same_view names view words v w ms ns first twin i }
 
-module _ (g : Geometry) (run : Run) (behind : Behind) (show : Show) (file list : List ℕ) (told : IsTold behind) (shows : ShowsSteps show) where
+module _ (g : Geometry) (run : Run) (behind : Behind) (show : Show) (file list : List ℕ) (told : IsTold behind) where
   pub texts_once : (t u : Texts) (s r : ℕ) → AreTextsOf g run behind show file list t s → AreTextsOf g run behind show file list u r → (r ≡ s) × (u ≡ t)
   texts_once t u s r (ms, f, one, (report, is_report, texts)) (ns, h, other, (report_too, is_report_too, texts_too)) =
       let words = addresses run.words.items in
       let names = names_in run.setup.file.now file in
       let twin = twin_runs g run.setup behind file list run.steps told ms ns f h one other in
       let end : h ≡ f = sym (one_flat g run.setup behind file list run.steps told ms ns f h one other) in
-      let harts : (setting_of one.first).count ≡ (setting_of other.first).count = ap (λ (m : Machine). m.setting.count) (twins g run.setup behind file list run.steps told ms ns f h one other).machine in
+      let begin = twins g run.setup behind file list run.steps told ms ns f h one other in
       let reports : report_too ≡ report = is_report_too.text ∙ (ap (λ (e : Flat). report_of e words) end ∙ sym is_report.text) in (
         one_greatest f f.setting.count s r is_report.status (subst (λ (e : Flat). IsStatusOf e r) end is_report_too.status),
-        texts_too ∙ (ap (λ (r : List ℕ). shown_texts names show g words other.first ns r) reports ∙ (sym (same_texts g names show words one.first other.first ms ns report harts shows twin) ∙ sym texts)),
+        texts_too ∙ (ap (λ (r : List ℕ). shown_texts names show g words other.first ns r) reports ∙ (sym (same_texts g names show words one.first other.first ms ns report begin twin) ∙ sym texts)),
       )
 
-pub given_once : (g : Geometry) (run : Run) (behind : Behind) (show : Show) (file list : List ℕ) (before after earlier later : Sinks) (status other : ℕ) → IsTold behind → ShowsSteps show
+pub given_once : (g : Geometry) (run : Run) (behind : Behind) (show : Show) (file list : List ℕ) (before after earlier later : Sinks) (status other : ℕ) → IsTold behind
     → IsGiven g run behind show file list before after status → IsGiven g run behind show file list earlier later other
     → (other ≡ status) × ((texts : Texts) × TakeAll before after texts × TakeAll earlier later texts)
-given_once g run behind show file list before after earlier later status other told shows (goes, (texts, are, took)) (goes_too, (texts_too, are_too, took_too)) =
-    let once = texts_once g run behind show file list told shows texts texts_too status other are are_too in
+given_once g run behind show file list before after earlier later status other told (goes, (texts, are, took)) (goes_too, (texts_too, are_too, took_too)) =
+    let once = texts_once g run behind show file list told texts texts_too status other are are_too in
     (once.0, (texts, took, subst (λ (x : Texts). TakeAll earlier later x) once.1 took_too))

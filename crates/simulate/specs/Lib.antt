@@ -7,4 +7,3 @@ pub mod Kept
 pub mod Threaded
 pub mod Carried
 pub mod Answered
-pub mod OneText

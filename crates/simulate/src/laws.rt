@@ -27,7 +27,6 @@ ghost use Rattle.requests.specs.Ends.{search_start, AreEndsGiven};
 ghost use Rattle.requests.specs.Files.{IsListed, IsImageOf};
 ghost use Rattle.requests.specs.Runs.{ComesBy, addresses};
 ghost use Rattle.simulate.specs.Given.{IsGiven};
-ghost use Rattle.simulate.specs.OneText.{ShowsSteps};
 ghost use Rattle.simulate.specs.Threaded.{IsGivenInThreads};
 ghost use Rattle.requests.specs.Outputs.{Sinks, Texts, TakeAll};
 ghost use Rattle.requests.specs.Sources.{IsProgramIn, IsSourceOf, is_source};
@@ -84,11 +83,11 @@ pub fn assembled_files_run_as_spelled()
         (p : Program) × IsSourceOf source p × IsRun (flat_start p setup) (entries_of moments) f }
 {}
 
-/// Two runs of one file by one schedule, behind which come turns or choices of chance that were kept, give one report and one status. If they show them, they
-/// also give one trace, one timeline and one picture.
+/// Two runs of one file by one schedule, behind which come turns or choices of chance that were kept, give one report and one status, and all that they show
+/// beside it is one: the trace, the counts, the timeline, the picture, the page.
 pub fn reports_are_one()
     ensures { (g : Geometry) (run : Run) (behind : Behind) (show : Show) (file list : List ℕ) (before after earlier later : Sinks) (status other : ℕ) →
-        IsTold behind → ShowsSteps show → IsGiven g run behind show file list before after status → IsGiven g run behind show file list earlier later other →
+        IsTold behind → IsGiven g run behind show file list before after status → IsGiven g run behind show file list earlier later other →
         (other ≡ status) × ((texts : Texts) × TakeAll before after texts × TakeAll earlier later texts) }
 {}
 

@@ -7,3 +7,4 @@ mod Sending
 mod Tallying
 mod Zeros
 pub mod SameTexts
+pub mod OneCount

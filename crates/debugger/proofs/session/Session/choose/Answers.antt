@@ -15,7 +15,7 @@ returns-in-Some-entry g c =
       Some c.in-Some.step,
       c.in-Some.ensures,
       makes G before c.step-2.new.self c.hart_after-self-inside.result c.in-Some.step c.is_enabled.result c.in-Ok.entry (Some c.in-Some-entry.entry)
-          c.if-not-is_enabled.false c.is_enabled.ensures c.in-Some-entry.is c.in-Ok.ensures.made c.hart_after-self-inside.ensures,
+          c.if-not-is_enabled.false c.is_enabled.ensures.rule c.in-Some-entry.is c.in-Ok.ensures.made c.hart_after-self-inside.ensures,
     )
 
 pub returns : goal.returns
@@ -27,6 +27,6 @@ returns g c =
       Some c.in-Some.step,
       c.in-Some.ensures,
       makes G before c.step-2.new.self c.hart_after-self-inside.result c.in-Some.step c.is_enabled.result c.in-Ok.entry None c.if-not-is_enabled.false
-          c.is_enabled.ensures c.in-None.is c.in-Ok.ensures.made c.hart_after-self-inside.ensures,
+          c.is_enabled.ensures.rule c.in-None.is c.in-Ok.ensures.made c.hart_after-self-inside.ensures,
       c.sent-number.ensures,
     )

@@ -39,7 +39,7 @@ serves g c =
     follows g.row.SETS g.row.WAYS c.args.key (before g c) (after g c) c.in-Some.message.now c.in-Some-2.answer c.self.invariant
     (here g c) (goes_to _ _ _ (here g c) (ap (λ (m : State). option_map receiver_of (in_flight m.flights c.args.key)) c.self.view_is ∙ c.requires))
     (subst (λ r. Answers r (row_of (before g c).directory (shown_message c.in-Some.message.now)) (block_of (shown_message c.in-Some.message.now)) (before g c).directory (after g c).directory) c.in-Some-2.is c.in_ok-serve.ensures.ok)
-    refl refl refl
+    c.serve.ensures.kept refl refl refl
     (subst₂ (λ f n. SendsOn (put_at c.args.key None (mail_of f)) n (messages_in c.self.inside.directory.harts c.in-Some-2.answer) (mail_of (after g c).flights) (after g c).sent)
     c.in_ok-reserve.ensures.same c.in_ok-reserve.ensures.number
     (subst₂ (λ mail n. SendsOn mail n (messages_in c.self.inside.directory.harts c.in-Some-2.answer) (mail_of (after g c).flights) (after g c).sent) c.take.ensures.mail c.take.ensures.number

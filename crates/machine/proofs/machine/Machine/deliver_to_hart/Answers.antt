@@ -17,7 +17,7 @@ returns-then-i-len g c =
     let here : in_flight v.flights c.args.key ≡ Some (shown_message c.in-Some.message.now) = ap (λ (m : State). in_flight m.flights c.args.key) (sym c.self.view_is) ∙ ap (option_map shown_message) (sym c.in-Some.ensures) in
     let count : length c.self.inside.seats.items ≡ length v.seats = ap (λ (m : State). length m.seats) c.self.view_is in
     let past : length v.seats ≤ c.args.id = omega (arith, c.len.ensures, c.index-i.ensures.value, c.if-i-len.true, count) in
-    arrives_nowhere g.row.SETS g.row.WAYS c.args.key c.args.id v c.in-Some.message.now here (goes_to _ _ _ here c.requires) past
+    arrives_nowhere g.row.SETS g.row.WAYS c.args.key c.args.id v c.in-Some.message.now (subst (IsSound g.row.SETS g.row.WAYS) c.self.view_is c.self.invariant) here (goes_to _ _ _ here c.requires) past
 
 -- the machine before and after, and the hart's seat
 abbrev before : (g : Over) (c : goal.After-send g) → State

@@ -1,6 +1,7 @@
 use Rattle.std.proofs.Common.{◌≡◌, ◌<◌, ◌≤◌, arith, length, None, get_or, refl, sym, ap, subst, subst₂}
 use Rattle.std.specs.Prelude.{slice_set}
 use Rattle.words.specs.declared.entry.Step.TheVariants.{Evict}
+use Rattle.directory.specs.Blocks.{KeepsUsed}
 use Rattle.machine.specs.Making.{MakesStep}
 use Rattle.machine.specs.States.{State, Seat, geometry, IsSound}
 use Rattle.machine.proofs.Acting.{Acts, rests_still}
@@ -18,7 +19,7 @@ returns-then-i-len-clause-steps g c =
     let v : State = c.args.self.now in
     let count : length c.self.inside.seats.items ≡ length v.seats = ap (λ (m : State). length m.seats) c.self.view_is in
     let past : length v.seats ≤ c.args.id = omega (arith, c.len.ensures, c.index-i.ensures.value, c.if-i-len.true, count) in
-    record { may = tt {0}; made = of_none g.row.SETS c.args.id v _ past; ways = seats_stay g.row.SETS v v refl }
+    record { may = tt {0}; made = of_none g.row.SETS c.args.id v _ past; ways = seats_stay g.row.SETS v v refl; kept = subst (λ (m : State). KeepsUsed m.directory) c.self.view_is c.self.invariant.kept }
 
 -- the machine before and after, and the seat
 abbrev before : (g : Over) (c : goal.After-send g) → State

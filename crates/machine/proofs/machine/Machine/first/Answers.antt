@@ -5,6 +5,7 @@ use Rattle.flat.specs.State.{Setting}
 use Rattle.flat.specs.Boots.{booted}
 use Rattle.loader.specs.Memory.{mem_of}
 use Rattle.protocol.specs.Start.{start}
+use Rattle.directory.proofs.OneKept.{none_used}
 use Rattle.isolation.specs.Belongs.{Belongs}
 use Rattle.isolation.proofs.Belongs.Belonging.{belongs_start}
 use Rattle.isolation.proofs.Words.Bytes.{words_same}
@@ -51,6 +52,7 @@ invariant_of-result g c = record {
   seats = λ j x at.
       let b : Begins g.row.SETS c.args.program c.args.harts c.args.size (made g c) = is_first g c in
       c.in_ok-seats.ensures.seated (setting_of (made g c)) j x b.blocks b.count at;
+  kept = none_used c.new-2.result c.new-2.ensures.entries;
   flat = booted c.args.program.segments c.args.program.entry c.args.harts c.args.size;
   belongs = belongs g c;
 }

@@ -1,0 +1,123 @@
+-- What a look shows is the same on machines that no step tells apart. Left open is a word of the undo logs: what stands there behind the records isn't said by the protocol.
+use Rattle.std.proofs.Common.{◌≡◌, ◌<◌, ◌/◌, ◌%◌, ◌==◌, ◌&&◌, ◌++◌, ◌∙◌, ℕ, Bool, true, false, cond, Option, Some, None, List, [], ◌∷◌, length, codes, inl, inr, arith, refl, sym, ap, subst}
+use Rattle.std.specs.Prelude.{IfSome, is_some}
+use Rattle.std.specs.Option.{option_map, option_map_or, option_or}
+use Rattle.std.specs.List.{flat_map, range_with_len, slice_index_or}
+use Rattle.std.proofs.Math.Path.{fun_ext}
+use Rattle.words.specs.Limits.{block_bytes}
+use Rattle.table.specs.Program.{word_at}
+use Rattle.network.specs.declared.net.Flight.{Flight}
+use Rattle.network.specs.Flights.{IsSentBefore, IsNext, NoneAfter, ComesAfter}
+use Rattle.protocol.specs.Caches.{Geometry}
+use Rattle.protocol.specs.Machine.{Machine}
+use Rattle.disassembler.specs.Tables.{Table}
+use Rattle.disassembler.specs.Listing.{line}
+use Rattle.render.specs.Blocks.{directory_text}
+use Rattle.render.specs.Registers.{registers_lines}
+use Rattle.machine.specs.Mail.{Mail}
+use Rattle.machine.specs.Reads.{info_of}
+use Rattle.machine.specs.States.{State, setting_of, shown}
+use Rattle.machine.specs.Turns.{is_held}
+use Rattle.machine.specs.Twins.{AreTwins}
+use Rattle.machine.proofs.TwinReads.{each_kept, raw_is, peek_is, view_is}
+use Rattle.debugger.specs.declared.commands.command.Look.{Look}
+use Rattle.debugger.specs.declared.commands.command.Look.TheVariants.{Regs, Word, Raw, View, Line, Dir, Dirs, Tx, Log, Dis, Messages, Harts, Help}
+use Rattle.debugger.specs.declared.commands.fault.DebugFault.{DebugFault}
+use Rattle.debugger.specs.declared.commands.fault.DebugFault.TheVariants.{Address}
+use Rattle.debugger.specs.Refusals.{hart_fault, word_fault, text_fault}
+use Rattle.debugger.specs.LookTexts.{cached_line, tx_line, entry_line, message_line}
+use Rattle.debugger.specs.Looks.{refusal, AreSentAfter, flight_line, line_of_hart, word_text, IsTextOf}
+use Rattle.debugger.specs.Sure.{LooksElsewhere}
+use Rattle.debugger.proofs.Readable.{lies_below}
+
+-- a message is before another, or the other before it
+one_order : (f h : Flight) (i j : ℕ) → IsSentBefore f i h j → IsSentBefore h j f i → i ≡ j
+one_order f h i j (inl lower) (inl higher) = absurd (omega (arith, lower, higher))
+one_order f h i j (inl lower) (inr same) = absurd (omega (arith, lower, same.0))
+one_order f h i j (inr same) (inl higher) = absurd (omega (arith, higher, same.0))
+one_order f h i j (inr same) (inr also) = omega (arith, same.1, also.1)
+
+-- no word of text is there
+not_there : (b : Bool) → ◌≡◌ {A = Option DebugFault} (cond (b && false) None (Some Address)) None → ⊥
+not_there true is = cc
+not_there false is = cc
+
+module _ (names : Table) (g : Geometry) (v w : State) (twins : AreTwins g v w) where
+  -- the same looks are refused
+  pub refusal_is : (l : Look) → LooksElsewhere l → refusal v l ≡ refusal w l
+  refusal_is (Regs h) looks = ap (λ (m : Machine). hart_fault m.setting h) twins.machine
+  refusal_is (Word a) looks = ap (λ (m : Machine). word_fault m.setting a) twins.machine
+  refusal_is (Raw a) looks = ap (λ (m : Machine). word_fault m.setting a) twins.machine
+  refusal_is (View h a) looks = ap (λ (m : Machine). option_or (hart_fault m.setting h) (word_fault m.setting a)) twins.machine
+  refusal_is (Line h a) looks = ap (λ (m : Machine). option_or (hart_fault m.setting h) (word_fault m.setting a)) twins.machine
+  refusal_is (Dir a) looks = ap (λ (m : Machine). word_fault m.setting a) twins.machine
+  refusal_is Dirs looks = refl
+  refusal_is (Tx h) looks = ap (λ (m : Machine). hart_fault m.setting h) twins.machine
+  refusal_is (Log a) looks = absurd looks
+  refusal_is (Dis b) looks = ap (λ (m : Machine). text_fault m.setting b) twins.machine
+  refusal_is Messages looks = refl
+  refusal_is Harts looks = refl
+  refusal_is Help looks = refl
+
+  -- The messages in flight, by age
+
+  there : (key : ℕ) (f : Flight) → slice_index_or w.flights key None ≡ Some f → slice_index_or v.flights key None ≡ Some f
+  there key f at = ap (λ (mail : Mail). mail key) twins.mail ∙ at
+
+  back : (key : ℕ) (f : Flight) → slice_index_or v.flights key None ≡ Some f → slice_index_or w.flights key None ≡ Some f
+  back key f at = sym (ap (λ (mail : Mail). mail key) twins.mail) ∙ at
+
+  comes_there : (last : Option ℕ) (key : ℕ) (f : Flight) → ComesAfter w.flights last key f → ComesAfter v.flights last key f
+  comes_there None key f comes = tt
+  comes_there (Some last) key f comes = λ h at. comes h (back last h at)
+
+  comes_back : (last : Option ℕ) (key : ℕ) (f : Flight) → ComesAfter v.flights last key f → ComesAfter w.flights last key f
+  comes_back None key f comes = tt
+  comes_back (Some last) key f comes = λ h at. comes h (there last h at)
+
+  next_once : (last : Option ℕ) (i j : ℕ) → IsNext v.flights last i → IsNext w.flights last j → i ≡ j
+  next_once last i j one other = one_order one.flight other.flight i j
+      (one.first j other.flight (there j other.flight other.here) (comes_there last j other.flight other.after))
+      (other.first i one.flight (back i one.flight one.here) (comes_back last i one.flight one.after))
+
+  keys_once : (last : Option ℕ) (xs ys : List ℕ) → AreSentAfter v.flights last xs → AreSentAfter w.flights last ys → xs ≡ ys
+  keys_once last [] [] one other = refl
+  keys_once last [] (y ∷ ys) one (next, rest) = absurd (one y next.flight (there y next.flight next.here) (comes_there last y next.flight next.after))
+  keys_once last (x ∷ xs) [] (next, rest) other = absurd (other x next.flight (back x next.flight next.here) (comes_back last x next.flight next.after))
+  keys_once last (x ∷ xs) (y ∷ ys) (next, rest) (next_too, rest_too) =
+      let same : x ≡ y = next_once last x y next next_too in
+      let others : xs ≡ ys = keys_once (Some x) xs ys rest (subst (λ (k : ℕ). AreSentAfter w.flights (Some k) ys) (sym same) rest_too) in
+      λ k. same k ∷ others k
+
+  flight_is : (key : ℕ) → flight_line g.sets v key ≡ flight_line g.sets w key
+  flight_is key = λ k. message_line (option_map (λ f. f.message) (twins.mail k key)) (option_map_or (is_held (twins.machine k)) ((twins.machine k).net key) false)
+
+  -- A word of text
+
+  text_once : (b : ℕ) (o : Option ℕ) (one other : List ℕ) → word_at (setting_of v).segments b ≡ o → text_fault (setting_of v) b ≡ None
+      → IfSome o (λ x. one ≡ line names b x) → IfSome o (λ x. other ≡ line names b x) → one ≡ other
+  text_once b None one other at fine is also = absurd (not_there (b % 4 == 0) (sym (ap (λ (o : Option ℕ). cond ((b % 4 == 0) && is_some o) None (Some Address)) at) ∙ fine))
+  text_once b (Some x) one other at fine is also = is ∙ sym also
+
+  -- what each look shows
+  pub look_once : (l : Look) (one other : List ℕ) → LooksElsewhere l → refusal v l ≡ None → IsTextOf names g.sets v l one → IsTextOf names g.sets w l other → one ≡ other
+  look_once (Regs h) one other looks fine is also =
+      is ∙ (ap (λ (m : Machine). registers_lines names (m.harts h).regs (m.harts h).pc (m.harts h).status) twins.machine ∙ sym also)
+  look_once (Word a) one other looks fine is also =
+      is (length v.flights) (lies_below v.flights) ∙ (ap (word_text a) (peek_is g v w twins) ∙ sym (also (length w.flights) (lies_below w.flights)))
+  look_once (Raw a) one other looks fine is also =
+      is (length v.flights) (lies_below v.flights) ∙ (ap (word_text a) (raw_is g v w twins) ∙ sym (also (length w.flights) (lies_below w.flights)))
+  look_once (View h a) one other looks fine is also =
+      is (length v.flights) (lies_below v.flights) ∙ (ap (word_text a) (view_is g v w twins h) ∙ sym (also (length w.flights) (lies_below w.flights)))
+  look_once (Line h a) one other looks fine is also = is ∙ (ap (λ (m : Machine). cached_line ((m.harts h).lines (a / block_bytes))) twins.machine ∙ sym also)
+  look_once (Dir a) one other looks fine is also = is ∙ (ap (λ (m : Machine). directory_text (m.entries (a / block_bytes)) ++ codes "\n") twins.machine ∙ sym also)
+  look_once Dirs one other looks fine is also = is ∙ (each_kept g v w twins (λ e. entry_line e.0 e.1) ∙ sym also)
+  look_once (Tx h) one other looks fine is also = is ∙ (ap (λ (m : Machine). tx_line (option_map info_of (m.harts h).tx)) twins.machine ∙ sym also)
+  look_once (Log a) one other looks fine is also = absurd looks
+  look_once (Dis b) one other looks fine is also = text_once b (word_at (setting_of v).segments b) one other refl fine is
+      (subst (λ (m : Machine). IfSome (word_at m.setting.segments b) (λ x. other ≡ line names b x)) (sym twins.machine) also)
+  look_once Messages one other looks fine (xs, ordered, is) (ys, ordered_too, also) =
+      is ∙ (ap (flat_map (flight_line g.sets v)) (keys_once None xs ys ordered ordered_too)
+      ∙ (ap (λ (item : ℕ → List ℕ). flat_map item ys) (fun_ext flight_is) ∙ sym also))
+  look_once Harts one other looks fine is also = is ∙ (ap (λ (m : Machine). flat_map (line_of_hart names m) (range_with_len 0 m.setting.count)) twins.machine ∙ sym also)
+  look_once Help one other looks fine is also = is ∙ sym also

@@ -1,0 +1,76 @@
+-- What is read of machines that no step tells apart is the same.
+use Rattle.std.proofs.Common.{◌≡◌, ◌≤◌, ◌+◌, ◌++◌, ◌∙◌, ℕ, Bool, Option, None, List, [], ◌∷◌, get_or, length, map, arith, refl, sym, ap, subst}
+use Rattle.std.specs.List.{flat_map}
+use Rattle.std.proofs.Math.Path.{fun_ext}
+use Rattle.std.proofs.lemmas.List.{length-map}
+use Rattle.words.specs.declared.entry.Step.{Step}
+use Rattle.cache.specs.declared.line.Line.{Line}
+use Rattle.protocol.specs.Caches.{Geometry}
+use Rattle.protocol.specs.Directory.{DirEntry}
+use Rattle.protocol.specs.Machine.{Machine}
+use Rattle.protocol.specs.Network.{LiesBelow}
+use Rattle.protocol.specs.Values.{raw, peek, view}
+use Rattle.protocol.proofs.Keys.{same_raw, same_peek, same_view}
+use Rattle.directory.specs.declared.entry.DirEntry.{DirEntry as CodedEntry}
+use Rattle.directory.specs.Entries.{shown_entry}
+use Rattle.machine.specs.States.{State, shown}
+use Rattle.machine.specs.Twins.{AreTwins}
+use Rattle.machine.specs.Watch.{applies, IsEnabledByRule}
+use Rattle.machine.proofs.Answered.{all_below}
+use Rattle.machine.proofs.Twins.{victims_are}
+
+-- an entry with its block
+abbrev told : ℕ × CodedEntry → ℕ × DirEntry
+told e = (e.0, shown_entry e.1)
+
+by_entry : {A : Type 0} (f : ℕ × DirEntry → List A) (es : List (ℕ × CodedEntry)) → flat_map (λ e. f (told e)) es ≡ flat_map f (map told es)
+by_entry f [] = refl
+by_entry f (e ∷ es) = ap (λ rest. f (told e) ++ rest) (by_entry f es)
+
+module _ (g : Geometry) (v w : State) (twins : AreTwins g v w) where
+  -- the one is the other's twin
+  pub twins_back : AreTwins g w v
+  twins_back = record {
+    machine = sym twins.machine;
+    mail = sym twins.mail;
+    sent = sym twins.sent;
+    kept = sym twins.kept;
+    caches = λ i s t at is.
+        let alike = twins.caches i t s is at in
+        record {
+          laid = λ set way line here.
+              let stands = alike.laid set way line (ap (λ (ways : List (Option Line)). get_or ways way None) (alike.ways set) ∙ here) in
+              record { placed = stands.placed; alone = λ other beside apart there. stands.alone other beside apart (ap (λ (ways : List (Option Line)). get_or ways other None) (alike.ways set) ∙ there) };
+          ways = λ set. sym (alike.ways set);
+        };
+  }
+
+  -- the directory's entries
+  pub as_many_kept : length v.directory.kept ≡ length w.directory.kept
+  as_many_kept = sym (length-map v.directory.kept told) ∙ (ap (λ (es : List (ℕ × DirEntry)). length es) twins.kept ∙ length-map w.directory.kept told)
+
+  pub each_kept : {A : Type 0} (f : ℕ × DirEntry → List A) → flat_map (λ e. f (e.0, shown_entry e.1)) v.directory.kept ≡ flat_map (λ e. f (e.0, shown_entry e.1)) w.directory.kept
+  each_kept f = by_entry f v.directory.kept ∙ (ap (flat_map f) twins.kept ∙ sym (by_entry f w.directory.kept))
+
+  -- the same steps are enabled
+  pub enabled_once : (step : Step) (a b : Bool) → IsEnabledByRule g v step a → IsEnabledByRule g w step b → a ≡ b
+  enabled_once step a b one other = one.1 ∙ ((λ k. applies (victims_are g v w twins step k) step (twins.machine k)) ∙ sym other.1)
+
+  -- bytes: the messages of both lie below the keys of either
+  below : LiesBelow (length v.flights) (shown g.sets w).net
+  below = subst (λ (m : Machine). LiesBelow (length v.flights) m.net) twins.machine (all_below v.flights)
+
+  pub raw_is : raw (length v.flights) (shown g.sets v) ≡ raw (length w.flights) (shown g.sets w)
+  raw_is = ap (raw (length v.flights)) twins.machine ∙ fun_ext (λ a.
+      sym (same_raw (shown g.sets w) (length v.flights) (length v.flights + length w.flights) a below (omega arith))
+      ∙ same_raw (shown g.sets w) (length w.flights) (length v.flights + length w.flights) a (all_below w.flights) (omega arith))
+
+  pub peek_is : peek (length v.flights) (shown g.sets v) ≡ peek (length w.flights) (shown g.sets w)
+  peek_is = ap (peek (length v.flights)) twins.machine ∙ fun_ext (λ a.
+      sym (same_peek (shown g.sets w) (length v.flights) (length v.flights + length w.flights) a below (omega arith))
+      ∙ same_peek (shown g.sets w) (length w.flights) (length v.flights + length w.flights) a (all_below w.flights) (omega arith))
+
+  pub view_is : (i : ℕ) → view (length v.flights) (shown g.sets v) i ≡ view (length w.flights) (shown g.sets w) i
+  view_is i = ap (λ (m : Machine). view (length v.flights) m i) twins.machine ∙ fun_ext (λ a.
+      sym (same_view (shown g.sets w) (length v.flights) (length v.flights + length w.flights) i a below (omega arith))
+      ∙ same_view (shown g.sets w) (length w.flights) (length v.flights + length w.flights) i a (all_below w.flights) (omega arith))

@@ -1,0 +1,57 @@
+-- Runs that no one tells apart have the same counts.
+use Rattle.std.proofs.Common.{◌≡◌, ◌+◌, ◌++◌, ◌∙◌, ℕ, max, List, [], ◌∷◌, refl, ap}
+use Rattle.std.specs.Prelude.{count_by, is_some}
+use Rattle.std.specs.List.{flat_map}
+use Rattle.std.proofs.Math.Path.{fun_ext}
+use Rattle.protocol.specs.Caches.{Geometry}
+use Rattle.machine.specs.Mail.{Mail}
+use Rattle.machine.specs.Twins.{AreTwins}
+use Rattle.machine.proofs.TwinReads.{as_many_kept}
+use Rattle.schedule.specs.Moments.{Moment}
+use Rattle.schedule.specs.Twins.{AreTwinMoments, AreTwinRuns}
+use Rattle.schedule.proofs.SameFlights.{AreAlike, same_count}
+use Rattle.watch.specs.declared.kinds.Kind.{Kind}
+use Rattle.watch.specs.declared.figures.Sum.{Sum}
+use Rattle.watch.specs.declared.figures.Figure.{Figure}
+use Rattle.watch.specs.declared.figures.Figure.TheVariants as figure
+use Rattle.watch.specs.Kinds.{one_if, counts_if, counts_asked, counts_in, asks_if, number_in, number_of}
+use Rattle.watch.specs.Traffic.{was_sent, is_same, sum_of_step, total, in_flight, in_use, most, capped, figure_of}
+
+module _ (g : Geometry) where
+  flights_alike : (m n : Moment) → AreTwinMoments g m n → AreAlike m.after.flights n.after.flights
+  flights_alike m n twins key = ap (λ (mail : Mail). mail key) twins.after.mail
+
+  same_counts : (ms ns : List Moment) → AreTwinRuns g ms ns → flat_map (counts_in g.sets) ms ≡ flat_map (counts_in g.sets) ns
+  same_counts [] [] twins = refl
+  same_counts [] (n ∷ ns) twins = absurd twins
+  same_counts (m ∷ ms) [] twins = absurd twins
+  same_counts (m ∷ ms) (n ∷ ns) (first, rest) = λ i.
+      (counts_if (first.entry i) ++ counts_asked (first.after.machine i) (first.sent i) (first.after.sent i) (asks_if (first.arrival i)) (first.step i)) ++ same_counts ms ns rest i
+
+  -- of each hart
+  pub same_number : (h : ℕ) (k : Kind) (ms ns : List Moment) → AreTwinRuns g ms ns → number_of g.sets h k ms ≡ number_of g.sets h k ns
+  same_number h k ms ns twins = ap (number_in h k) (same_counts ms ns twins)
+
+  same_total : (s : Sum) (ms ns : List Moment) → AreTwinRuns g ms ns → total s ms ≡ total s ns
+  same_total s [] [] twins = refl
+  same_total s [] (n ∷ ns) twins = absurd twins
+  same_total s (m ∷ ms) [] twins = absurd twins
+  same_total s (m ∷ ms) (n ∷ ns) (first, rest) =
+      let sent : count_by (was_sent m.sent s) m.after.flights ≡ count_by (was_sent n.sent s) n.after.flights =
+      (λ i. count_by (was_sent (first.sent i) s) m.after.flights) ∙ same_count (was_sent n.sent s) refl m.after.flights n.after.flights (flights_alike m n first) in
+      λ i. (one_if (is_same s (sum_of_step (first.step i))) + sent i) + same_total s ms ns rest i
+
+  same_most : (level : Moment → ℕ) → ((m n : Moment) → AreTwinMoments g m n → level m ≡ level n) → (ms ns : List Moment) → AreTwinRuns g ms ns → most level ms ≡ most level ns
+  same_most level same [] [] twins = refl
+  same_most level same [] (n ∷ ns) twins = absurd twins
+  same_most level same (m ∷ ms) [] twins = absurd twins
+  same_most level same (m ∷ ms) (n ∷ ns) (first, rest) = λ i. max (same m n first i) (same_most level same ms ns rest i)
+
+  same_figure : (ms ns : List Moment) → AreTwinRuns g ms ns → (f : Figure) → figure_of ms f ≡ figure_of ns f
+  same_figure ms ns twins (figure.Sum s) = ap capped (same_total s ms ns twins)
+  same_figure ms ns twins figure.MostInFlight = same_most in_flight (λ m n first. same_count is_some refl m.after.flights n.after.flights (flights_alike m n first)) ms ns twins
+  same_figure ms ns twins figure.MostInUse = same_most in_use (λ m n first. as_many_kept g m.after n.after first.after) ms ns twins
+
+  -- of the machine
+  pub same_figures : (ms ns : List Moment) → AreTwinRuns g ms ns → figure_of ms ≡ figure_of ns
+  same_figures ms ns twins = fun_ext (same_figure ms ns twins)
