@@ -68,7 +68,7 @@ module _ (g : Geometry) (names : Table) (I : Type 0) (gives : Giving I) (bytes :
 
         by_items : (l : List ℕ) → EndsWith names (answers_surely g names) l v.session x.session v.told x.told (Ok m)
             → EndsWith names (answers_surely g names) l w.session y.session w.told y.told (Ok n) → HeardAlike m n
-        by_items [] (stays, quiet, is) (stays_too, quiet_too, also) = record {
+        by_items [] ((stays, quiet), is) ((stays_too, quiet_too), also) = record {
           wanted = same_ok m false is ∙ sym (same_ok n false also);
           told = told_nothing v.told x.told w.told y.told quiet quiet_too;
           on = no_further (same_ok m false is);
@@ -96,12 +96,12 @@ module _ (g : Geometry) (names : Table) (I : Type 0) (gives : Giving I) (bytes :
 
     hears_once : (p q : Result Unit SinkFault) (m n : Bool) → Puts v.asked x.asked prompt p → Puts w.asked y.asked prompt q → Hears names (answers_surely g names) gives p v x (Ok m)
         → Hears names (answers_surely g names) gives q w y (Ok n) → HeardAlike m n × AreToldOne v.asked x.asked w.asked y.asked
-    hears_once (Ok tt) (Ok tt) m n puts puts_too (r, given, one) (q, given_too, other) =
+    hears_once (Ok done) (Ok also) m n puts puts_too (r, given, one) (q, given_too, other) =
         let first : Gives (Some alike.file) r (bytes x.input) = subst (λ (o : Option (List ℕ)). Gives o r (bytes x.input)) alike.left (known v.input r x.input given) in
         let second : Gives (Some alike.file) q (bytes y.input) = subst (λ (o : Option (List ℕ)). Gives o q (bytes y.input)) alike.left_too (known w.input q y.input given_too) in
-        (replies_once r q m n (read_once alike.file r q (bytes x.input) (bytes y.input) first second) one other, prompt, puts, puts_too)
+        (replies_once r q m n (read_once alike.file r q (bytes x.input) (bytes y.input) first second) one other, (prompt, puts, puts_too))
     hears_once (Err f) q m n puts puts_too one other = absurd (not_put m one.2)
-    hears_once (Ok tt) (Err f) m n puts puts_too one other = absurd (not_put n other.2)
+    hears_once (Ok done) (Err f) m n puts puts_too one other = absurd (not_put n other.2)
 
     exchange_once : (m n : Bool) → Exchanges names (answers_surely g names) gives prompt v x (Ok m) → Exchanges names (answers_surely g names) gives prompt w y (Ok n)
         → HeardAlike m n × AreToldOne v.asked x.asked w.asked y.asked

@@ -20,7 +20,10 @@ pub fn sessions_are_one()
         AreTwinSessions g x.session y.session × (bytes x.input ≡ bytes y.input)
         × ((text : List ℕ) × TookAll v.told x.told text × TookAll w.told y.told text) × ((asked : List ℕ) × TookAll v.asked x.asked asked × TookAll w.asked y.asked asked) }
     ensures ends { (g : Geometry) (names : Table) (I : Type 0) (gives : Giving I) (bytes : I → Option (List ℕ)) (prompt file : List ℕ) (v w : State) (i j k l : I)
-        (a b c d p q r s : SinkState) → AreKnown gives bytes → AreTwins g v w → bytes i ≡ Some file → bytes k ≡ Some file →
-        IsDebugged (answers_surely g names) names gives v prompt i j a b p q (Ok tt) → IsDebugged (answers_surely g names) names gives w prompt k l c d r s (Ok tt) →
-        ((text : List ℕ) × TookAll a b text × TookAll c d text) × ((asked : List ℕ) × TookAll p q asked × TookAll r s asked) }
+        (told_before told_after told_earlier told_later asked_before asked_after asked_earlier asked_later : SinkState) →
+        AreKnown gives bytes → AreTwins g v w → bytes i ≡ Some file → bytes k ≡ Some file →
+        IsDebugged (answers_surely g names) names gives v prompt i j told_before told_after asked_before asked_after (Ok tt) →
+        IsDebugged (answers_surely g names) names gives w prompt k l told_earlier told_later asked_earlier asked_later (Ok tt) →
+        ((text : List ℕ) × TookAll told_before told_after text × TookAll told_earlier told_later text)
+        × ((asked : List ℕ) × TookAll asked_before asked_after asked × TookAll asked_earlier asked_later asked) }
 {}
