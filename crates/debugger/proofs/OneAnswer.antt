@@ -84,9 +84,7 @@ module _ (g : Geometry) (names : Table) (s t : Session) (twins : AreTwinSessions
       (subst (λ (o : Outcome). TellsText names u.machine o one.text) both.0 one.tells) other.tells in (
         one.result ∙ (ap (result_of k) both.0 ∙ sym other.result),
         both.1,
-        one.text,
-        one.puts,
-        subst (λ (text : List ℕ). Puts c d text (Ok tt)) (sym text) other.puts,
+        (one.text, one.puts, subst (λ (text : List ℕ). Puts c d text (Ok tt)) (sym text) other.puts),
       )
 
   deed_once : (k : Command) (r q : Result Flow DebugFault) → ((l : Look) → k ≡ command.Look l → ⊥) → (r ≡ Err fault.NoMemory → ⊥) → (r ≡ Err fault.Device → ⊥) → (q ≡ Err fault.NoMemory → ⊥)
@@ -100,9 +98,7 @@ module _ (g : Geometry) (names : Table) (s t : Session) (twins : AreTwinSessions
       let text : shows.text ≡ shows_too.text = look_once names g s.machine t.machine twins.machine l shows.text shows_too.text looks none shows.is shows_too.is in (
         ap (λ (y : Flow). Ok y) (go ∙ sym go_too),
         both_stay g s t u x twins same also,
-        shows.text,
-        shows.puts,
-        subst (λ (text : List ℕ). Puts c d text (Ok tt)) (sym text) shows_too.puts,
+        (shows.text, shows.puts, subst (λ (text : List ℕ). Puts c d text (Ok tt)) (sym text) shows_too.puts),
       )
   look_alike l (Ok f) (Err e) looks clean clean_too ((none, shows, go), same) (inl (device, fine, put, cut), also) = absurd (clean_too (ap (λ (y : DebugFault). Err y) device))
   look_alike l (Ok f) (Err e) looks clean clean_too ((none, shows, go), same) (inr (refused, quiet), also) =
@@ -114,9 +110,7 @@ module _ (g : Geometry) (names : Table) (s t : Session) (twins : AreTwinSessions
   look_alike l (Err e) (Err h) looks clean clean_too (inr (refused, quiet), same) (inr (refused_too, quiet_too), also) = (
     ap (λ (y : DebugFault). Err y) (same_Some e h (sym refused ∙ (refusal_is names g s.machine t.machine twins.machine l looks ∙ refused_too))),
     both_stay g s t u x twins same also,
-    [],
-    quietly a b quiet,
-    quietly c d quiet_too,
+    ([], quietly a b quiet, quietly c d quiet_too),
   )
 
   alike : (k : Command) (r q : Result Flow DebugFault) → IsElsewhere k → (r ≡ Err fault.NoMemory → ⊥) → (r ≡ Err fault.Device → ⊥) → (q ≡ Err fault.NoMemory → ⊥) → (q ≡ Err fault.Device → ⊥)

@@ -57,12 +57,12 @@ module _ (g : Geometry) (s t : Session) (twins : AreTwinSessions g s t) where
 
   -- Step
 
-  abbrev Stepped : Session → Outcome → Session → Type 0
-  Stepped r o u = ((e : Entry) × (o ≡ Ok (told.Entry e)) × (IsIdle g.sets r → ⊥) × StepsTo g patience r e u)
-      ⊎ (((o ≡ Err fault.Limit) × (IsIdle g.sets r → ⊥) × Waits g patience r u)
+  abbrev Stepped : ℕ → Session → Outcome → Session → Type 0
+  Stepped most r o u = ((e : Entry) × (o ≡ Ok (told.Entry e)) × (IsIdle g.sets r → ⊥) × StepsTo g most r e u)
+      ⊎ (((o ≡ Err fault.Limit) × (IsIdle g.sets r → ⊥) × (n : ℕ) × (n ≡ most) × Waits g n r u)
       ⊎ ((o ≡ Err fault.Stopped) × IsIdle g.sets r × (u ≡ r)))
 
-  does_step : (r u : Session) (o : Outcome) (report : Report) → o ≡ Ok report → Does g r command.Step report u → Stepped r o u
+  does_step : (r u : Session) (o : Outcome) (report : Report) → o ≡ Ok report → Does g r command.Step report u → Stepped patience r o u
   does_step r u o (told.Entry e) is (runs, steps) = inl (e, is, runs, steps)
   does_step r u o (told.Stopped) is does = absurd does
   does_step r u o (told.Broke i pc) is does = absurd does
@@ -72,22 +72,23 @@ module _ (g : Geometry) (s t : Session) (twins : AreTwinSessions g s t) where
   does_step r u o (told.Made n) is does = absurd does
   does_step r u o (told.Silence) is does = absurd does
 
-  stepped : (r u : Session) (o : Outcome) → Comes g r command.Step o u → Stepped r o u
+  stepped : (r u : Session) (o : Outcome) → Comes g r command.Step o u → Stepped patience r o u
   stepped r u o (inl (report, is, does)) = does_step r u o report is does
-  stepped r u o (inr (inl (is, runs, n, all, waits))) = inr (inl (is, runs, subst (λ (k : ℕ). Waits g k r u) all waits))
-  stepped r u o (inr (inr (f, is, (idle, fault), same))) = inr (inr (is ∙ ap (λ (e : DebugFault). Err e) fault, idle, same))
+  stepped r u o (inr (inl (is, (runs, (n, all, waits))))) = inr (inl (is, runs, n, all, waits))
+  stepped r u o (inr (inr (f, is, (idle, stopped), same))) = inr (inr (is ∙ ap (λ (e : DebugFault). Err e) stopped, idle, same))
 
-  one_stepped : (u x : Session) (o p : Outcome) → Stepped s o u → Stepped t p x → AreOne g o p u x
-  one_stepped u x o p (inl (d, is, runs, one)) (inl (e, also, goes, other)) =
-      let both = steps_once g patience s t u x d e twins one other in (is ∙ (ap (λ (e : Entry). Ok (told.Entry e)) both.0 ∙ sym also), both.1)
-  one_stepped u x o p (inl (d, is, runs, one)) (inr (inl (also, goes, other))) = absurd (steps_or_waits g patience s t u x d twins one other)
-  one_stepped u x o p (inl (d, is, runs, one)) (inr (inr (also, idle, same))) = absurd (runs (idle_before g s t twins idle))
-  one_stepped u x o p (inr (inl (is, runs, one))) (inl (e, also, goes, other)) = absurd (waits_or_steps g patience s t u x e twins one other)
-  one_stepped u x o p (inr (inl (is, runs, one))) (inr (inl (also, goes, other))) = (is ∙ sym also, waits_once g patience s t u x twins one other)
-  one_stepped u x o p (inr (inl (is, runs, one))) (inr (inr (also, idle, same))) = absurd (runs (idle_before g s t twins idle))
-  one_stepped u x o p (inr (inr (is, idle, same))) (inl (e, also, goes, other)) = absurd (goes (idle_too g s t twins idle))
-  one_stepped u x o p (inr (inr (is, idle, same))) (inr (inl (also, goes, other))) = absurd (goes (idle_too g s t twins idle))
-  one_stepped u x o p (inr (inr (is, idle, same))) (inr (inr (also, idle_, stays))) = (is ∙ sym also, both_stay g s t u x twins same stays)
+  one_stepped : (most : ℕ) (u x : Session) (o p : Outcome) → Stepped most s o u → Stepped most t p x → AreOne g o p u x
+  one_stepped most u x o p (inl (d, is, runs, one)) (inl (e, also, goes, other)) =
+      let both = steps_once g most s t u x d e twins one other in (is ∙ (ap (λ (e : Entry). Ok (told.Entry e)) both.0 ∙ sym also), both.1)
+  one_stepped most u x o p (inl (d, is, runs, one)) (inr (inl (also, goes, n, all, other))) = absurd (steps_or_waits g most s t u x d twins one (subst (λ (k : ℕ). Waits g k t x) all other))
+  one_stepped most u x o p (inl (d, is, runs, one)) (inr (inr (also, idle, same))) = absurd (runs (idle_before g s t twins idle))
+  one_stepped most u x o p (inr (inl (is, runs, n, all, one))) (inl (e, also, goes, other)) = absurd (waits_or_steps g most s t u x e twins (subst (λ (k : ℕ). Waits g k s u) all one) other)
+  one_stepped most u x o p (inr (inl (is, runs, n, all, one))) (inr (inl (also, goes, m, all_too, other))) =
+      (is ∙ sym also, waits_once g n s t u x twins one (subst (λ (k : ℕ). Waits g k t x) (all_too ∙ sym all) other))
+  one_stepped most u x o p (inr (inl (is, runs, n, all, one))) (inr (inr (also, idle, same))) = absurd (runs (idle_before g s t twins idle))
+  one_stepped most u x o p (inr (inr (is, idle, same))) (inl (e, also, goes, other)) = absurd (goes (idle_too g s t twins idle))
+  one_stepped most u x o p (inr (inr (is, idle, same))) (inr (inl (also, goes, n, all, other))) = absurd (goes (idle_too g s t twins idle))
+  one_stepped most u x o p (inr (inr (is, idle, same))) (inr (inr (also, quiet, stays))) = (is ∙ sym also, both_stay g s t u x twins same stays)
 
   -- Run
 
@@ -108,7 +109,7 @@ module _ (g : Geometry) (s t : Session) (twins : AreTwinSessions g s t) where
 
   ran : (n : ℕ) (r u : Session) (o : Outcome) → Comes g r (command.Run n) o u → Ran n r o u
   ran n r u o (inl (report, is, does)) = does_run n r u o report is does
-  ran n r u o (inr (inl (is, on, goes))) = inr (inr (is, on, goes))
+  ran n r u o (inr (inl (is, (on, goes)))) = inr (inr (is, on, goes))
   ran n r u o (inr (inr (f, is, refused, same))) = absurd (none-some f refused)
 
   one_ran : (n : ℕ) (u x : Session) (o p : Outcome) → Ran n s o u → Ran n t p x → AreOne g o p u x
@@ -143,7 +144,7 @@ module _ (g : Geometry) (s t : Session) (twins : AreTwinSessions g s t) where
 
   toggled : (b : ℕ) (r u : Session) (o : Outcome) → Comes g r (command.Break b) o u → Toggled b r o u
   toggled b r u o (inl (report, is, does)) = does_toggle b r u o report is does
-  toggled b r u o (inr (inl (is, limited))) = inr (inr (inl (is, limited)))
+  toggled b r u o (inr (inl (is, (placed, none, full, same)))) = inr (inr (inl (is, placed, none, full, same)))
   toggled b r u o (inr (inr (f, is, refused, same))) = inr (inr (inr (f, is, refused, same)))
 
   -- there is a breakpoint, or none
@@ -160,29 +161,29 @@ module _ (g : Geometry) (s t : Session) (twins : AreTwinSessions g s t) where
   as_many = ap (λ (xs : List ℕ). length xs) twins.breakpoints
 
   one_toggled : (b : ℕ) (u x : Session) (o p : Outcome) → Toggled b s o u → Toggled b t p x → AreOne g o p u x
-  one_toggled b u x o p (inl (is, placed, none, room, one)) (inl (also, placed_too, none_too, room_too, other)) = (
+  one_toggled b u x o p (inl (is, placed, (none, room, one))) (inl (also, placed_too, (none_too, room_too, other))) = (
     is ∙ sym also,
     both_stay g (record s { breakpoints = s.breakpoints ++ b ∷ [] }) (record t { breakpoints = t.breakpoints ++ b ∷ [] }) u x
         (record { machine = twins.machine; last = twins.last; breakpoints = ap (λ (xs : List ℕ). xs ++ b ∷ []) twins.breakpoints }) one other,
   )
-  one_toggled b u x o p (inl (is, placed, none, room, one)) (inr (inl (also, placed_too, m, at, other))) = absurd (there_before b m none at)
-  one_toggled b u x o p (inl (is, placed, none, room, one)) (inr (inr (inl (also, placed_too, none_too, full, other)))) = absurd (omega (arith, room, full, as_many))
-  one_toggled b u x o p (inl (is, placed, none, room, one)) (inr (inr (inr (f, also, refused, other)))) = absurd (placed_or_refused (command.Break b) f placed refused)
-  one_toggled b u x o p (inr (inl (is, placed, n, at, one))) (inl (also, placed_too, none_too, room_too, other)) = absurd (there_too b n at none_too)
-  one_toggled b u x o p (inr (inl (is, placed, n, at, one))) (inr (inl (also, placed_too, m, at_too, other))) =
+  one_toggled b u x o p (inl (is, placed, (none, room, one))) (inr (inl (also, placed_too, (m, at, other)))) = absurd (there_before b m none at)
+  one_toggled b u x o p (inl (is, placed, (none, room, one))) (inr (inr (inl (also, placed_too, none_too, full, other)))) = absurd (omega (arith, room, full, as_many))
+  one_toggled b u x o p (inl (is, placed, (none, room, one))) (inr (inr (inr (f, also, refused, other)))) = absurd (placed_or_refused (command.Break b) f placed refused)
+  one_toggled b u x o p (inr (inl (is, placed, (n, at, one)))) (inl (also, placed_too, (none_too, room_too, other))) = absurd (there_too b n at none_too)
+  one_toggled b u x o p (inr (inl (is, placed, (n, at, one)))) (inr (inl (also, placed_too, (m, at_too, other)))) =
       let same : n ≡ m = same_Some n m (sym at ∙ (ap (λ (xs : List ℕ). position (λ a. a == b) xs) twins.breakpoints ∙ at_too)) in (
         is ∙ sym also,
         both_stay g (record s { breakpoints = remove s.breakpoints n }) (record t { breakpoints = remove t.breakpoints m }) u x
             (record { machine = twins.machine; last = twins.last; breakpoints = λ k. remove (twins.breakpoints k) (same k) }) one other,
       )
-  one_toggled b u x o p (inr (inl (is, placed, n, at, one))) (inr (inr (inl (also, placed_too, none_too, full, other)))) = absurd (there_too b n at none_too)
-  one_toggled b u x o p (inr (inl (is, placed, n, at, one))) (inr (inr (inr (f, also, refused, other)))) = absurd (placed_or_refused (command.Break b) f placed refused)
-  one_toggled b u x o p (inr (inr (inl (is, placed, none, full, one)))) (inl (also, placed_too, none_too, room_too, other)) = absurd (omega (arith, room_too, full, as_many))
-  one_toggled b u x o p (inr (inr (inl (is, placed, none, full, one)))) (inr (inl (also, placed_too, m, at, other))) = absurd (there_before b m none at)
+  one_toggled b u x o p (inr (inl (is, placed, (n, at, one)))) (inr (inr (inl (also, placed_too, none_too, full, other)))) = absurd (there_too b n at none_too)
+  one_toggled b u x o p (inr (inl (is, placed, (n, at, one)))) (inr (inr (inr (f, also, refused, other)))) = absurd (placed_or_refused (command.Break b) f placed refused)
+  one_toggled b u x o p (inr (inr (inl (is, placed, none, full, one)))) (inl (also, placed_too, (none_too, room_too, other))) = absurd (omega (arith, room_too, full, as_many))
+  one_toggled b u x o p (inr (inr (inl (is, placed, none, full, one)))) (inr (inl (also, placed_too, (m, at, other)))) = absurd (there_before b m none at)
   one_toggled b u x o p (inr (inr (inl (is, placed, none, full, one)))) (inr (inr (inl (also, placed_too, none_too, full_too, other)))) = (is ∙ sym also, both_stay g s t u x twins one other)
   one_toggled b u x o p (inr (inr (inl (is, placed, none, full, one)))) (inr (inr (inr (f, also, refused, other)))) = absurd (placed_or_refused (command.Break b) f placed refused)
-  one_toggled b u x o p (inr (inr (inr (e, is, refused, one)))) (inl (also, placed_too, none_too, room_too, other)) = absurd (refused_or_placed (command.Break b) e refused placed_too)
-  one_toggled b u x o p (inr (inr (inr (e, is, refused, one)))) (inr (inl (also, placed_too, m, at, other))) = absurd (refused_or_placed (command.Break b) e refused placed_too)
+  one_toggled b u x o p (inr (inr (inr (e, is, refused, one)))) (inl (also, placed_too, (none_too, room_too, other))) = absurd (refused_or_placed (command.Break b) e refused placed_too)
+  one_toggled b u x o p (inr (inr (inr (e, is, refused, one)))) (inr (inl (also, placed_too, (m, at, other)))) = absurd (refused_or_placed (command.Break b) e refused placed_too)
   one_toggled b u x o p (inr (inr (inr (e, is, refused, one)))) (inr (inr (inl (also, placed_too, none_too, full, other)))) = absurd (refused_or_placed (command.Break b) e refused placed_too)
   one_toggled b u x o p (inr (inr (inr (e, is, refused, one)))) (inr (inr (inr (f, also, refused_too, other)))) =
       (is ∙ (ap (λ (h : DebugFault). Err h) (refused_once (command.Break b) e f refused refused_too) ∙ sym also), both_stay g s t u x twins one other)
@@ -195,8 +196,8 @@ module _ (g : Geometry) (s t : Session) (twins : AreTwinSessions g s t) where
   report_for (Some e) number = told.Entry e
 
   abbrev Chosen : Command → Choice → Session → Outcome → Session → Type 0
-  Chosen at c r o u = ((o ≡ Ok told.Nothing) × IsPlaced r at × ((step : Option MachineStep) × IsStepOf g.sets r.machine r.last c step × IsDisabled g r step × (u ≡ r)))
-      ⊎ (((e : Option Entry) × (o ≡ Ok (report_for e r.machine.sent)) × IsPlaced r at × ((step : Option MachineStep) × IsStepOf g.sets r.machine r.last c step × Makes g r step e u))
+  Chosen at c r o u = ((o ≡ Ok told.Nothing) × IsPlaced r at × (step : Option MachineStep) × IsStepOf g.sets r.machine r.last c step × IsDisabled g r step × (u ≡ r))
+      ⊎ (((e : Option Entry) × (o ≡ Ok (report_for e r.machine.sent)) × IsPlaced r at × (step : Option MachineStep) × IsStepOf g.sets r.machine r.last c step × Makes g r step e u)
       ⊎ ((f : DebugFault) × (o ≡ Err f) × (place_fault (setting_of r.machine) at ≡ Some f) × (u ≡ r)))
 
   chosen : (at : Command) (c : Choice) (r u : Session) (o : Outcome) (report : Report) → o ≡ Ok report → IsPlaced r at → Chooses g r c report u → Chosen at c r o u
@@ -295,7 +296,7 @@ module _ (g : Geometry) (s t : Session) (twins : AreTwinSessions g s t) where
   -- All of them
 
   pub one_deed : (c : Command) (u x : Session) (o p : Outcome) → ((l : Look) → c ≡ command.Look l → ⊥) → Comes g s c o u → Comes g t c p x → AreOne g o p u x
-  one_deed (command.Step) u x o p deed one other = one_stepped u x o p (stepped s u o one) (stepped t x p other)
+  one_deed (command.Step) u x o p deed one other = one_stepped patience u x o p (stepped s u o one) (stepped t x p other)
   one_deed (command.Run n) u x o p deed one other = one_ran n u x o p (ran n s u o one) (ran n t x p other)
   one_deed (command.Break b) u x o p deed one other = one_toggled b u x o p (toggled b s u o one) (toggled b t x p other)
   one_deed (command.Core h) u x o p deed one other =

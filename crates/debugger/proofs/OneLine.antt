@@ -63,7 +63,7 @@ clean_of : (answer : Result Bool DebugFault) (a b : SinkState) (more : Bool) →
 clean_of answer a b more closes is = not_unwritten more (subst (λ (r : Result Bool DebugFault). Closes r a b (Ok more)) is closes).1
 
 refuses_once : (name : List ℕ) (a b c d : SinkState) (m n : Bool) → Refuses (Some name) a b (Ok m) → Refuses (Some name) c d (Ok n) → (m ≡ n) × AreToldOne a b c d
-refuses_once name a b c d m n (puts, is) (puts_too, also) = (is ∙ sym also, refused name, puts, puts_too)
+refuses_once name a b c d m n (puts, is) (puts_too, also) = (is ∙ sym also, (refused name, puts, puts_too))
 
 closes_once : (answer : Result Bool DebugFault) (a b c d : SinkState) (m n : Bool) → Closes answer a b (Ok m) → Closes answer c d (Ok n) → (m ≡ n) × AreToldOne a b c d
 closes_once (Ok more) a b c d m n (quiet, is) (quiet_too, also) = (same_ok m n (is ∙ sym also), told_nothing a b c d quiet quiet_too)

@@ -13,7 +13,7 @@ use Rattle.debugger.specs.declared.fault.ConsoleFault.{ConsoleFault}
 use Rattle.debugger.specs.declared.fault.ConsoleFault.TheVariants.{Unreadable, Unwritten}
 use Rattle.debugger.specs.declared.input.Reading.{Reading}
 use Rattle.debugger.specs.declared.input.Reading.TheVariants.{Line, Last, Failed}
-use Rattle.debugger.specs.Debugging.{begun}
+use Rattle.debugger.specs.Debugging.{begun, IsDebugged}
 use Rattle.debugger.specs.LineAnswers.{IsAnswered}
 use Rattle.debugger.specs.Lines.{Gives}
 use Rattle.debugger.specs.Plays.{Talk, Giving, EndsWith, Replies, Hears, Exchanges, Plays, IsPlayed, ended}
@@ -68,7 +68,7 @@ module _ (g : Geometry) (names : Table) (I : Type 0) (gives : Giving I) (bytes :
 
         by_items : (l : List ℕ) → EndsWith names (answers_surely g names) l v.session x.session v.told x.told (Ok m)
             → EndsWith names (answers_surely g names) l w.session y.session w.told y.told (Ok n) → HeardAlike m n
-        by_items [] (stays, quiet, is) (stays_too, quiet_too, also) = record {
+        by_items [] ((stays, quiet), is) ((stays_too, quiet_too), also) = record {
           wanted = same_ok m false is ∙ sym (same_ok n false also);
           told = told_nothing v.told x.told w.told y.told quiet quiet_too;
           on = no_further (same_ok m false is);
@@ -96,12 +96,12 @@ module _ (g : Geometry) (names : Table) (I : Type 0) (gives : Giving I) (bytes :
 
     hears_once : (p q : Result Unit SinkFault) (m n : Bool) → Puts v.asked x.asked prompt p → Puts w.asked y.asked prompt q → Hears names (answers_surely g names) gives p v x (Ok m)
         → Hears names (answers_surely g names) gives q w y (Ok n) → HeardAlike m n × AreToldOne v.asked x.asked w.asked y.asked
-    hears_once (Ok tt) (Ok tt) m n puts puts_too (r, given, one) (q, given_too, other) =
+    hears_once (Ok done) (Ok also) m n puts puts_too (r, given, one) (q, given_too, other) =
         let first : Gives (Some alike.file) r (bytes x.input) = subst (λ (o : Option (List ℕ)). Gives o r (bytes x.input)) alike.left (known v.input r x.input given) in
         let second : Gives (Some alike.file) q (bytes y.input) = subst (λ (o : Option (List ℕ)). Gives o q (bytes y.input)) alike.left_too (known w.input q y.input given_too) in
-        (replies_once r q m n (read_once alike.file r q (bytes x.input) (bytes y.input) first second) one other, prompt, puts, puts_too)
+        (replies_once r q m n (read_once alike.file r q (bytes x.input) (bytes y.input) first second) one other, (prompt, puts, puts_too))
     hears_once (Err f) q m n puts puts_too one other = absurd (not_put m one.2)
-    hears_once (Ok tt) (Err f) m n puts puts_too one other = absurd (not_put n other.2)
+    hears_once (Ok done) (Err f) m n puts puts_too one other = absurd (not_put n other.2)
 
     exchange_once : (m n : Bool) → Exchanges names (answers_surely g names) gives prompt v x (Ok m) → Exchanges names (answers_surely g names) gives prompt w y (Ok n)
         → HeardAlike m n × AreToldOne v.asked x.asked w.asked y.asked
@@ -166,3 +166,24 @@ begun_alike g v w twins = record { machine = twins; last = ap (λ (m : Machine).
 -- a text that both took
 pub took_one : (a b c d : SinkState) → AreToldOne a b c d → (text : List ℕ) × TookAll a b text × TookAll c d text
 took_one a b c d (text, puts, puts_too) = (text, record { whole = puts.whole; clean = puts.clean }, record { whole = puts_too.whole; clean = puts_too.clean })
+
+pub lines_once : (g : Geometry) (names : Table) (I : Type 0) (gives : Giving I) (bytes : I → Option (List ℕ)) (prompt file : List ℕ) (n : ℕ) (v w x y : Talk Session I) → AreKnown gives bytes
+    → AreTwinSessions g v.session w.session → bytes v.input ≡ Some file → bytes w.input ≡ Some file
+    → Plays names (answers_surely g names) gives prompt n v x → Plays names (answers_surely g names) gives prompt n w y
+    → AreTwinSessions g x.session y.session × (bytes x.input ≡ bytes y.input)
+    × ((text : List ℕ) × TookAll v.told x.told text × TookAll w.told y.told text) × ((asked : List ℕ) × TookAll v.asked x.asked asked × TookAll w.asked y.asked asked)
+lines_once g names I gives bytes prompt file n v w x y known twins left left_too one other =
+    let both = plays_once g names I gives bytes known prompt n v x w y (record { sessions = twins; file = file; left = left; left_too = left_too }) one other in
+    (both.0.sessions, both.0.left ∙ sym both.0.left_too, took_one v.told x.told w.told y.told both.1.0, took_one v.asked x.asked w.asked y.asked both.1.1)
+
+pub debugged_once : (g : Geometry) (names : Table) (I : Type 0) (gives : Giving I) (bytes : I → Option (List ℕ)) (prompt file : List ℕ) (v w : State) (i j k l : I) (a b c d p q r s : SinkState)
+    → AreKnown gives bytes → AreTwins g v w → bytes i ≡ Some file → bytes k ≡ Some file
+    → IsDebugged (answers_surely g names) names gives v prompt i j a b p q (Ok tt) → IsDebugged (answers_surely g names) names gives w prompt k l c d r s (Ok tt)
+    → ((text : List ℕ) × TookAll a b text × TookAll c d text) × ((asked : List ℕ) × TookAll p q asked × TookAll r s asked)
+debugged_once g names I gives bytes prompt file v w i j k l a b c d p q r s known twins left left_too one other =
+    let from : Talk Session I = record { session = begun v; input = i; told = a; asked = p } in
+    let to : Talk Session I = record { session = one.0; input = j; told = b; asked = q } in
+    let from_too : Talk Session I = record { session = begun w; input = k; told = c; asked = r } in
+    let to_too : Talk Session I = record { session = other.0; input = l; told = d; asked = s } in
+    let both = ends_once g names I gives bytes known prompt from to from_too to_too (record { sessions = begun_alike g v w twins; file = file; left = left; left_too = left_too }) one.1 other.1 in
+    (took_one a b c d both.0, took_one p q r s both.1)

@@ -4,6 +4,7 @@ use Rattle.std.specs.List.{flat_map, range_with_len, slice_index_or}
 use Rattle.std.proofs.Math.Path.{fun_ext}
 use Rattle.disassembler.specs.Tables.{Table}
 use Rattle.protocol.specs.Caches.{Geometry}
+use Rattle.machine.specs.Mail.{Mail}
 use Rattle.machine.specs.States.{State}
 use Rattle.machine.specs.Twins.{AreTwins}
 use Rattle.debugger.specs.declared.report.Report.{Report}
@@ -32,7 +33,7 @@ module _ (g : Geometry) (v w : State) (twins : AreTwins g v w) (n m : ℕ)
     (one : (key : ℕ) → n ≤ key → slice_index_or v.flights key None ≡ None) (other : (key : ℕ) → m ≤ key → slice_index_or w.flights key None ≡ None) where
   numbered_once : (number : ℕ) → numbered v.flights n number ≡ numbered w.flights m number
   numbered_once number =
-      same_keys (λ key. line_if number (slice_index_or v.flights key None)) n m (λ k le. ap (line_if number) (one k le)) (λ k le. ap (line_if number) (ap (λ (mail : ℕ → _). mail k) twins.mail ∙ other k le))
+      same_keys (λ key. line_if number (slice_index_or v.flights key None)) n m (λ k le. ap (line_if number) (one k le)) (λ k le. ap (line_if number) (ap (λ (mail : Mail). mail k) twins.mail ∙ other k le))
       ∙ (λ i. flat_map (λ key. line_if number (twins.mail i key)) (range_with_len 0 m))
 
   sent_once : (from : ℕ) → sent_lines v.flights n from v.sent ≡ sent_lines w.flights m from w.sent

@@ -31,9 +31,9 @@ answers g names s command t before after answer =
 abbrev pub begun : State → Session
 begun m = record { machine = m; last = (setting_of m).count - 1; breakpoints = [] }
 
--- with these names a session of the machine answers the lines of an input, up to the end that this result tells
-abbrev pub IsDebugged : {I : Type 0} → Geometry → Table → Giving I → State → List ℕ → I → I → SinkState → SinkState → SinkState → SinkState → Result Unit ConsoleFault → Type 0
-IsDebugged g names gives m prompt i j told_before told_after asked_before asked_after r =
-    (last : Session) × IsPlayed names (answers g names) gives prompt
+-- with these names a session of the machine, which answers commands so, answers the lines of an input, up to the end that this result tells
+abbrev pub IsDebugged : {I : Type 0} → Answering Session → Table → Giving I → State → List ℕ → I → I → SinkState → SinkState → SinkState → SinkState → Result Unit ConsoleFault → Type 0
+IsDebugged answering names gives m prompt i j told_before told_after asked_before asked_after r =
+    (last : Session) × IsPlayed names answering gives prompt
     (record { session = begun m; input = i; told = told_before; asked = asked_before })
     (record { session = last; input = j; told = told_after; asked = asked_after }) r

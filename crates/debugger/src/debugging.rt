@@ -1,6 +1,6 @@
 ghost use Rattle.std.specs.Prelude.{◌≡◌};
 ghost use Rattle.machine.specs.States.{geometry};
-ghost use Rattle.debugger.specs.Debugging.{IsDebugged, goes_on};
+ghost use Rattle.debugger.specs.Debugging.{IsDebugged, answers, goes_on};
 
 use crate::commands::{Command, DebugFault};
 use crate::fault::ConsoleFault;
@@ -50,7 +50,7 @@ pub fn debug<const SETS: usize, const WAYS: usize, I: LineInput, P: Sink, S: Sin
     prompts: &mut P,
     out: &mut S,
 ) -> Result<(), ConsoleFault>
-    ensures { IsDebugged (geometry SETS WAYS) names.now I.gives machine.entry prompt.now input.old input.new (S.state out.old) (S.state out.new)
+    ensures { IsDebugged (answers (geometry SETS WAYS) names.now) names.now I.gives machine.entry prompt.now input.old input.new (S.state out.old) (S.state out.new)
         (P.state prompts.old) (P.state prompts.new) result }
 {
     let mut session = Session::new(machine);

@@ -5,3 +5,4 @@ mod ShownRuns
 mod ThreadedRuns
 mod OneReport
 mod OneHistory
+mod SessionsByHand

@@ -11,6 +11,7 @@ use Rattle.command_line.specs.declared.request.Way.TheVariants.{Turns, Kept, Thr
 use Rattle.command_line.specs.declared.request.Way.TheVariants as way
 use Rattle.debugger.specs.Plays.{Giving}
 use Rattle.protocol.specs.Caches.{Geometry}
+use Rattle.debugger.specs.Debugging.{answers}
 use Rattle.simulate.specs.Debugging.{IsPlayedByHand}
 use Rattle.requests.specs.Faults.{fault_status, fault_text}
 use Rattle.requests.specs.FileRequests.{IsMade, IsUnmade, cache_of}
@@ -42,7 +43,7 @@ module _ {I : Type 0} (g : Geometry) (gives : Giving I) (file list prompt : List
   abbrev pub IsDoneOn : Request → ℕ → Option (List ℕ) → Type 0
   IsDoneOn (request.Run run) status image = RunGives g run file list before after run.way status × (image ≡ None) × (j ≡ i) × IsUntouched told_before told_after
   IsDoneOn (request.Debug setup) status image =
-      IsPlayedByHand g gives setup file prompt i j before.output after.output told_before told_after status × (image ≡ None) × IsUntouched before.file after.file
+      IsPlayedByHand answers g gives setup file prompt i j before.output after.output told_before told_after status × (image ≡ None) × IsUntouched before.file after.file
   IsDoneOn made status image = IsMade file before after made status image × (j ≡ i) × IsUntouched told_before told_after
 
 -- it was not, for this fault

@@ -1,12 +1,15 @@
 -- A program that is played by hand.
 use Rattle.std.specs.Prelude.{ℕ, ◌≡◌, List, [], Result, Ok, Err, codes}
 use Rattle.words.specs.Sinks.{IsPut, IsUntouched, SinkState}
+use Rattle.disassembler.specs.Tables.{Table}
 use Rattle.protocol.specs.Caches.{Geometry}
 use Rattle.machine.specs.States.{State}
 use Rattle.command_line.specs.declared.request.Setup.{Setup}
 use Rattle.debugger.specs.declared.fault.ConsoleFault.{ConsoleFault}
 use Rattle.debugger.specs.declared.fault.ConsoleFault.TheVariants.{Unreadable, Unwritten}
+use Rattle.debugger.specs.LineAnswers.{Answering}
 use Rattle.debugger.specs.Plays.{Giving}
+use Rattle.debugger.specs.Sessions.{Session}
 use Rattle.debugger.specs.Debugging.{IsDebugged}
 use Rattle.requests.specs.Faults.{line}
 use Rattle.requests.specs.Sources.{names_in}
@@ -22,11 +25,11 @@ abbrev pub TellsEnd : Result Unit ConsoleFault → SinkState → SinkState → �
 TellsEnd (Ok done) before after status = IsUntouched before after × (status ≡ 0)
 TellsEnd (Err fault) before after status = IsPut before after (end_text fault) × (status ≡ 3)
 
--- the file has a program, which boots as asked; with the file's names a session of the machine that it begins in answers the lines of the input, and asks for each by the prompt; and its end is told
-pub record IsPlayedByHand {I : Type 0} (g : Geometry) (gives : Giving I) (setup : Setup) (file prompt : List ℕ) (i j : I) (told_before told_after asked_before asked_after : SinkState) (status : ℕ) : Type 0 where
+-- the file has a program, which boots as asked; with the file's names a session of the machine that it begins in, which answers commands so, answers the lines of the input, and asks for each by the prompt; and its end is told
+pub record IsPlayedByHand {I : Type 0} (answering : Geometry → Table → Answering Session) (g : Geometry) (gives : Giving I) (setup : Setup) (file prompt : List ℕ) (i j : I) (told_before told_after asked_before asked_after : SinkState) (status : ℕ) : Type 0 where
   pub first : State
   pub starts : IsStartOf g setup file first
   pub end : Result Unit ConsoleFault
   pub asked : SinkState
-  pub played : IsDebugged g (names_in setup.file.now file) gives first prompt i j told_before told_after asked_before asked end
+  pub played : IsDebugged (answering g (names_in setup.file.now file)) (names_in setup.file.now file) gives first prompt i j told_before told_after asked_before asked end
   pub told : TellsEnd end asked asked_after status

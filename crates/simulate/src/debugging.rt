@@ -2,6 +2,7 @@
 ghost use Rattle.std.specs.Prelude.{◌<◌, ◌*◌, ◌^◌, ◌≡◌, MatchResult};
 ghost use Rattle.words.specs.Sinks.{IsUntouched};
 ghost use Rattle.machine.specs.States.{geometry};
+ghost use Rattle.debugger.specs.Debugging.{answers};
 ghost use Rattle.simulate.specs.Debugging.{IsPlayedByHand, TellsEnd};
 ghost use Rattle.requests.specs.Starts.{IsStartFault};
 
@@ -36,7 +37,7 @@ pub(crate) fn play_by_hand<
     requires ways { 0 < WAYS }
     requires lines { SETS * WAYS < 2 ^ 32 }
     ensures { MatchResult result
-        (IsPlayedByHand (geometry SETS WAYS) I.gives setup.now file.now prompt.now input.old input.new
+        (IsPlayedByHand answers (geometry SETS WAYS) I.gives setup.now file.now prompt.now input.old input.new
         (O.state out.old) (O.state out.new)
         (E.state error.old) (E.state error.new))
         (λ fault. IsStartFault setup.now file.now fault × (input.new ≡ input.old) × IsUntouched (O.state out.old) (O.state out.new)

@@ -1,4 +1,4 @@
-ghost use Rattle.std.specs.Prelude.{◌≡◌, ◌≢◌, ◌<◌, ℕ, List, [], Bool, true, false, Some};
+ghost use Rattle.std.specs.Prelude.{◌≡◌, ◌≢◌, ◌<◌, ℕ, List, [], Bool, true, false, Option, Some};
 ghost use Rattle.std.specs.Borrow.{Bor};
 ghost use Rattle.std.specs.List.{Contains};
 ghost use Rattle.words.specs.Sinks.{SinkState, TookAll};
@@ -26,6 +26,9 @@ ghost use Rattle.schedule.specs.Moments.{Moment, entries_of};
 ghost use Rattle.requests.specs.Ends.{search_start, AreEndsGiven};
 ghost use Rattle.requests.specs.Files.{IsListed, IsImageOf};
 ghost use Rattle.requests.specs.Runs.{ComesBy, addresses};
+ghost use Rattle.debugger.specs.Plays.{Giving};
+ghost use Rattle.debugger.specs.Sure.{AreKnown, answers_surely};
+ghost use Rattle.simulate.specs.Debugging.{IsPlayedByHand};
 ghost use Rattle.simulate.specs.Given.{IsGiven};
 ghost use Rattle.simulate.specs.Threaded.{IsGivenInThreads};
 ghost use Rattle.requests.specs.Outputs.{Sinks, Texts, TakeAll};
@@ -89,6 +92,18 @@ pub fn reports_are_one()
     ensures { (g : Geometry) (run : Run) (behind : Behind) (show : Show) (file list : List ℕ) (before after earlier later : Sinks) (status other : ℕ) →
         IsTold behind → IsGiven g run behind show file list before after status → IsGiven g run behind show file list earlier later other →
         (other ≡ status) × ((texts : Texts) × TakeAll before after texts × TakeAll earlier later texts) }
+{}
+
+/// Two sessions of one request, one file and one input tell one text and ask for as many lines, where both come to their end with status 0, no memory is wanting, and no
+/// line asks for a word of the undo logs.
+pub fn sessions_by_hand_are_one()
+    ensures { (g : Geometry) (I : Type 0) (gives : Giving I) (bytes : I → Option (List ℕ)) (setup : Setup) (file prompt lines : List ℕ) (i j k l : I)
+        (told_before told_after asked_before asked_after told_earlier told_later asked_earlier asked_later : SinkState) →
+        AreKnown gives bytes → bytes i ≡ Some lines → bytes k ≡ Some lines →
+        IsPlayedByHand answers_surely g gives setup file prompt i j told_before told_after asked_before asked_after 0 →
+        IsPlayedByHand answers_surely g gives setup file prompt k l told_earlier told_later asked_earlier asked_later 0 →
+        ((text : List ℕ) × TookAll told_before told_after text × TookAll told_earlier told_later text)
+        × ((asked : List ℕ) × TookAll asked_before asked_after asked × TookAll asked_earlier asked_later asked) }
 {}
 
 /// Two runs in threads of one file that have written one history, each in an empty file, give one report and one status.
