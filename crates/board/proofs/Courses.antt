@@ -22,7 +22,7 @@ use Rattle.schedule.specs.Written.{IsWritable}
 use Rattle.schedule.proofs.Making.{entries_both, entries_one}
 use Rattle.board.specs.Leases.{Lent}
 use Rattle.schedule.specs.Steps.{IsChoiceOf, IsWithin}
-use Rattle.board.specs.Histories.{Told, IsChosen, IsOf, Leads, LeadsAlone, no_step, one_step, core_steps, both, told_then, first_flat, IsReplay, IsCourseIf, IsKept, IsEnd}
+use Rattle.board.specs.Histories.{Told, IsChosen, IsOf, Leads, LeadsAlone, no_step, one_step, core_steps, both, told_then, first_flat, IsReplay, IsCourse, IsCourseIf, IsKept, IsEnd}
 use Rattle.board.proofs.Replays.{Begins, run_settings, replay_none, replay_more, replay_segments, replay_flat}
 
 -- choices behind others
@@ -85,6 +85,12 @@ module _ (g : Geometry) (p : Program) (n size : ℕ) where
   course_on (Some cs) None m next es fs c leads = tt {0}
   course_on None (Some ds) m next es fs c leads = tt {0}
   course_on None None m next es fs c leads = tt {0}
+
+  -- it begins where it did
+  pub course_first : (cs ds : List Choice) (m next : State) (es fs : List Entry) (c : IsCourse g p n size cs es m) (leads : LeadsIf g (Some ds) m fs next)
+      → (course_on (Some cs) (Some ds) m next es fs c leads).first ≡ c.first
+  unfolding course_on
+  course_first cs ds m next es fs c (writable, (ms, given, leads)) = refl
 
   pub kept_segments : (tells : Told → Type 0) (m : State) → IsKept g p n size tells m → m.program.segments ≡ p.segments
   kept_segments tells m k = replay_segments g p n size k.all.steps m k.all.entries k.replay

@@ -1,7 +1,8 @@
 -- Whole turns at a board, one after the other.
-use Rattle.std.proofs.Common.{◌≡◌, ◌≢◌, ◌≤◌, ◌<◌, ◌⊎◌, ◌+◌, ◌++◌, ◌==◌, ℕ, suc, Bool, true, false, All, inl, inr, List, [], ◌∷◌, length, replicate, Option, Some, None, Result, Ok, Err, refl, sym, ap, ap₂, subst, ◌∙◌, append_assoc, append-nil, arith, get_or, set}
+use Rattle.std.proofs.Common.{◌≡◌, ◌≢◌, ◌≤◌, ◌<◌, ◌⊎◌, ◌+◌, ◌++◌, ◌==◌, ◌&&◌, ℕ, suc, Bool, true, false, cond, All, inl, inr, List, [], ◌∷◌, length, replicate, Option, Some, None, Result, Ok, Err, refl, sym, ap, subst, ◌∙◌, append_assoc, append-nil, arith}
 use Rattle.std.specs.Prelude.{option_to_list, slice_index, slice_set}
 use Rattle.std.specs.List.{flat_map}
+use Rattle.std.specs.Result.{is_ok}
 use Rattle.std.specs.declared.alloc.AllocError.{AllocError}
 use Rattle.std.proofs.lemmas.Bool.{cases_Bool, cases_eq, cases_lt, cond-true, cond-false, eq-eqb, eqb-true}
 use Rattle.std.proofs.lemmas.Grind.{flat_map-append}
@@ -27,9 +28,9 @@ use Rattle.board.specs.Histories.{Told, TellsMore, Leads, no_step, both, told_th
 use Rattle.board.specs.Boards.{Held, IsFirst, IsAsBefore, IsTurn, IsRunning, IsSettled, Settles, LendsAgain}
 use Rattle.board.specs.Visits.{Owes, PaysOff, IsVisit, Visits}
 use Rattle.board.specs.Ends.{GoesOn, Finishes, IsTurnsEnd}
-use Rattle.board.specs.Turns.{Turn, choices_of, MakesOwed, IsTaken, AreTaken, turns_of, AreOfTurns, IsLeft, Counted, IsServed, IsDone, IsServedEnd}
+use Rattle.board.specs.Turns.{Turn, choices_of, MakesOwed, IsTaken, AreTaken, turns_of, IsServed, IsServedEnd}
 use Rattle.board.proofs.Replays.{replay_more, replay_flat}
-use Rattle.board.proofs.Courses.{course_on, leads_one, leads_then, runs_one}
+use Rattle.board.proofs.Courses.{course_on, course_first, leads_one, leads_then, runs_one}
 
 -- ---- What is told in parts
 
@@ -209,6 +210,17 @@ module _ {J : Type 0} (g : Geometry) (tells : J → Told → Type 0) where
 
 -- ---- Turns
 
+-- a test of two parts
+pub both_true : (a b : Bool) → (a && b) ≡ true → (a ≡ true) × (b ≡ true)
+both_true true true is = (refl, refl)
+both_true true false is = absurd (cc)
+both_true false b is = absurd (cc)
+
+-- an answer, and no error
+pub ok_of : (r : Result Bool AllocError) → is_ok r ≡ true → (runs : Bool) × (r ≡ Ok runs)
+ok_of (Ok runs) is = (runs, refl)
+ok_of (Err e) is = absurd (cc)
+
 taken_more : (g : Geometry) (ts : List Turn) (t : Turn) (v u w : State) → AreTaken g ts v u → IsTaken g t u w → AreTaken g (ts ++ t ∷ []) v w
 taken_more g [] t v u w same taken = (w, subst (λ (x : State). IsTaken g t x w) same taken, refl)
 taken_more g (x ∷ ts) t v u w (next, first, rest) taken = (next, first, taken_more g ts t next u w rest taken)
@@ -217,15 +229,18 @@ not_same : (a b : ℕ) → a ≢ b → a == b ≡ false
 not_same a b other = by (cases_Bool (a == b))
   where
     by : (a == b ≡ true) ⊎ (a == b ≡ false) → a == b ≡ false
-    by (inl yes) = absurd (other (eqb-true a b yes))
-    by (inr no) = no
+    by (inl is) = absurd (other (eqb-true a b is))
+    by (inr isnt) = isnt
 
 counted_one : (i j : ℕ) (t : Turn) → t.hart ≡ i → ((j ≡ i) × (turns_of j (t ∷ []) ≡ 1)) ⊎ ((j ≢ i) × (turns_of j (t ∷ []) ≡ 0))
 counted_one i j t own = by (cases_eq j i)
   where
+    alone : turns_of j (t ∷ []) ≡ 0 + cond (t.hart == j) 1 0
+    alone = refl
+
     by : (j ≡ i) ⊎ (j ≡ i → ⊥) → ((j ≡ i) × (turns_of j (t ∷ []) ≡ 1)) ⊎ ((j ≢ i) × (turns_of j (t ∷ []) ≡ 0))
-    by (inl same) = inl (same, cond-true (t.hart == j) 1 0 (eq-eqb t.hart j (own ∙ sym same)))
-    by (inr other) = inr (other, cond-false (t.hart == j) 1 0 (not_same t.hart j (λ is. other (sym is ∙ own))))
+    by (inl same) = let one : ◌≡◌ {A = ℕ} (cond (t.hart == j) 1 0) 1 = cond-true (t.hart == j) 1 0 (eq-eqb t.hart j (own ∙ sym same)) in inl (same, omega (arith, alone, one))
+    by (inr other) = let none : ◌≡◌ {A = ℕ} (cond (t.hart == j) 1 0) 0 = cond-false (t.hart == j) 1 0 (not_same t.hart j (λ is. other (sym is ∙ own))) in inr (other, omega (arith, alone, none))
 
 -- one turn more of hart i
 counted_more : (counts : List ℕ) (ts : List Turn) (t : Turn) (i : ℕ) → t.hart ≡ i → i < length counts → ((j : ℕ) → turns_of j ts ≡ slice_index counts j)
@@ -275,6 +290,7 @@ module _ {J : Type 0} (g : Geometry) (tells : J → Told → Type 0) where
       let next : Held J = record b { machine = c.machine; journal = c.journal } in
       let course : IsCourse g b.program b.harts b.size (s.choices ++ choices_of t.turn) (s.entries ++ p.entries) c.machine =
       course_on g b.program b.harts b.size (Some s.choices) (Some (choices_of t.turn)) b.machine c.machine s.entries p.entries s.course (p.writable, p.leads) in
+      let first = course_first g b.program b.harts b.size s.choices (choices_of t.turn) b.machine c.machine s.entries p.entries s.course (p.writable, p.leads) in
       let served : IsServed g tells next (slice_set counts i (slice_index counts i + 1)) = record {
         bytes = s.bytes;
         steps = s.steps ++ p.steps;
@@ -285,7 +301,7 @@ module _ {J : Type 0} (g : Geometry) (tells : J → Told → Type 0) where
         course = course;
         turns = s.turns ++ t.turn ∷ [];
         same = ap (λ (xs : List Choice). xs ++ choices_of t.turn) s.same ∙ sym (flat_one s.turns t.turn);
-        taken = taken_more g s.turns t.turn s.course.first b.machine c.machine s.taken t.taken;
+        taken = subst (λ (v : State). AreTaken g (s.turns ++ t.turn ∷ []) v c.machine) (sym first) (taken_more g s.turns t.turn s.course.first b.machine c.machine s.taken t.taken);
         counted = counted_more counts s.turns t.turn i t.hart within s.counted;
       } in
       subst (λ (x : Held J). IsServed g tells x (slice_set counts i (slice_index counts i + 1))) (sym p.rest) served

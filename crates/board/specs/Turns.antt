@@ -99,9 +99,12 @@ module _ {J : Type 0} where
     pub taken : AreTaken g turns course.first b.machine
     pub counted : (i : ℕ) → turns_of i turns ≡ slice_index counts i
 
-  -- no hart has had more than so many turns, and each that runs has had just so many
+  -- hart i has had no more than so many turns, and if it runs, just so many
+  abbrev pub HasHad : ℕ → Counted J → ℕ → Type 0
+  HasHad most b i = (slice_index b.turns i ≤ most) × (IsRunning b.board.machine i → slice_index b.turns i ≡ most)
+
   abbrev pub HaveHad : ℕ → Counted J → Type 0
-  HaveHad most b = (i : ℕ) → i < most_harts → (slice_index b.turns i ≤ most) × (IsRunning b.board.machine i → slice_index b.turns i ≡ most)
+  HaveHad most b = (i : ℕ) → i < most_harts → HasHad most b i
 
   -- and nothing but whole turns was made
   abbrev pub IsDone : ℕ → Counted J → Type 0

@@ -1,4 +1,4 @@
-ghost use Rattle.std.specs.Prelude.{◌≡◌, ◌≤◌, ◌<◌, ◌+◌, ◌*◌, ◌^◌, ◌⊎◌, ◌↔◌, ℕ, replicate, slice_index, slice_set, true, IsTrue, IsFalse, IfOk, IfErr, Some};
+ghost use Rattle.std.specs.Prelude.{◌≡◌, ◌≤◌, ◌<◌, ◌+◌, ◌*◌, ◌^◌, ◌⊎◌, ◌↔◌, ℕ, length, replicate, slice_index, slice_set, true, IsTrue, IsFalse, IfOk, IfErr, Some};
 ghost use Rattle.words.specs.Limits.{most_harts};
 ghost use Rattle.flat.specs.Boots.{boot_fault};
 ghost use Rattle.flat.specs.declared.boot_fault.BootFault.TheVariants as fault;
@@ -6,7 +6,7 @@ ghost use Rattle.machine.specs.States.{geometry};
 ghost use Rattle.board.specs.Histories.{no_step};
 ghost use Rattle.board.specs.Boards.{IsFirst, IsRunning, Settles, Lends, LendsAgain};
 ghost use Rattle.board.specs.Visits.{Visits};
-ghost use Rattle.board.specs.Turns.{HaveHad, IsDone, IsServedEnd};
+ghost use Rattle.board.specs.Turns.{HasHad, HaveHad, IsDone, IsServedEnd};
 
 use crate::board::{Board, Finished};
 use crate::code::Code;
@@ -20,12 +20,45 @@ use std::alloc::{AllocError, Global};
 use std::marker::Model;
 use words::{HARTS, HartId};
 
-/// A board whose harts take turns, and how many turns each has had. On a turn a hart's lease is settled, and the hart is visited.
+/// How many turns each hart has had, and whether nothing else was made.
+#[derive(Drop)]
+struct Tally {
+    turns: [u64; HARTS],
+    whole: bool,
+}
+
+impl Tally {
+    /// That of no turn.
+    fn new() -> Self
+        ensures turns { result.turns ≡ replicate most_harts 0 }
+        ensures whole { result.whole ≡ true }
+    {
+        Tally {
+            turns: [0; HARTS],
+            whole: true,
+        }
+    }
+
+    /// Counts what was made for a hart, if it was a turn and the number has room for it.
+    fn count(&mut self, id: HartId, is_turn: bool)
+        ensures counted { self.new.whole ≡ true → (self.old.whole ≡ true) × (is_turn ≡ true) × (self.new.turns ≡ slice_set self.old.turns id (slice_index self.old.turns id + 1)) }
+        ensures whole { is_turn ≡ true → slice_index self.old.turns id + 1 < 2 ^ 64 → self.new.whole ≡ self.old.whole }
+        ensures places { length self.new.turns ≡ most_harts }
+    {
+        let had = self.turns[id.index()];
+        if is_turn && had < u64::MAX {
+            self.turns[id.index()] = had + 1;
+        } else {
+            self.whole = false;
+        }
+    }
+}
+
+/// A board whose harts take turns, and how many each has had. On a turn a hart's lease is settled, and the hart is visited.
 #[derive(Drop)]
 pub struct Served<'p, const SETS: usize, const WAYS: usize, J: Journal<SETS, WAYS> = Replay> {
     board: Board<'p, SETS, WAYS, J>,
-    turns: [u64; HARTS],
-    whole: bool,
+    tally: Tally,
 }
 
 impl<'p, const SETS: usize, const WAYS: usize, J: Journal<SETS, WAYS>> Model
@@ -34,13 +67,15 @@ impl<'p, const SETS: usize, const WAYS: usize, J: Journal<SETS, WAYS>> Model
 
     ghost Value = { Counted J };
 
-    ghost view = { λ s. record { board = s.board; turns = s.turns; whole = s.whole } };
+    ghost view = { λ s. record { board = s.board; turns = s.tally.turns; whole = s.tally.whole } };
 
-    ghost use Rattle.std.specs.Prelude.{◌≡◌, ◌<◌, ◌*◌, ◌^◌, true};
+    ghost use Rattle.std.specs.Prelude.{◌≡◌, ◌<◌, ◌*◌, ◌^◌, length, true};
+    ghost use Rattle.words.specs.Limits.{most_harts};
     ghost use Rattle.machine.specs.States.{geometry};
     ghost use Rattle.board.specs.Turns.{IsServed};
 
-    ghost invariant = { λ s. (s.whole ≡ true → IsServed (geometry SETS WAYS) J.tells s.board s.turns) × (SETS * WAYS < 2 ^ 32) };
+    ghost invariant = { λ s. (s.tally.whole ≡ true → IsServed (geometry SETS WAYS) J.tells s.board s.tally.turns) × (length s.tally.turns ≡ most_harts)
+        × (SETS * WAYS < 2 ^ 32) };
 }
 
 impl<'p, const SETS: usize, const WAYS: usize, J: Journal<SETS, WAYS>> Served<'p, SETS, WAYS, J> {
@@ -64,8 +99,7 @@ impl<'p, const SETS: usize, const WAYS: usize, J: Journal<SETS, WAYS>> Served<'p
         let board = Board::boot_with(alloc, code, harts, size, journal)?;
         Ok(Served {
             board,
-            turns: [0; HARTS],
-            whole: true,
+            tally: Tally::new(),
         })
     }
 
@@ -80,7 +114,7 @@ impl<'p, const SETS: usize, const WAYS: usize, J: Journal<SETS, WAYS>> Served<'p
     pub fn is_done(&self, turns: u64) -> bool
         ensures { IsTrue result ↔ IsDone turns self.now }
     {
-        self.whole && self.have_had(turns)
+        self.tally.whole && self.have_had(turns)
     }
 
     /// Whether each hart that runs has had just so many turns, and no hart more.
@@ -88,13 +122,23 @@ impl<'p, const SETS: usize, const WAYS: usize, J: Journal<SETS, WAYS>> Served<'p
         ensures { IsTrue result ↔ HaveHad turns self.now }
     {
         for number in 0..HARTS {
-            let had = self.turns[number];
-            let id = HartId::new(number as u8);
-            if had > turns || (had < turns && self.board.is_running(id)) {
+            if !self.has_had(HartId::new(number as u8), turns) {
                 return false;
             }
         }
         true
+    }
+
+    /// Whether a hart has had just so many turns, or fewer, if it doesn't run.
+    fn has_had(&self, id: HartId, turns: u64) -> bool
+        ensures { IsTrue result ↔ HasHad turns self.now id }
+    {
+        let had = self.tally.turns[id.index()];
+        if self.board.is_running(id) {
+            had == turns
+        } else {
+            had <= turns
+        }
     }
 
     /// The board's parts. If all is done, whole turns have led to its machine, so many of each hart that still runs.
@@ -107,21 +151,6 @@ impl<'p, const SETS: usize, const WAYS: usize, J: Journal<SETS, WAYS>> Served<'p
         ensures end { (most : ℕ) → IsDone most self.entry → IsServedEnd (geometry SETS WAYS) result.program.now result.harts result.size (J.tells result.journal) most result.machine }
     {
         self.board.finish()
-    }
-}
-
-/// Counts a turn of a hart. The answer is whether the number has room for it.
-fn count(turns: &mut [u64; HARTS], id: HartId) -> bool
-    ensures counted { IsTrue result → turns.new ≡ slice_set turns.old id (slice_index turns.old id + 1) }
-    ensures full { IsFalse result → turns.new ≡ turns.old }
-{
-    let place = &mut turns[id.index()];
-    match place.checked_add(1) {
-        Some(more) => {
-            *place = more;
-            true
-        }
-        None => false,
     }
 }
 
@@ -147,13 +176,13 @@ impl<'p, const SETS: usize, const WAYS: usize, J: Journal<SETS, WAYS>> Desk
     }
 
     fn settle(&mut self, lease: &Lease<'p, SETS, WAYS, J::Trace>) -> Result<(), Refusal> {
-        self.whole = false;
-        self.board.settle(lease)
+        self.tally.whole = false;
+        Desk::settle(&mut self.board, lease)
     }
 
     fn visit(&mut self, id: HartId) -> Result<bool, AllocError> {
-        self.whole = false;
-        self.board.visit(id)
+        self.tally.whole = false;
+        Desk::visit(&mut self.board, id)
     }
 
     fn finish_turn(
@@ -162,11 +191,9 @@ impl<'p, const SETS: usize, const WAYS: usize, J: Journal<SETS, WAYS>> Desk
         lease: &mut Lease<'p, SETS, WAYS, J::Trace>,
         is_last: bool,
     ) -> Result<bool, AllocError> {
-        let is_own = lease.hart() == id;
+        let is_own = lease.hart().index() == id.index();
         let ended = self.board.finish_turn(id, lease, is_last);
-        if ended.is_err() || !is_own || !count(&mut self.turns, id) {
-            self.whole = false;
-        }
+        self.tally.count(id, is_own & ended.is_ok());
         ended
     }
 }
