@@ -22,7 +22,7 @@ use Rattle.schedule.specs.Written.{IsWritable}
 use Rattle.schedule.proofs.Making.{entries_both, entries_one}
 use Rattle.board.specs.Leases.{Lent}
 use Rattle.schedule.specs.Steps.{IsChoiceOf, IsWithin}
-use Rattle.board.specs.Histories.{Told, IsChosen, IsOf, Leads, LeadsAlone, no_step, one_step, core_steps, both, told_then, first_flat, IsReplay, IsCourseIf, IsKept, IsEnd}
+use Rattle.board.specs.Histories.{Told, IsChosen, IsOf, Leads, LeadsAlone, no_step, one_step, core_steps, both, told_then, first_flat, IsReplay, IsCourse, IsCourseIf, IsKept, IsEnd}
 use Rattle.board.proofs.Replays.{Begins, run_settings, replay_none, replay_more, replay_segments, replay_flat}
 
 -- choices behind others
@@ -52,9 +52,18 @@ chosen_made g m next step c (Ok _) (e, made) = (e, made, λ told chosen. chosen_
 chosen_made g m next step c (Err _) made = tt {0}
 
 -- one choice
-leads_one : (g : Geometry) (c : Choice) (step : Step) (e : Option Entry) (v w : State) → IsChoiceOf g.sets v step c → Makes g v (Some step) e w → Leads g (c ∷ []) v (option_to_list e) w
+pub leads_one : (g : Geometry) (c : Choice) (step : Step) (e : Option Entry) (v w : State) → IsChoiceOf g.sets v step c → Makes g v (Some step) e w → Leads g (c ∷ []) v (option_to_list e) w
 leads_one g c step e v w chosen made =
     (moment v step e w ∷ [], entries_one g v w (Some step) e made, λ after. (Some step, e, w, [], chosen after, made, (refl, refl), refl))
+
+-- one step
+pub runs_one : (g : Geometry) (m next : State) (step : Step) (e : Option Entry) → Makes g m (Some step) e next → Runs g (shown g.sets m) (step ∷ []) (option_to_list e) (shown g.sets next)
+runs_one g m next step e made = (shown g.sets next, e, [], steps_of g m step e next made, (refl, refl), sym (append-nil (option_to_list e)))
+
+-- choices behind others lead on
+pub leads_then : (g : Geometry) (cs ds : List Choice) (v u w : State) (es fs : List Entry) → Leads g cs v es u → Leads g ds u fs w → Leads g (cs ++ ds) v (es ++ fs) w
+leads_then g cs ds v u w es fs (ms, given, follows) (ns, more, on) =
+    (ms ++ ns, ap₂ (λ (xs ys : List Entry). xs ++ ys) given more ∙ sym (entries_both ms ns), λ after. follows_on g cs ds v u w after ms ns (follows after) on)
 
 -- choices that are known, each of which can be written, lead on
 abbrev LeadsIf : Geometry → Option (List Choice) → State → List Entry → State → Type 0
@@ -62,7 +71,7 @@ LeadsIf g (Some choices) v es w = All IsWritable choices × Leads g choices v es
 LeadsIf g None v es w = Unit {0}
 
 module _ (g : Geometry) (p : Program) (n size : ℕ) where
-  course_on : (cs ds : Option (List Choice)) (m next : State) (es fs : List Entry) → IsCourseIf g p n size cs es m → LeadsIf g ds m fs next → IsCourseIf g p n size (both cs ds) (es ++ fs) next
+  pub course_on : (cs ds : Option (List Choice)) (m next : State) (es fs : List Entry) → IsCourseIf g p n size cs es m → LeadsIf g ds m fs next → IsCourseIf g p n size (both cs ds) (es ++ fs) next
   course_on (Some cs) (Some ds) m next es fs c (writable, (ms, given, leads)) = record {
     boots = c.boots;
     first = c.first;
@@ -77,6 +86,12 @@ module _ (g : Geometry) (p : Program) (n size : ℕ) where
   course_on None (Some ds) m next es fs c leads = tt {0}
   course_on None None m next es fs c leads = tt {0}
 
+  -- it begins where it did
+  pub course_first : (cs ds : List Choice) (m next : State) (es fs : List Entry) (c : IsCourse g p n size cs es m) (leads : LeadsIf g (Some ds) m fs next)
+      → (course_on (Some cs) (Some ds) m next es fs c leads).first ≡ c.first
+  unfolding course_on
+  course_first cs ds m next es fs c (writable, (ms, given, leads)) = refl
+
   pub kept_segments : (tells : Told → Type 0) (m : State) → IsKept g p n size tells m → m.program.segments ≡ p.segments
   kept_segments tells m k = replay_segments g p n size k.all.steps m k.all.entries k.replay
 
@@ -84,7 +99,7 @@ module _ (g : Geometry) (p : Program) (n size : ℕ) where
   kept_size tells m k = ap (λ (s : Setting). s.size) (run_settings g (start (first_flat p n size).setting p.entry) (shown g.sets m) k.all.steps k.all.entries k.replay.runs)
 
   -- a choice within memory can be written
-  kept_writable : (tells : Told → Type 0) (m : State) (c : Choice) → size < 2 ^ 32 → IsKept g p n size tells m → IsWithin (setting_of m) c → IsWritable c
+  pub kept_writable : (tells : Told → Type 0) (m : State) (c : Choice) → size < 2 ^ 32 → IsKept g p n size tells m → IsWithin (setting_of m) c → IsWritable c
   kept_writable tells m (Core h) less k few = few
   kept_writable tells m (Evict h b) less k (few, near) = (few, omega (arith, near, less, kept_size tells m k))
   kept_writable tells m (Deliver name) less k (few, near) = (few, omega (arith, near, less, kept_size tells m k))
@@ -115,12 +130,9 @@ module _ (g : Geometry) (p : Program) (n size : ℕ) where
       subst (IsKept g p n size later) (sym same) (record { all = k.all; told = still k.all k.told; replay = k.replay; course = k.course })
 
   -- a step
-  runs_one : (m next : State) (step : Step) (e : Option Entry) → Makes g m (Some step) e next → Runs g (shown g.sets m) (step ∷ []) (option_to_list e) (shown g.sets next)
-  runs_one m next step e made = (shown g.sets next, e, [], steps_of g m step e next made, (refl, refl), sym (append-nil (option_to_list e)))
-
   kept_turn : (tells later : Told → Type 0) (m next : State) (step : Step) (e : Option Entry) → IsKept g p n size tells m → Makes g m (Some step) e next
       → ((told : Told) → tells told → later (told_then told (one_step step e None))) → IsKept g p n size later next
-  kept_turn tells later m next step e k made told = kept_on tells later m next (one_step step e None) k (runs_one m next step e made) (tt {0}) told
+  kept_turn tells later m next step e k made told = kept_on tells later m next (one_step step e None) k (runs_one g m next step e made) (tt {0}) told
 
   -- the same of just these steps; or none, where memory ran out
   pub kept_step : {E : Type 0} (steps later : List Step) (es after : List Entry) (m next : State) (step : Step) (r : Result (Option Entry) E) → IsKept g p n size (IsOf steps es) m
@@ -140,7 +152,7 @@ module _ (g : Geometry) (p : Program) (n size : ℕ) where
       → OnOk r ((e : Option Entry) × Makes g m (Some step) e next × ((told : Told) → tells told → later (told_then told (one_step step e (Some c)))))
       → OnErr r ((next ≡ m) × ((told : Told) → tells told → later told)) → IsKept g p n size later next
   kept_made tells later m next step c (Ok _) less k chosen within (e, made, told) err =
-      kept_on tells later m next (one_step step e (Some c)) k (runs_one m next step e made)
+      kept_on tells later m next (one_step step e (Some c)) k (runs_one g m next step e made)
       (All-cons IsWritable c [] (kept_writable tells m c less k within) (All-nil IsWritable), leads_one g c step e m next chosen made) told
   kept_made tells later m next step c (Err _) less k chosen within ok (same, still) = kept_still tells later m next k same still
 

@@ -4,5 +4,6 @@ mod Returns
 mod Locals
 mod Payments
 mod Turns
-mod Boxed
 mod PlayedAgain
+mod WholeTurns
+mod Within

@@ -1,27 +1,23 @@
 -- The steps that have led to a machine, as a journal tells them.
-use Rattle.std.specs.Prelude.{ℕ, ◌≡◌, ◌<◌, ◌-◌, ◌++◌, All, List, [], ◌∷◌, length, replicate, option_to_list, Option, Some, None}
+use Rattle.std.specs.Prelude.{ℕ, ◌≡◌, ◌-◌, ◌++◌, All, List, [], ◌∷◌, length, replicate, option_to_list, Option, Some, None}
 use Rattle.std.specs.Option.{option_map}
-use Rattle.words.specs.Limits.{most_harts}
 use Rattle.words.specs.declared.entry.Entry.{Entry}
 use Rattle.words.specs.declared.entry.Step.{Step}
 use Rattle.words.specs.declared.entry.Step.TheVariants as step
 use Rattle.loader.specs.Programs.{Program}
-use Rattle.flat.specs.State.{Setting, Flat}
+use Rattle.flat.specs.State.{Flat}
 use Rattle.flat.specs.Steps.{IsRun}
 use Rattle.flat.specs.Boots.{boot_fault, booted}
 use Rattle.protocol.specs.Caches.{Geometry}
 use Rattle.protocol.specs.Start.{start}
 use Rattle.protocol.specs.Machine.{Runs}
-use Rattle.isolation.specs.Memory.{LiesInMemory}
 use Rattle.isolation.specs.Belongs.{Belongs}
 use Rattle.isolation.specs.Reasons.{HaveReasons}
 use Rattle.machine.specs.States.{State, setting_of, shown}
 use Rattle.machine.specs.Unused.{IsUnused}
 use Rattle.board.specs.Leases.{Lent}
-use Rattle.schedule.specs.declared.choices.Name.{Name}
 use Rattle.schedule.specs.declared.choices.Choice.{Choice}
-use Rattle.schedule.specs.declared.choices.Choice.TheVariants.{Core, Evict, Deliver, Turn}
-use Rattle.schedule.specs.Steps.{IsStepOf}
+use Rattle.schedule.specs.declared.choices.Choice.TheVariants.{Core}
 use Rattle.schedule.specs.Moments.{Moment, entries_of}
 use Rattle.schedule.specs.Runs.{Follows}
 use Rattle.schedule.specs.Written.{IsWritable}

@@ -3,3 +3,4 @@ pub mod Histories
 pub mod Boards
 pub mod Visits
 pub mod Ends
+pub mod Turns

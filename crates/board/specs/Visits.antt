@@ -3,10 +3,12 @@ use Rattle.std.specs.Prelude.{ℕ, ◌≡◌, ◌<◌, ◌⊎◌, ◌↔◌, Lis
 use Rattle.std.specs.declared.alloc.AllocError.{AllocError}
 use Rattle.words.specs.declared.entry.Entry.{Entry}
 use Rattle.words.specs.declared.entry.Step.{Step}
-use Rattle.words.specs.declared.entry.Step.TheVariants.{Core}
+use Rattle.words.specs.declared.entry.Step.TheVariants as step
 use Rattle.protocol.specs.Caches.{Geometry}
 use Rattle.machine.specs.States.{State, shown}
 use Rattle.machine.specs.Turns.{IsOwed}
+use Rattle.schedule.specs.declared.choices.Choice.{Choice}
+use Rattle.schedule.specs.declared.choices.Choice.TheVariants.{Core}
 use Rattle.board.specs.Histories.{Told}
 use Rattle.board.specs.Boards.{Held, IsRunning, IsTurn, IsAsBefore}
 
@@ -19,7 +21,7 @@ module _ {J : Type 0} where
   abbrev pub PaysOff : Geometry → (J → Told → Type 0) → ℕ → List Step → Held J → Held J → Type 0
   PaysOff g tells i [] b c = c ≡ b
   PaysOff g tells i (x ∷ xs) b c =
-      (d : Held J) × (e : Option Entry) × Owes g i b.machine (Some x) × IsTurn g tells b x e d × PaysOff g tells i xs d c
+      (d : Held J) × (choice : Choice) × (e : Option Entry) × Owes g i b.machine (Some x) × IsTurn g tells b x (Some choice) e d × PaysOff g tells i xs d c
 
   -- a step of the hart's core, and then so many that are owed
   pub record IsVisitOf (g : Geometry) (tells : J → Told → Type 0) (i n : ℕ) (b c : Held J) : Type 0 where
@@ -27,7 +29,7 @@ module _ {J : Type 0} where
     pub count : length steps ≡ n
     pub middle : Held J
     pub entry : Option Entry
-    pub begins : IsTurn g tells b (Core i) entry middle
+    pub begins : IsTurn g tells b (step.Core i) (Some (Core i)) entry middle
     pub pays : PaysOff g tells i steps middle c
 
   -- a whole visit: 64 steps in all, or fewer, if nothing more is owed
@@ -47,5 +49,5 @@ module _ {J : Type 0} where
 
   -- a step that is owed was made; or none is owed, and nothing changed
   abbrev pub PaysOne : Geometry → (J → Told → Type 0) → ℕ → Bool → Held J → Held J → Type 0
-  PaysOne g tells i true b c = (x : Step) × (e : Option Entry) × Owes g i b.machine (Some x) × IsTurn g tells b x e c
+  PaysOne g tells i true b c = (x : Step) × (choice : Choice) × (e : Option Entry) × Owes g i b.machine (Some x) × IsTurn g tells b x (Some choice) e c
   PaysOne g tells i false b c = Owes g i b.machine None × (c ≡ b)

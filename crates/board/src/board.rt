@@ -144,7 +144,7 @@ impl<'p, const SETS: usize, const WAYS: usize, J: Journal<SETS, WAYS>> Board<'p,
 
     /// Takes over the steps of a lease, if its hart is still as it was lent.
     pub fn settle(&mut self, lease: &Lease<'p, SETS, WAYS, J::Trace>) -> Result<(), Refusal>
-        ensures ok { OnOk result (Fits self.old lease.now × IsSettled J.tells J.Trace.traces self.old lease.now self.new) }
+        ensures ok { OnOk result (Fits self.old lease.now × IsSettled (geometry SETS WAYS) J.tells J.Trace.traces self.old lease.now self.new) }
         ensures unchanged { OnErr result (IsAsBefore J.tells self.old self.new) }
         ensures refused { IfErr result (IsRefusedFor self.old lease.now) }
     {
@@ -167,7 +167,7 @@ impl<'p, const SETS: usize, const WAYS: usize, J: Journal<SETS, WAYS>> Board<'p,
     /// Takes over the steps of a lease that fits.
     fn take_over(&mut self, lease: &Lease<'p, SETS, WAYS, J::Trace>) -> Result<(), AllocError>
         requires { Fits self.old lease.now }
-        ensures ok { OnOk result (IsSettled J.tells J.Trace.traces self.old lease.now self.new) }
+        ensures ok { OnOk result (IsSettled (geometry SETS WAYS) J.tells J.Trace.traces self.old lease.now self.new) }
         ensures err { OnErr result (IsAsBefore J.tells self.old self.new) }
     {
         self.journal

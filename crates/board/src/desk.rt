@@ -74,7 +74,7 @@ impl<'p, const SETS: usize, const WAYS: usize, J: Journal<SETS, WAYS>> Desk
     for Board<'p, SETS, WAYS, J> {
     type Lease = Lease<'p, SETS, WAYS, J::Trace>;
 
-    ghost settles = { Settles J.tells J.Trace.traces };
+    ghost settles = { Settles (geometry SETS WAYS) J.tells J.Trace.traces };
 
     ghost visits = { Visits (geometry SETS WAYS) J.tells };
 

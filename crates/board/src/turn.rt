@@ -1,4 +1,4 @@
-ghost use Rattle.std.specs.Prelude.{◌≡◌, IfOk, OnErr};
+ghost use Rattle.std.specs.Prelude.{◌≡◌, None, IfOk, OnErr};
 ghost use Rattle.flat.specs.State.{Flat};
 ghost use Rattle.flat.specs.Steps.{IsRun};
 ghost use Rattle.isolation.specs.Belongs.{Belongs};
@@ -29,7 +29,7 @@ impl<'p, const SETS: usize, const WAYS: usize, A: Allocator> Board<'p, SETS, WAY
 
     /// One step, enabled or not.
     pub fn turn(&mut self, step: Step) -> Result<Option<Entry>, AllocError>
-        ensures ok { IfOk result (λ e. IsTurn (geometry SETS WAYS) (λ r. IsOf r.history.items r.entries.items) self.old step e self.new) }
+        ensures ok { IfOk result (λ e. IsTurn (geometry SETS WAYS) (λ r. IsOf r.history.items r.entries.items) self.old step None e self.new) }
         ensures err { OnErr result (IsAsBefore (λ r. IsOf r.history.items r.entries.items) self.old self.new) }
     {
         self.journal.step(&mut self.machine, step)

@@ -1,4 +1,4 @@
-ghost use Rattle.std.specs.Prelude.{◌≡◌, ◌↔◌, IsTrue, IfOk, OnOk, OnErr, Option};
+ghost use Rattle.std.specs.Prelude.{◌≡◌, ◌↔◌, IsTrue, IfOk, OnOk, OnErr, Option, Some};
 ghost use Rattle.words.specs.declared.entry.Entry.{Entry};
 ghost use Rattle.machine.specs.States.{setting_of, geometry};
 ghost use Rattle.schedule.specs.Steps.{IsChoiceOf, IsWithin};
@@ -34,7 +34,7 @@ impl<'p, const SETS: usize, const WAYS: usize, J: Journal<SETS, WAYS>> Board<'p,
 
     /// A step of a hart's core.
     fn core(&mut self, id: HartId) -> Result<(), AllocError>
-        ensures ok { OnOk result ((e : Option Entry) × IsTurn (geometry SETS WAYS) J.tells self.old (Step.Core id) e self.new) }
+        ensures ok { OnOk result ((e : Option Entry) × IsTurn (geometry SETS WAYS) J.tells self.old (Step.Core id) (Some (Choice.Core id)) e self.new) }
         ensures err { OnErr result (IsAsBefore J.tells self.old self.new) }
     {
         let _few = id.index();
@@ -60,7 +60,7 @@ impl<'p, const SETS: usize, const WAYS: usize, J: Journal<SETS, WAYS>> Board<'p,
     fn take(&mut self, chosen: &Chosen) -> Result<(), AllocError>
         requires chosen { IsChoiceOf SETS self.old.machine chosen.now.step chosen.now.choice }
         requires within { IsWithin (setting_of self.old.machine) chosen.now.choice }
-        ensures ok { OnOk result ((e : Option Entry) × IsTurn (geometry SETS WAYS) J.tells self.old chosen.now.step e self.new) }
+        ensures ok { OnOk result ((e : Option Entry) × IsTurn (geometry SETS WAYS) J.tells self.old chosen.now.step (Some chosen.now.choice) e self.new) }
         ensures err { OnErr result (IsAsBefore J.tells self.old self.new) }
     {
         self.journal.make(&mut self.machine, chosen)

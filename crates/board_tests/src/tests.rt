@@ -8,4 +8,5 @@ mod lending;
 mod memory;
 mod play;
 mod rows;
+mod served;
 mod stale;

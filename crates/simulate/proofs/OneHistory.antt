@@ -27,7 +27,7 @@ pub threaded_once : (g : Geometry) (run : Run) (path : Bor (List ℕ)) (file his
     → before.file.taken ≡ Some [] → after.file.taken ≡ Some history → earlier.file.taken ≡ Some [] → later.file.taken ≡ Some history
     → IsGivenInThreads g run (Some path) file before after status → IsGivenInThreads g run (Some path) file earlier later other
     → (other ≡ status) × ((report : List ℕ) × TookAll before.output after.output report × TookAll earlier.output later.output report)
-threaded_once g run path file history before after earlier later status other empty all empty_too all_too (reported, (list, n, counted, texts, are, took, kept)) (reported_too, (list_too, m, counted_too, texts_too, are_too, took_too, kept_too)) =
+threaded_once g run path file history before after earlier later status other empty all empty_too all_too (reported, (list, n, counted, texts, are, turns, took, kept)) (reported_too, (list_too, m, counted_too, texts_too, are_too, turns_too, took_too, kept_too)) =
     let one : list ≡ history = whole_list before.file after.file list history empty all kept in
     let two : list_too ≡ history = whole_list earlier.file later.file list_too history empty_too all_too kept_too in
     let same : list_too ≡ list = two ∙ sym one in

@@ -1,7 +1,10 @@
 -- A run in threads, from what its parts came to.
-use Rattle.std.proofs.Common.{◌≡◌, ◌≤◌, ◌⊎◌, ◌++◌, ℕ, All, Bool, true, false, cond, arith, List, [], Option, Some, None, Result, Ok, Err, MatchResult, inl, inr, refl, sym, subst, ap, ◌∙◌, length, append-nil}
+use Rattle.std.proofs.Common.{◌≡◌, ◌≤◌, ◌<◌, ◌⊎◌, ◌++◌, ℕ, zero, suc, ◌∷◌, All, Bool, true, false, cond, arith, List, [], Option, Some, None, Result, Ok, Err, MatchResult, inl, inr, refl, sym, subst, ap, ◌∙◌, length, append-nil}
 use Rattle.std.proofs.lemmas.Bool.Decides.{nat_tests}
 use Rattle.std.specs.Borrow.{Bor}
+use Rattle.std.specs.Prelude.{slice_get}
+use Rattle.std.specs.Option.{option_map, option_map_or}
+use Rattle.std.proofs.lemmas.Option.{same_Some}
 use Rattle.std.specs.Str.{IsUtf8}
 use Rattle.words.specs.Limits.{most_harts}
 use Rattle.words.specs.Sinks.{SinkState, TookAll, TookPart}
@@ -14,16 +17,21 @@ use Rattle.command_line.specs.declared.request.Show.TheVariants.{Report}
 use Rattle.command_line.specs.declared.request.Word.{Word as Asked}
 use Rattle.flat.specs.Boots.{boot_fault, is_size, is_count, fits_below}
 use Rattle.flat.specs.declared.boot_fault.BootFault.TheVariants as boot
-use Rattle.flat.specs.State.{Setting, Flat}
+use Rattle.flat.specs.State.{Setting, Flat, idle}
 use Rattle.flat.specs.Steps.{IsRun}
 use Rattle.flat.proofs.Runs.{run_setting}
 use Rattle.isolation.specs.Belongs.{Belongs}
+use Rattle.isolation.proofs.Belongs.Belonging.{inv_of}
 use Rattle.isolation.specs.Reasons.{HaveReasons}
 use Rattle.protocol.specs.Caches.{Geometry}
 use Rattle.protocol.specs.Machine.{Machine}
-use Rattle.protocol.specs.Start.{start}
-use Rattle.machine.specs.States.{State, setting_of, shown}
-use Rattle.board.specs.Histories.{first_flat, Told, IsCourse, IsCourseIf, IsEnd}
+use Rattle.protocol.specs.Start.{start, first_hart}
+use Rattle.hart.specs.Shown.{shown_hart}
+use Rattle.machine.specs.States.{Seat, State, setting_of, shown, hart_at}
+use Rattle.machine.specs.Lent.{hart_if}
+use Rattle.board.specs.Histories.{first_flat, Told, IsCourse}
+use Rattle.board.specs.Boards.{IsRunning}
+use Rattle.board.specs.Turns.{AreOfTurns, IsLeft, IsServedEnd}
 use Rattle.schedule.specs.declared.choices.Choice.{Choice}
 use Rattle.schedule.specs.Lines.{lines_of, AreSpelledBy}
 use Rattle.schedule.specs.Written.{text_of, IsWritable}
@@ -37,7 +45,7 @@ use Rattle.requests.specs.Outputs.{Sinks, Texts}
 use Rattle.requests.specs.Sources.{IsProgramIn, IsProgramFault}
 use Rattle.requests.specs.Starts.{flat_start}
 use Rattle.render.specs.Statuses.{IsStatusOf}
-use Rattle.simulate.specs.Threaded.{IsReady, IsUnready, IsGivenInThreads, IsNotGivenInThreads, history_text, with_steps}
+use Rattle.simulate.specs.Threaded.{IsReady, IsUnready, IsGivenInThreads, IsNotGivenInThreads, StillRuns, history_text, with_steps}
 use Rattle.requests.specs.Unreadable.{IsFirstUnreadable, IsUnreadable}
 use Rattle.requests.specs.declared.fault.Fault.{Fault}
 use Rattle.requests.specs.declared.fault.Fault.TheVariants.{NoMemory, Exchanged}
@@ -81,8 +89,9 @@ few_harts segments n size boots = few (passed (is_size size) (is_count n) (fits_
     few is = grind (arith, nat_tests)
 
 -- a board that is the program's
-pub end_same : (g : Geometry) (p q : Program) (n k size bytes : ℕ) (tells : Told → Type 0) (m : State) → q ≡ p → k ≡ n → bytes ≡ size → IsEnd g q k bytes tells m → IsEnd g p n size tells m
-end_same g p q n k size bytes tells m program harts memory end = rw (← program, ← harts, ← memory) end
+pub end_same : (g : Geometry) (p q : Program) (n k size bytes : ℕ) (tells : Told → Type 0) (most : ℕ) (m : State) → q ≡ p → k ≡ n → bytes ≡ size → IsServedEnd g q k bytes tells most m
+    → IsServedEnd g p n size tells most m
+end_same g p q n k size bytes tells most m program harts memory end = rw (← program, ← harts, ← memory) end
 
 -- one that isn't
 pub not_same : {A : Type 0} (is : A → Type 0) (r : Result A Fault) → MatchResult r is (λ s. s ≡ Exchanged) → MatchResult r is (λ s. (s ≡ NoMemory) ⊎ (s ≡ Exchanged))
@@ -91,45 +100,57 @@ not_same is (Err s) has = inr has
 
 -- ---- the run that was made
 
--- choices have led to this machine, and their entries are a run of the flat machine
-pub record IsEndBy (g : Geometry) (p : Program) (n size : ℕ) (choices : List Choice) (m : State) : Type 0 where
+-- choices have led to this machine, by whole turns, and their entries are a run of the flat machine
+pub record IsEndBy (g : Geometry) (p : Program) (n size most : ℕ) (choices : List Choice) (m : State) : Type 0 where
   pub entries : List Entry
   pub course : IsCourse g p n size choices entries m
+  pub turns : AreOfTurns g most (IsLeft m) course.first choices m
   pub flat : Flat
   pub runs : IsRun (first_flat p n size) entries flat
   pub reasons : HaveReasons (first_flat p n size) entries
   pub belongs : Belongs g flat (shown g.sets m)
 
-pub end_by : (g : Geometry) (p : Program) (n size : ℕ) (tells : Told → Type 0) (choices : List Choice) (m : State) (e : IsEnd g p n size tells m) → e.kept.all.choices ≡ Some choices → IsEndBy g p n size choices m
-end_by g p n size tells choices m e is = record {
-  entries = e.kept.all.entries;
-  course = subst (λ (cs : Option (List Choice)). IsCourseIf g p n size cs e.kept.all.entries m) is e.kept.course;
-  flat = e.flat;
-  runs = e.runs;
-  reasons = e.reasons;
-  belongs = e.belongs;
-}
+pub end_by : (g : Geometry) (p : Program) (n size : ℕ) (tells : Told → Type 0) (most : ℕ) (m : State) (e : IsServedEnd g p n size tells most m) → IsEndBy g p n size most e.choices m
+end_by g p n size tells most m e = record { entries = e.entries; course = e.course; turns = e.turns; flat = e.flat; runs = e.runs; reasons = e.reasons; belongs = e.belongs }
+
+-- the same of choices that are known
+pub end_known : (g : Geometry) (p : Program) (n size most : ℕ) (choices : List Choice) (m : State) (e : IsServedEnd g p n size (λ told. told.choices ≡ Some choices) most m) → IsEndBy g p n size most choices m
+end_known g p n size most choices m e = subst (λ (cs : List Choice). IsEndBy g p n size most cs m) (same_Some e.choices choices e.told) (end_by g p n size (λ told. told.choices ≡ Some choices) most m e)
 
 -- words that can be read in the first state can be read in the machine that its harts come to
-readable_at_end : (g : Geometry) (p : Program) (n size : ℕ) (choices : List Choice) (m : State) (words : List ℕ) → IsEndBy g p n size choices m → AllReadable (first_flat p n size).setting words → AllReadable (setting_of m) words
-readable_at_end g p n size choices m words e all =
+readable_at_end : (g : Geometry) (p : Program) (n size most : ℕ) (choices : List Choice) (m : State) (words : List ℕ) → IsEndBy g p n size most choices m → AllReadable (first_flat p n size).setting words → AllReadable (setting_of m) words
+readable_at_end g p n size most choices m words e all =
     let same : (first_flat p n size).setting ≡ setting_of m = sym (run_setting (first_flat p n size) e.flat e.entries e.runs) ∙ same_setting g e.flat m e.belongs in
     subst (λ (s : Setting). AllReadable s words) same all
 
+seat_at : {A : Type 0} (xs : List A) (i : ℕ) → i < length xs → (x : A) × (slice_get xs i ≡ Some x)
+seat_at [] i less = absurd (omega (arith, less))
+seat_at (x ∷ xs) zero less = (x, refl)
+seat_at (x ∷ xs) (suc i) less = seat_at xs i (omega (arith, less))
+
+-- a hart that still runs in the flat state runs in the machine
+still_left : (g : Geometry) (f : Flat) (m : State) (i : ℕ) → Belongs g f (shown g.sets m) → f.setting.count ≤ most_harts → StillRuns f i → IsLeft m i
+still_left g f m i b few (inside, running) =
+    let within : i < length m.seats = subst (λ (s : Setting). i < s.count) (same_setting g f m b) inside in
+    let at = seat_at m.seats i within in
+    let here : (hart_at g.sets m.seats i).status ≡ at.0.hart.status = ap (λ (o : Option Seat). (option_map_or (λ s. shown_hart g.sets s.output s.hart) o (first_hart idle)).status) at.1 in
+    let looks : (f.hart i).status ≡ (hart_at g.sets m.seats i).status = ((inv_of g f (shown g.sets m) b).1.harts i).status in
+    (omega (arith, inside, few), (at.0.hart, ap (option_map (λ (s : Seat). s.hart)) at.1, sym here ∙ (sym looks ∙ running)))
+
 -- the harts have come to this machine, by choices which the text of the history spells
 pub record IsComeTo (g : Geometry) (run : Run) (p : Program) (choices : List Choice) (m : State) (addrs : List ℕ) : Type 0 where
-  pub end : IsEndBy g p run.setup.harts run.setup.memory choices m
+  pub end : IsEndBy g p run.setup.harts run.setup.memory run.steps choices m
   pub chosen : AreChosenBy (text_of choices) choices
   pub same : addrs ≡ addresses run.words.items
   pub readable : AllReadable (setting_of m) addrs
 
-pub come_to : (g : Geometry) (run : Run) (p : Program) (choices : List Choice) (m : State) (addrs : List ℕ) → IsReady run p addrs → IsEndBy g p run.setup.harts run.setup.memory choices m
+pub come_to : (g : Geometry) (run : Run) (p : Program) (choices : List Choice) (m : State) (addrs : List ℕ) → IsReady run p addrs → IsEndBy g p run.setup.harts run.setup.memory run.steps choices m
     → ((cs : List Choice) → All IsWritable cs → IsUtf8 (text_of cs)) → ((cs : List Choice) → All IsWritable cs → AreSpelledBy (lines_of (text_of cs)) cs) → IsComeTo g run p choices m addrs
 come_to g run p choices m addrs ready end is_text spelled = record {
   end = end;
   chosen = (is_text choices end.course.writable, spelled choices end.course.writable);
   same = ready.same;
-  readable = subst (λ (l : List ℕ). AllReadable (setting_of m) l) (sym ready.same) (readable_at_end g p run.setup.harts run.setup.memory choices m (addresses run.words.items) end ready.readable);
+  readable = subst (λ (l : List ℕ). AllReadable (setting_of m) l) (sym ready.same) (readable_at_end g p run.setup.harts run.setup.memory run.steps choices m (addresses run.words.items) end ready.readable);
 }
 
 module _ (g : Geometry) (run : Run) (file : List ℕ) (p : Program) (holds : IsProgramIn run.setup.file.now file p) (choices : List Choice) (m : State) (addrs : List ℕ) (come : IsComeTo g run p choices m addrs) where
@@ -157,6 +178,14 @@ module _ (g : Geometry) (run : Run) (file : List ℕ) (p : Program) (holds : IsP
         reasons = subst (HaveReasons (flat_start p run.setup)) course.given come.end.reasons;
       }
 
+  -- they are the harts' turns
+  turned : AreOfTurns g run.steps (StillRuns come.end.flat) comes.first comes.choices comes.last
+  turned =
+      let e = come.end in
+      let few : e.flat.setting.count ≤ most_harts = subst (λ (s : Setting). s.count ≤ most_harts) (sym (run_setting (first_flat p run.setup.harts run.setup.memory) e.flat e.entries e.runs))
+      (few_harts p.segments run.setup.harts run.setup.memory e.course.boots) in
+      record { turns = e.turns.turns; same = e.turns.same; taken = e.turns.taken; few = e.turns.few; all = λ i still. e.turns.all i (still_left g e.flat m i e.belongs few still) }
+
   module _ (words : List ℕ) (as_given : words ≡ addrs) where
     abbrev whole : Texts
     whole = record { output = report_of come.end.flat words ++ []; file = [] }
@@ -181,13 +210,13 @@ module _ (g : Geometry) (run : Run) (file : List ℕ) (p : Program) (holds : IsP
       pub given : (status : ℕ) → TookAll h k (history_text history list) → IsConcluded g m words a b status → IsGivenInThreads g run history file before after status
       given status kept whole_put =
           let at = whole_put.1 come.end.flat come.end.belongs in
-          (whole_put.0, (list, steps, counted, whole, texts status at.0, subst (λ (l : List ℕ). TookAll a b l) (sym (append-nil (report_of come.end.flat words))) at.1, kept))
+          (whole_put.0, (list, steps, counted, whole, texts status at.0, turned, subst (λ (l : List ℕ). TookAll a b l) (sym (append-nil (report_of come.end.flat words))) at.1, kept))
 
       -- a put of the report failed
       pub half_given : (fault : Fault) → TookAll h k (history_text history list) → IsHalfConcluded g m words a b fault → IsNotGivenInThreads g run history file before after fault
       half_given fault kept half =
           let at = half.1 come.end.flat come.end.belongs in
-          inr (inr (half.0, (list, steps, counted, whole, at.0, texts at.0 at.1, subst (λ (l : List ℕ). TookPart a b l) (sym (append-nil (report_of come.end.flat words))) at.2, kept)))
+          inr (inr (half.0, (list, steps, counted, whole, at.0, texts at.0 at.1, turned, subst (λ (l : List ℕ). TookPart a b l) (sym (append-nil (report_of come.end.flat words))) at.2, kept)))
 
     -- nothing is kept
     pub concluded : (page a b : SinkState) (r : Result ℕ Fault) → MatchResult r (IsConcluded g m words a b) (IsHalfConcluded g m words a b)
@@ -201,7 +230,7 @@ module _ (g : Geometry) (run : Run) (file : List ℕ) (p : Program) (holds : IsP
         → MatchResult r (IsGivenInThreads g run (Some path) file (record { output = a; file = h }) (record { output = b; file = k }))
         (IsNotGivenInThreads g run (Some path) file (record { output = a; file = h }) (record { output = b; file = k }))
     concluded_kept path h k a b (Ok status) (kept, put) = given (Some path) h k a b status kept put
-    concluded_kept path h k a b (Err fault) (inl ((is, part), still)) = inr (inl (path, refl, is, (list, steps, counted, (come.end.course.moments, come.end.flat, comes), part, still)))
+    concluded_kept path h k a b (Err fault) (inl ((is, part), still)) = inr (inl (path, refl, is, (list, steps, counted, (come.end.course.moments, come.end.flat, comes, turned), part, still)))
     concluded_kept path h k a b (Err fault) (inr (kept, half)) = half_given (Some path) h k a b fault kept half
 
 -- ---- the run that was not made

@@ -1,7 +1,8 @@
 -- What a run with each hart in a thread gives.
-use Rattle.std.specs.Prelude.{ℕ, ◌≡◌, ◌⊎◌, List, [], Option, Some, None}
+use Rattle.std.specs.Prelude.{ℕ, ◌≡◌, ◌<◌, ◌⊎◌, List, [], Option, Some, None}
 use Rattle.std.specs.Borrow.{Bor}
 use Rattle.words.specs.Sinks.{IsUntouched, TookAll, TookPart}
+use Rattle.words.specs.declared.cause.Status.TheVariants.{Running}
 use Rattle.loader.specs.Programs.{Program}
 use Rattle.flat.specs.Boots.{boot_fault}
 use Rattle.flat.specs.declared.boot_fault.BootFault.{BootFault}
@@ -16,6 +17,7 @@ use Rattle.requests.specs.Begins.{IsUnbegun}
 use Rattle.simulate.specs.Given.{AreTextsOf, Comes}
 use Rattle.render.specs.Reports.{AllReadable}
 use Rattle.requests.specs.Runs.{addresses}
+use Rattle.board.specs.Turns.{AreOfTurns}
 use Rattle.requests.specs.Schedules.{HasSteps}
 use Rattle.requests.specs.Outputs.{Texts, Sinks}
 use Rattle.requests.specs.Starts.{flat_start}
@@ -28,25 +30,35 @@ use Rattle.requests.specs.declared.fault.Fault.TheVariants.{Boot, Word, Exchange
 abbrev pub with_steps : Run → ℕ → Run
 with_steps run n = record run { steps = n }
 
+-- hart i is one of the machine, and still runs
+abbrev pub StillRuns : Flat → ℕ → Type 0
+StillRuns f i = (i < f.setting.count) × ((f.hart i).status ≡ Running)
+
+-- the choices of the run that texts are of are those of whole turns, one after the other. No hart has had more turns than the run has steps, and each that
+-- still runs has had just so many
+abbrev pub AreOfTurnsOf : (g : Geometry) (run : Run) (file list : List ℕ) (n : ℕ) (texts : Texts) (status : ℕ) → AreTextsOf g (with_steps run n) Turns Report file list texts status → Type 0
+AreOfTurnsOf g run file list n texts status (ms, f, comes, report) = AreOfTurns g run.steps (StillRuns f) comes.first comes.choices comes.last
+
 -- what the file of a history takes, where there is one
 abbrev pub history_text : Option (Bor (List ℕ)) → List ℕ → List ℕ
 history_text None list = []
 history_text (Some path) list = list
 
 module _ (g : Geometry) (run : Run) (history : Option (Bor (List ℕ))) (file : List ℕ) (before after : Sinks) where
-  -- the report is on the run which just the steps of some list come to, as a schedule of this list makes it; and the list is the history
+  -- the report is on the run which just the steps of some list come to, as a schedule of this list makes it; these are the harts' turns; and the list is the
+  -- history
   abbrev pub IsGivenInThreads : ℕ → Type 0
-  IsGivenInThreads status = IsReported status × ((list : List ℕ) × (n : ℕ) × HasSteps list n × (texts : Texts) × AreTextsOf g (with_steps run n) Turns Report file list texts status
-      × TookAll before.output after.output texts.output × TookAll before.file after.file (history_text history list))
+  IsGivenInThreads status = IsReported status × ((list : List ℕ) × (n : ℕ) × HasSteps list n × (texts : Texts) × (are : AreTextsOf g (with_steps run n) Turns Report file list texts status)
+      × AreOfTurnsOf g run file list n texts status are × TookAll before.output after.output texts.output × TookAll before.file after.file (history_text history list))
 
   -- a put of the history failed, or one of the report behind it
   abbrev pub IsHistoryCut : Type 0
-  IsHistoryCut = (list : List ℕ) × (n : ℕ) × HasSteps list n × ((ms : List Moment) × (f : Flat) × Comes g run Turns Report file list n ms f)
-      × TookPart before.file after.file list × IsUntouched before.output after.output
+  IsHistoryCut = (list : List ℕ) × (n : ℕ) × HasSteps list n × ((ms : List Moment) × (f : Flat) × (comes : Comes g run Turns Report file list n ms f)
+      × AreOfTurns g run.steps (StillRuns f) comes.first comes.choices comes.last) × TookPart before.file after.file list × IsUntouched before.output after.output
 
   abbrev pub IsReportCut : Type 0
-  IsReportCut = (list : List ℕ) × (n : ℕ) × HasSteps list n × (texts : Texts) × (status : ℕ) × AreTextsOf g (with_steps run n) Turns Report file list texts status
-      × TookPart before.output after.output texts.output × TookAll before.file after.file (history_text history list)
+  IsReportCut = (list : List ℕ) × (n : ℕ) × HasSteps list n × (texts : Texts) × (status : ℕ) × (are : AreTextsOf g (with_steps run n) Turns Report file list texts status)
+      × AreOfTurnsOf g run file list n texts status are × TookPart before.output after.output texts.output × TookAll before.file after.file (history_text history list)
 
   -- why not all was taken: there is no run, memory ran out, the lock gave back another board, or a put failed
   abbrev pub IsNotGivenInThreads : Fault → Type 0

@@ -1,10 +1,10 @@
 ghost use Rattle.std.specs.Prelude.{◌≡◌, ◌≤◌, ◌<◌, ◌*◌, ◌^◌, ◌⊎◌, MatchResult, OnErr};
 ghost use Rattle.words.specs.Limits.{most_harts};
 ghost use Rattle.machine.specs.States.{geometry};
-ghost use Rattle.board.specs.Histories.{IsEnd};
+ghost use Rattle.board.specs.Turns.{IsDone, IsServedEnd};
 ghost use Rattle.requests.specs.declared.fault.Fault.TheVariants.{NoMemory, Exchanged};
 
-use board::{Board, Finished, Gate, Journal, Lease, STEPS, Trace, Untraced, serve};
+use board::{Finished, Gate, Journal, Lease, STEPS, Served, Trace, Untraced, serve};
 use loader::Program;
 use requests::Fault;
 use std::alloc::{AllocError, Global};
@@ -27,7 +27,8 @@ impl<'p, const SETS: usize, const WAYS: usize, T: Trace<SETS, WAYS>> Gate<Lease<
 }
 
 /// Runs each hart of a board in a thread of its own, each until it doesn't run any more or has had so many turns: it is lent, makes up to 64 steps by
-/// itself, comes back, and is visited. The caller itself serves a hart for which no thread could be started. The board stands apart from its lock.
+/// itself, comes back, and is visited. The caller itself serves a hart for which no thread could be started. The board stands apart from its lock, and
+/// what comes back from it is looked at: it has to be one of this program, and no turn may be left.
 pub(crate) fn run_board<
     'p,
     'a,
@@ -38,7 +39,7 @@ pub(crate) fn run_board<
 >(
     rt: &R,
     alloc: Global,
-    board: Board<'p, SETS, WAYS, J>,
+    board: Served<'p, SETS, WAYS, J>,
     program: &Program,
     harts: u32,
     size: u32,
@@ -49,39 +50,40 @@ where
     requires ways { 0 < WAYS }
     requires lines { SETS * WAYS < 2 ^ 32 }
     requires few { harts ≤ most_harts }
-    ensures { MatchResult result (λ end. IsEnd (geometry SETS WAYS) program.now harts size (J.tells end.journal) end.machine)
+    ensures { MatchResult result (λ end. IsServedEnd (geometry SETS WAYS) program.now harts size (J.tells end.journal) turns end.machine)
         (λ fault. (fault ≡ NoMemory) ⊎ (fault ≡ Exchanged)) }
 {
     let desk = locked(alloc, board)?;
-    serve::<Box<Board<'p, SETS, WAYS, J>>, Whole, R>(rt, &desk, harts as usize, &Whole, turns)?;
-    let end = Box::into_inner(desk.into_inner()).finish();
-    if_of(end, program, harts, size)
+    serve::<Box<Served<'p, SETS, WAYS, J>>, Whole, R>(rt, &desk, harts as usize, &Whole, turns)?;
+    if_of(Box::into_inner(desk.into_inner()), program, harts, size, turns)
 }
 
 /// A board, apart from its lock. It fails only if memory runs out.
 fn locked<'p, const SETS: usize, const WAYS: usize, J: Journal<SETS, WAYS> + Send>(
     alloc: Global,
-    board: Board<'p, SETS, WAYS, J>,
-) -> Result<Mutex<Box<Board<'p, SETS, WAYS, J>>>, AllocError> {
+    board: Served<'p, SETS, WAYS, J>,
+) -> Result<Mutex<Box<Served<'p, SETS, WAYS, J>>>, AllocError> {
     match Box::new(alloc, board) {
         Ok(board) => Ok(Mutex::new(board)),
         Err(error) => Err(error.into()),
     }
 }
 
-/// What a board was, if it was one of this program, number of harts and size.
+/// What a board was, if it was one of this program, number of harts and size, and each hart that still runs has had just so many turns.
 fn if_of<'p, 'a, const SETS: usize, const WAYS: usize, J: Journal<SETS, WAYS>>(
-    end: Finished<'p, SETS, WAYS, J>,
+    board: Served<'p, SETS, WAYS, J>,
     program: &Program,
     harts: u32,
     size: u32,
+    turns: u64,
 ) -> Result<Finished<'p, SETS, WAYS, J>, Fault<'a>>
-    requires { IsEnd (geometry SETS WAYS) end.program.now end.harts end.size (J.tells end.journal) end.machine }
-    ensures end { MatchResult result (λ end. IsEnd (geometry SETS WAYS) program.now harts size (J.tells end.journal) end.machine) (λ fault. fault ≡ Exchanged) }
-    // It is answered unless it was another's.
-    ensures exchanged { OnErr result ((end.entry.program.now ≡ program.now) × (end.entry.harts ≡ harts) × (end.entry.size ≡ size) → ⊥) }
+    ensures end { MatchResult result (λ end. IsServedEnd (geometry SETS WAYS) program.now harts size (J.tells end.journal) turns end.machine) (λ fault. fault ≡ Exchanged) }
+    // It is answered unless it was another's, or turns are left.
+    ensures exchanged { OnErr result (IsDone turns board.entry × (board.entry.board.program ≡ program.now) × (board.entry.board.harts ≡ harts) × (board.entry.board.size ≡ size) → ⊥) }
 {
-    if end.harts == harts && end.size == size && end.program.same(program) {
+    let is_done = board.is_done(turns);
+    let end = board.finish();
+    if is_done && end.harts == harts && end.size == size && end.program.same(program) {
         Ok(end)
     } else {
         Err(Fault::Exchanged)

@@ -12,7 +12,7 @@ ghost use Rattle.requests.specs.Sources.{IsProgramIn, IsProgramFault};
 ghost use Rattle.simulate.specs.Threaded.{IsReady, IsUnready, IsGivenInThreads, IsNotGivenInThreads};
 
 use crate::serving::run_board;
-use board::{Board, Code, Finished, Journal, Unkept};
+use board::{Code, Finished, Journal, Served, Unkept};
 use command_line::Run;
 use loader::Program;
 use requests::conclude::conclude;
@@ -162,7 +162,7 @@ fn decode<'a>(alloc: Global, run: &Run<'a>, file: &'a [u8]) -> Result<Decoded, F
 /// A board before the first turn, and the addresses of the words to show.
 #[derive(Drop)]
 struct Ready<'p, const SETS: usize, const WAYS: usize, J: Journal<SETS, WAYS>> {
-    board: Board<'p, SETS, WAYS, J>,
+    board: Served<'p, SETS, WAYS, J>,
     addrs: Vec<Addr>,
 }
 
@@ -179,7 +179,7 @@ fn make_ready<'p, 'a, const SETS: usize, const WAYS: usize, J: Journal<SETS, WAY
     requires told { J.tells journal no_step }
     ensures { MatchResult result (λ r. IsReady run.now code.entry.program.now r.addrs.items) (IsUnready run.now code.entry.program.now) }
 {
-    let board: Board<'p, SETS, WAYS, J> = Board::boot_with(
+    let board: Served<'p, SETS, WAYS, J> = Served::boot(
         alloc,
         code,
         run.setup.harts,

@@ -6,8 +6,9 @@ use Rattle.simulate.proofs.serving.if_of.Goals as goal
 
 pub returns-then-same-clause-end : goal.returns-then-same-clause-end
 returns-then-same-clause-end g c =
-    end_same (geometry g.row.SETS g.row.WAYS) c.args.program.now c.args.end.program.now c.args.harts c.args.end.harts c.args.size c.args.end.size
-    (g.J.Journal.tells c.args.end.journal) c.args.end.machine (c.same.ensures.0 c.if-same.true) c.if-end-harts.true c.if-end-size.true c.requires
+    end_same (geometry g.row.SETS g.row.WAYS) c.args.program.now c.finish.result.program.now c.args.harts c.finish.result.harts c.args.size c.finish.result.size
+    (g.J.Journal.tells c.finish.result.journal) c.args.turns c.finish.result.machine (c.same.ensures.0 c.if-same.true) c.if-end-harts.true c.if-end-size.true
+    (c.finish.ensures.end c.args.turns (c.is_done.ensures.0 c.if-is_done.true))
 
 -- a machine has a size that fits: it has no more sets than lines
 pub drop-end-requires-3-room-T-Destruct : goal.drop-end-requires-3-room-T-Destruct

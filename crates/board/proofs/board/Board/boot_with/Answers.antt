@@ -20,4 +20,4 @@ pub returns-clause-ok : goal.returns-clause-ok
 returns-clause-ok g c =
     let b : Begins (geometry g.row.SETS g.row.WAYS) c.args.code.program.now c.args.harts c.args.size c.in_ok-machine.machine =
     begins_of_copy (geometry g.row.SETS g.row.WAYS) c.args.code.program.now c.in_ok-copy.field-0 c.args.harts c.args.size c.in_ok-machine.machine c.in_ok-copy.ensures c.in_ok-machine.ensures.refused c.in_ok-machine.ensures.accepted c.in_ok-machine.ensures.belongs c.in_ok-machine.ensures.unused in
-    record { boots = b.boots; machine = b.machine; unused = b.unused; rest = refl }
+    record { boots = b.boots; machine = b.machine; unused = b.unused; bytes = b.bytes; rest = refl }

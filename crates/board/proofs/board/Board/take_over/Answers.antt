@@ -1,4 +1,6 @@
+use Rattle.std.proofs.Common.{◌≤◌, ℕ, subst}
 use Rattle.machine.specs.States.{geometry}
+use Rattle.board.specs.Leases.{most_steps}
 use Rattle.board.specs.Boards.{Held}
 use Rattle.board.proofs.Courses.{kept_lent, kept_segments}
 use Rattle.board.proofs.Turns.{settled, noted_of}
@@ -17,4 +19,4 @@ pub returns-clause-ok : goal.returns-clause-ok
 returns-clause-ok g c =
     let b : Held g.row.J.Denot = record { program = c.self.inside.code.program.now; harts = c.self.inside.harts; size = c.self.inside.size; machine = c.self.inside.machine; journal = c.self.inside.journal } in
     let noted = noted_of g.J.Trace.Trace.traces g.J.Journal.tells b.journal c.note_lent.new.self c.args.lease.now c.hart.result c.len.result c.trace.result.now c.hart.ensures c.len.ensures.value c.trace.ensures c.in_ok-note_lent.ensures.noted in
-    rw (← c.self.view_is) (settled (geometry g.row.SETS g.row.WAYS) g.J.Journal.tells b c.take_back.new.machine c.note_lent.new.self g.J.Trace.Trace.traces c.args.lease.now c.take_back.ensures.hart c.take_back.ensures.leads noted)
+    rw (← c.self.view_is) (settled (geometry g.row.SETS g.row.WAYS) g.J.Journal.tells b c.take_back.new.machine c.note_lent.new.self g.J.Trace.Trace.traces c.args.lease.now c.take_back.ensures.few (subst (λ (n : ℕ). n ≤ most_steps) c.len.ensures.value c.len.ensures.few) c.take_back.ensures.hart c.take_back.ensures.leads noted)
