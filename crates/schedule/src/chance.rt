@@ -1,5 +1,5 @@
 //! Steps that are chosen by chance, by a seed.
-ghost use Rattle.std.specs.Prelude.{◌≡◌, ◌<◌, [], ℕ, Some, None, false, IfSome, IfNone};
+ghost use Rattle.std.specs.Prelude.{◌≡◌, ◌<◌, [], ℕ, Some, None, false, true, IfSome, IfNone};
 ghost use Rattle.words.specs.declared.entry.Step.TheVariants.{Core, Deliver};
 ghost use Rattle.machine.specs.States.{geometry, setting_of, shown};
 ghost use Rattle.machine.specs.Watch.{IsEnabled};
