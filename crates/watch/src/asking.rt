@@ -34,23 +34,6 @@ pub(crate) fn ask_in(arrival: &Option<Flight>) -> Option<(HartId, BlockNo)>
     }
 }
 
-/// The request that a step delivers, if it delivers one.
-#[inline(always)]
-pub(crate) fn ask_of<const SETS: usize, const WAYS: usize>(
-    machine: &Machine<SETS, WAYS>,
-    step: &Step,
-) -> Option<(HartId, BlockNo)>
-    ensures { result ≡ asks_if (arrival_of machine.now step.now) }
-{
-    match step {
-        Step::Deliver(key) => match machine.peek_flight(*key) {
-            Some(flight) => asked_by(&flight.message),
-            None => None,
-        },
-        Step::Core(_) | Step::Evict(..) => None,
-    }
-}
-
 /// The hart that what arrives goes to, if it goes to one.
 pub(crate) fn taker_in(arrival: &Option<Flight>) -> Option<HartId>
     ensures { result ≡ goes_to arrival.now }
@@ -61,20 +44,21 @@ pub(crate) fn taker_in(arrival: &Option<Flight>) -> Option<HartId>
     }
 }
 
-/// The hart that a step delivers a message to, if it does.
+/// The request that a step delivers, if it delivers one, and the hart that it delivers a message to, if it does.
 #[inline(always)]
-pub(crate) fn taker_of<const SETS: usize, const WAYS: usize>(
+pub(crate) fn arriving<const SETS: usize, const WAYS: usize>(
     machine: &Machine<SETS, WAYS>,
     step: &Step,
-) -> Option<HartId>
-    ensures { result ≡ goes_to (arrival_of machine.now step.now) }
+) -> (Option<(HartId, BlockNo)>, Option<HartId>)
+    ensures ask { result.0 ≡ asks_if (arrival_of machine.now step.now) }
+    ensures to { result.1 ≡ goes_to (arrival_of machine.now step.now) }
 {
     match step {
         Step::Deliver(key) => match machine.peek_flight(*key) {
-            Some(flight) => receiver(&flight.message),
-            None => None,
+            Some(flight) => (asked_by(&flight.message), receiver(&flight.message)),
+            None => (None, None),
         },
-        Step::Core(_) | Step::Evict(..) => None,
+        Step::Core(_) | Step::Evict(..) => (None, None),
     }
 }
 
