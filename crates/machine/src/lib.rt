@@ -27,6 +27,7 @@ pub use info::TxInfo;
 pub use laws::{a_step_has_one_outcome, a_turn_is_one_step, steps_that_are_made_are_steps};
 pub use listener::{Listener, Nobody};
 pub use machine::Machine;
+pub use mail::receiver;
 pub use play::{PlainTurns, Turned, hart_after};
 pub use progress::{PROGRESS_INTERVAL, Progress, Silent};
 pub use watch::Turn;

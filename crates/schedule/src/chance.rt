@@ -1,9 +1,9 @@
 //! Steps that are chosen by chance, by a seed.
-ghost use Rattle.std.specs.Prelude.{◌≡◌, ◌<◌, [], ℕ, Some, None, false, IfSome, IfNone};
+ghost use Rattle.std.specs.Prelude.{◌≡◌, ◌<◌, [], ℕ, Some, None, false, true, IfSome, IfNone};
 ghost use Rattle.words.specs.declared.entry.Step.TheVariants.{Core, Deliver};
 ghost use Rattle.machine.specs.States.{geometry, setting_of, shown};
 ghost use Rattle.machine.specs.Watch.{IsEnabled};
-ghost use Rattle.schedule.specs.Courses.{IsAtRest, IsPicked};
+ghost use Rattle.schedule.specs.Courses.{IsAble, IsAtRest, IsPicked};
 ghost use Rattle.schedule.specs.Courses.Behind.{Chance as ByChance};
 
 use crate::choices::Choice;
@@ -51,6 +51,7 @@ impl Chance {
     }
 
     /// A number below a bound, or 0 if that is 0.
+    #[inline(always)]
     fn below(&mut self, bound: usize) -> usize
         ensures { 0 < bound → result < bound }
     {
@@ -58,7 +59,42 @@ impl Chance {
         if bound == 0 { 0 } else { word % bound }
     }
 
+    /// A hart whose core has a step to make.
+    #[inline(always)]
+    fn draw_hart<const SETS: usize, const WAYS: usize>(
+        &mut self,
+        machine: &Machine<SETS, WAYS>,
+    ) -> Option<HartId>
+        ensures some { IfSome result (λ hart. IsAble (geometry SETS WAYS) machine.now (Core hart)) }
+        ensures none { IfNone result ((i : ℕ) → i < (setting_of machine.now).count → IsEnabled (geometry SETS WAYS) (shown SETS machine.now) (Core i) false) }
+    {
+        machine.keeps();
+        for _try in 0..TRIES {
+            let hart = HartId::new((self.below(machine.harts()) % HARTS) as u8);
+            if is_ready(machine, hart) {
+                return Some(hart);
+            }
+        }
+        self.draw_ready(machine)
+    }
+
+    /// The same, of a list of all that would do.
+    #[inline(never)]
+    fn draw_ready<const SETS: usize, const WAYS: usize>(
+        &mut self,
+        machine: &Machine<SETS, WAYS>,
+    ) -> Option<HartId>
+        ensures some { IfSome result (λ hart. IsAble (geometry SETS WAYS) machine.now (Core hart)) }
+        ensures none { IfNone result ((i : ℕ) → i < (setting_of machine.now).count → IsEnabled (geometry SETS WAYS) (shown SETS machine.now) (Core i) false) }
+    {
+        let ready = ready_harts(machine);
+        let index = self.below(ready.len());
+        let number = *ready.get(index)?;
+        Some(HartId::new(number as u8))
+    }
+
     /// A core's step.
+    #[inline(always)]
     fn draw_core<const SETS: usize, const WAYS: usize>(
         &mut self,
         machine: &Machine<SETS, WAYS>,
@@ -66,25 +102,19 @@ impl Chance {
         ensures some { IfSome result (λ p. IsPicked (geometry SETS WAYS) machine.now p.choice p.step) }
         ensures none { IfNone result ((i : ℕ) → i < (setting_of machine.now).count → IsEnabled (geometry SETS WAYS) (shown SETS machine.now) (Core i) false) }
     {
-        machine.keeps();
-        for _try in 0..TRIES {
-            let hart = HartId::new((self.below(machine.harts()) % HARTS) as u8);
-            if is_ready(machine, hart) {
-                return Some(step_of(machine, hart));
-            }
+        match self.draw_hart(machine) {
+            Some(hart) => Some(step_of(machine, hart)),
+            None => None,
         }
-        let ready = ready_harts(machine);
-        let index = self.below(ready.len());
-        let number = *ready.get(index)?;
-        Some(step_of(machine, HartId::new(number as u8)))
     }
 
-    /// A message's arrival.
-    fn draw_arrival<const SETS: usize, const WAYS: usize>(
+    /// The key of a message that can arrive.
+    #[inline(always)]
+    fn draw_key<const SETS: usize, const WAYS: usize>(
         &mut self,
         machine: &Machine<SETS, WAYS>,
-    ) -> Option<Picked>
-        ensures some { IfSome result (λ p. IsPicked (geometry SETS WAYS) machine.now p.choice p.step) }
+    ) -> Option<usize>
+        ensures some { IfSome result (λ key. IsEnabled (geometry SETS WAYS) (shown SETS machine.now) (Deliver key) true) }
         ensures none { IfNone result ((key : ℕ) → IsEnabled (geometry SETS WAYS) (shown SETS machine.now) (Deliver key) false) }
     {
         if machine.in_flight() == 0 {
@@ -93,16 +123,44 @@ impl Chance {
         for _try in 0..TRIES {
             let key = self.below(machine.keys());
             if can_arrive(machine, key) {
-                return Some(arrival(machine, key));
+                return Some(key);
             }
         }
+        self.draw_arriving(machine)
+    }
+
+    /// The same, of a list of all that would do.
+    #[inline(never)]
+    fn draw_arriving<const SETS: usize, const WAYS: usize>(
+        &mut self,
+        machine: &Machine<SETS, WAYS>,
+    ) -> Option<usize>
+        ensures some { IfSome result (λ key. IsEnabled (geometry SETS WAYS) (shown SETS machine.now) (Deliver key) true) }
+        ensures none { IfNone result ((key : ℕ) → IsEnabled (geometry SETS WAYS) (shown SETS machine.now) (Deliver key) false) }
+    {
         let keys = arrivals(machine);
         let index = self.below(keys.len());
         let key = *keys.get(index)?;
-        Some(arrival(machine, key))
+        Some(key)
+    }
+
+    /// A message's arrival.
+    #[inline(always)]
+    fn draw_arrival<const SETS: usize, const WAYS: usize>(
+        &mut self,
+        machine: &Machine<SETS, WAYS>,
+    ) -> Option<Picked>
+        ensures some { IfSome result (λ p. IsPicked (geometry SETS WAYS) machine.now p.choice p.step) }
+        ensures none { IfNone result ((key : ℕ) → IsEnabled (geometry SETS WAYS) (shown SETS machine.now) (Deliver key) false) }
+    {
+        match self.draw_key(machine) {
+            Some(key) => Some(arrival(machine, key)),
+            None => None,
+        }
     }
 
     /// A core's step, or a message's arrival, which are drawn by their weights. If nothing of what is drawn is enabled, it is the other.
+    #[inline(always)]
     fn draw_step<const SETS: usize, const WAYS: usize>(
         &mut self,
         machine: &Machine<SETS, WAYS>,
@@ -124,8 +182,8 @@ impl Chance {
         }
     }
 
-    /// An eviction, where one is drawn by its weight, and a line can be given up. It goes through the blocks in use from one on that is drawn, and through
-    /// the harts from one on.
+    /// An eviction, where one is drawn by its weight, and a line can be given up.
+    #[inline(always)]
     fn draw_eviction<const SETS: usize, const WAYS: usize>(
         &mut self,
         machine: &Machine<SETS, WAYS>,
@@ -140,12 +198,24 @@ impl Chance {
         if self.below(evictions + others) >= evictions {
             return None;
         }
+        self.draw_line(machine)
+    }
+
+    /// An eviction, where a line can be given up. It goes through the blocks in use from one on that is drawn, and through the harts from one on.
+    #[inline(never)]
+    fn draw_line<const SETS: usize, const WAYS: usize>(
+        &mut self,
+        machine: &Machine<SETS, WAYS>,
+    ) -> Option<Picked>
+        ensures { IfSome result (λ p. IsPicked (geometry SETS WAYS) machine.now p.choice p.step) }
+    {
         let first = self.below(machine.used());
         let hart = self.below(machine.harts());
         find_eviction(machine, first, hart)
     }
 
     /// What comes next. `None` where no core has a step to make, and no message can arrive.
+    #[inline(always)]
     fn draw<const SETS: usize, const WAYS: usize>(
         &mut self,
         machine: &Machine<SETS, WAYS>,

@@ -41,6 +41,7 @@ pub(crate) fn ready_harts<const SETS: usize, const WAYS: usize>(
 }
 
 /// Whether a hart's core has a step to make. That is known at once but where a Put of the hart is out.
+#[inline(always)]
 pub(crate) fn is_ready<const SETS: usize, const WAYS: usize>(
     machine: &Machine<SETS, WAYS>,
     id: HartId,
@@ -64,6 +65,7 @@ pub(crate) fn is_ready<const SETS: usize, const WAYS: usize>(
     true
 }
 
+#[inline(always)]
 fn runs(status: Status) -> bool
     ensures { result ≡ is_running status }
 {
@@ -101,6 +103,7 @@ pub(crate) fn arrivals<const SETS: usize, const WAYS: usize>(
 }
 
 /// A step of the core of a hart, which has one to make.
+#[inline(always)]
 pub(crate) fn step_of<const SETS: usize, const WAYS: usize>(
     machine: &Machine<SETS, WAYS>,
     hart: HartId,

@@ -2,11 +2,11 @@
 use Rattle.std.specs.Prelude.{ℕ, ◌-◌, ◌++◌, List, [], ◌∷◌, Option, Some, None, codes, decimal, length, map, take}
 use Rattle.std.specs.List.{concat, flat_map, range_with_len}
 use Rattle.watch.specs.declared.kinds.Kind.{Kind}
-use Rattle.watch.specs.declared.kinds.Kind.TheVariants.{Retired, Begun, Committed, Asked, Conflicted, LogFull, Trapped, Refused, WasRefused, Spilled, LoadMissed, StoreMissed, Upgraded, Held}
+use Rattle.watch.specs.declared.kinds.Kind.TheVariants.{Retired, Begun, Committed, Asked, Conflicted, LogFull, Trapped, Refused, WasRefused, Spilled, LoadHit, LoadMissed, StoreHit, StoreMissed, Upgraded, Held}
 
 -- the kinds, in the order in which they are shown
 abbrev pub kinds : List Kind
-kinds = Retired ∷ Begun ∷ Committed ∷ Asked ∷ Conflicted ∷ LogFull ∷ Trapped ∷ Refused ∷ WasRefused ∷ Spilled ∷ LoadMissed ∷ StoreMissed ∷ Upgraded ∷ Held ∷ []
+kinds = Retired ∷ Begun ∷ Committed ∷ Asked ∷ Conflicted ∷ LogFull ∷ Trapped ∷ Refused ∷ WasRefused ∷ Spilled ∷ LoadHit ∷ LoadMissed ∷ StoreHit ∷ StoreMissed ∷ Upgraded ∷ Held ∷ []
 
 -- what a kind is called
 abbrev pub kind_name : Kind → List ℕ
@@ -20,7 +20,9 @@ kind_name Trapped = codes "aborted-trap"
 kind_name Refused = codes "refused"
 kind_name WasRefused = codes "was-refused"
 kind_name Spilled = codes "spilled"
+kind_name LoadHit = codes "load-hits"
 kind_name LoadMissed = codes "load-misses"
+kind_name StoreHit = codes "store-hits"
 kind_name StoreMissed = codes "store-misses"
 kind_name Upgraded = codes "upgrades"
 kind_name Held = codes "held"

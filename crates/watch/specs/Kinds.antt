@@ -1,16 +1,17 @@
--- What entries count as.
+-- What entries count as, and requests.
 use Rattle.std.specs.Prelude.{ℕ, zero, suc, not, ◌+◌, ◌*◌, ◌==◌, ◌&&◌, ◌++◌, Bool, true, false, List, [], ◌∷◌, Option, Some, None, get_or, if◌then◌else◌, is_some, nat_lt}
-use Rattle.std.specs.List.{flat_map}
 use Rattle.std.specs.Option.{option_and_then, option_map_or}
 use Rattle.words.specs.declared.cause.AbortCause.{AbortCause}
 use Rattle.words.specs.declared.cause.AbortCause.TheVariants as abort
+use Rattle.words.specs.declared.entry.Access.{Access}
 use Rattle.words.specs.declared.entry.Entry.{Entry}
 use Rattle.words.specs.declared.entry.Entry.TheVariants.{Retire, Abort, Trap, Refuse, Spill}
 use Rattle.words.specs.declared.entry.Step.{Step}
 use Rattle.words.specs.declared.entry.Step.TheVariants.{Core, Evict, Deliver}
 use Rattle.words.specs.Limits.{most_harts}
 use Rattle.network.specs.declared.net.Flight.{Flight}
-use Rattle.protocol.specs.Messages.{Message, Get, shown as shown_message}
+use Rattle.flat.specs.Bytes.{put_at}
+use Rattle.protocol.specs.Messages.{Message, Get, receiver_of, shown as shown_message}
 use Rattle.words.specs.declared.message.Kind.{Kind as Want}
 use Rattle.words.specs.declared.message.Kind.TheVariants.{Read, Write}
 use Rattle.protocol.specs.Directory.{Busy}
@@ -22,7 +23,7 @@ use Rattle.table.specs.declared.instr.Instr.{Instr}
 use Rattle.table.specs.declared.instr.Instr.TheVariants.{TBegin, TCommit}
 use Rattle.table.specs.Table.{decoded}
 use Rattle.watch.specs.declared.kinds.Kind.{Kind}
-use Rattle.watch.specs.declared.kinds.Kind.TheVariants.{Retired, Begun, Committed, Asked, Conflicted, LogFull, Trapped, Refused, WasRefused, Spilled, LoadMissed, StoreMissed, Upgraded, Held}
+use Rattle.watch.specs.declared.kinds.Kind.TheVariants.{Retired, Begun, Committed, Asked, Conflicted, LogFull, Trapped, Refused, WasRefused, Spilled, LoadHit, LoadMissed, StoreHit, StoreMissed, Upgraded, Held}
 
 -- the number of a kind
 abbrev pub index_of : Kind → ℕ
@@ -36,10 +37,12 @@ index_of Trapped = 6
 index_of Refused = 7
 index_of WasRefused = 8
 index_of Spilled = 9
-index_of LoadMissed = 10
-index_of StoreMissed = 11
-index_of Upgraded = 12
-index_of Held = 13
+index_of LoadHit = 10
+index_of LoadMissed = 11
+index_of StoreHit = 12
+index_of StoreMissed = 13
+index_of Upgraded = 14
+index_of Held = 15
 
 -- what an abort counts as
 abbrev pub kind_of : AbortCause → Kind
@@ -54,13 +57,25 @@ counts_by i (Some (TBegin offset)) = (i, Begun) ∷ []
 counts_by i (Some TCommit) = (i, Committed) ∷ []
 counts_by i other = []
 
--- what an entry counts as, each with the hart that it is counted for
-abbrev pub counts_as : Entry → List (ℕ × Kind)
-counts_as (Retire i pc word write load store) = (i, Retired) ∷ counts_by i (decoded word)
-counts_as (Abort i cause) = (i, kind_of cause) ∷ []
-counts_as (Trap i cause pc) = []
-counts_as (Refuse i requester block) = (i, Refused) ∷ (requester, WasRefused) ∷ []
-counts_as (Spill i block) = (i, Spilled) ∷ []
+-- what hart i's access counts as, and whether the hart was fresh: then the access is the end of a miss or of an upgrade, which was counted when it was asked for; else
+-- its line was there, and it is a hit. What loads and stores, an atomic operation, is a store's hit, as its request is a store's
+abbrev pub hit_by : Bool → ℕ → Option Access → Option Access → List (ℕ × Kind)
+hit_by true i store load = []
+hit_by false i (Some a) load = (i, StoreHit) ∷ []
+hit_by false i None (Some a) = (i, LoadHit) ∷ []
+hit_by false i None None = []
+
+-- which harts are fresh: granted a request, they have made no step of their core since
+abbrev pub Fresh : Type 0
+Fresh = ℕ → Bool
+
+-- what an entry counts as, each with the hart that it is counted for, where these harts were fresh
+abbrev pub counts_as : Fresh → Entry → List (ℕ × Kind)
+counts_as fresh (Retire i pc word write load store) = (i, Retired) ∷ (counts_by i (decoded word) ++ hit_by (fresh i) i store load)
+counts_as fresh (Abort i cause) = (i, kind_of cause) ∷ []
+counts_as fresh (Trap i cause pc) = []
+counts_as fresh (Refuse i requester block) = (i, Refused) ∷ (requester, WasRefused) ∷ []
+counts_as fresh (Spill i block) = (i, Spilled) ∷ []
 
 -- whether something is counted for hart h as this kind
 abbrev pub is_count : ℕ → Kind → ℕ × Kind → Bool
@@ -76,9 +91,9 @@ number_in h k [] = 0
 number_in h k (x ∷ xs) = one_if (is_count h k x) + number_in h k xs
 
 -- what a moment's entry counts as, if it gave one
-abbrev pub counts_if : Option Entry → List (ℕ × Kind)
-counts_if None = []
-counts_if (Some e) = counts_as e
+abbrev pub counts_if : Fresh → Option Entry → List (ℕ × Kind)
+counts_if fresh None = []
+counts_if fresh (Some e) = counts_as fresh e
 
 -- what a request counts as: a miss where its hart has no line of the block, and else an upgrade. A load needs no more than a line
 abbrev pub kind_asked : Want → Bool → Kind
@@ -128,17 +143,48 @@ counts_step w ask (Deliver key) = counts_served w ask
 abbrev pub counts_asked : Machine → ℕ → ℕ → Option (ℕ × ℕ) → Step → List (ℕ × Kind)
 counts_asked w before sent ask step = if nat_lt before sent then counts_step w ask step else []
 
--- all that a moment counts as, where caches have so many sets
-abbrev pub counts_in : ℕ → Moment → List (ℕ × Kind)
-counts_in sets m = counts_if m.entry ++ counts_asked (shown sets m.after) m.sent m.after.sent (asks_if m.arrival) m.step
+-- all that a moment counts as, where caches have so many sets, and these harts were fresh before it
+abbrev pub counts_in : ℕ → Fresh → Moment → List (ℕ × Kind)
+counts_in sets fresh m = counts_if fresh m.entry ++ counts_asked (shown sets m.after) m.sent m.after.sent (asks_if m.arrival) m.step
 
--- how often some moments count for hart h as this kind
+-- the hart that what arrives goes to, if it goes to one
+abbrev pub goes_to : Option Flight → Option ℕ
+goes_to arrival = option_and_then (λ f. receiver_of (shown_message f.message)) arrival
+
+abbrev pub fresh_at : Machine → Option ℕ → Fresh → Fresh
+fresh_at w None fresh = fresh
+fresh_at w (Some i) fresh = put_at i (w.harts i).fresh fresh
+
+-- which harts are fresh behind a step, where they were so before it: not the one whose core made it; and one that got a message if that was the last answer to its
+-- request, and granted it
+abbrev pub fresh_by : Machine → Option ℕ → Step → Fresh → Fresh
+fresh_by w to (Core i) fresh = put_at i false fresh
+fresh_by w to (Evict i b) fresh = fresh
+fresh_by w to (Deliver key) fresh = fresh_at w to fresh
+
+-- behind a moment, and behind some
+abbrev pub fresh_behind : ℕ → Fresh → Moment → Fresh
+fresh_behind sets fresh m = fresh_by (shown sets m.after) (goes_to m.arrival) m.step fresh
+
+abbrev pub fresh_in : ℕ → Fresh → List Moment → Fresh
+fresh_in sets fresh [] = fresh
+fresh_in sets fresh (m ∷ ms) = fresh_in sets (fresh_behind sets fresh m) ms
+
+-- how often some moments count for hart h as this kind, where these harts were fresh before the first
+abbrev pub number_from : ℕ → ℕ → Kind → Fresh → List Moment → ℕ
+number_from sets h k fresh [] = 0
+number_from sets h k fresh (m ∷ ms) = number_in h k (counts_in sets fresh m) + number_from sets h k (fresh_behind sets fresh m) ms
+
+-- the same where none was, as where a program begins
+abbrev pub none_fresh : Fresh
+none_fresh i = false
+
 abbrev pub number_of : ℕ → ℕ → Kind → List Moment → ℕ
-number_of sets h k ms = number_in h k (flat_map (counts_in sets) ms)
+number_of sets h k ms = number_from sets h k none_fresh ms
 
--- the place of a count, fourteen a hart
+-- the place of a count, sixteen a hart
 abbrev pub place_of : ℕ → Kind → ℕ
-place_of h k = 14 * h + index_of k
+place_of h k = 16 * h + index_of k
 
 -- a count, of those that stand by their places
 abbrev pub count_at : List ℕ → ℕ → Kind → ℕ

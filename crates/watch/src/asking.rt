@@ -4,13 +4,13 @@ ghost use Rattle.words.specs.Limits.{most_harts};
 ghost use Rattle.machine.specs.States.{shown};
 ghost use Rattle.protocol.specs.Messages.{shown as shown_message};
 ghost use Rattle.schedule.specs.Moments.{arrival_of};
-ghost use Rattle.watch.specs.Kinds.{asked_by, asks_if, count_at, counts_asked, counts_request, held_behind, number_in, waits_behind};
+ghost use Rattle.watch.specs.Kinds.{asked_by, asks_if, count_at, counts_asked, counts_request, goes_to, held_behind, number_in, waits_behind};
 ghost use Rattle.watch.specs.Traffic.{capped};
 ghost use Rattle.watch.specs.declared.kinds.Kind.{Kind as KindValue};
 
 use crate::cells::Counts;
 use crate::kinds::Kind;
-use machine::Machine;
+use machine::{Machine, receiver};
 use network::Flight;
 use words::{BlockNo, HARTS, HartId, Message, Step};
 
@@ -34,20 +34,31 @@ pub(crate) fn ask_in(arrival: &Option<Flight>) -> Option<(HartId, BlockNo)>
     }
 }
 
-/// The request that a step delivers, if it delivers one.
+/// The hart that what arrives goes to, if it goes to one.
+pub(crate) fn taker_in(arrival: &Option<Flight>) -> Option<HartId>
+    ensures { result ≡ goes_to arrival.now }
+{
+    match arrival {
+        Some(flight) => receiver(&flight.message),
+        None => None,
+    }
+}
+
+/// The request that a step delivers, if it delivers one, and the hart that it delivers a message to, if it does.
 #[inline(always)]
-pub(crate) fn ask_of<const SETS: usize, const WAYS: usize>(
+pub(crate) fn arriving<const SETS: usize, const WAYS: usize>(
     machine: &Machine<SETS, WAYS>,
     step: &Step,
-) -> Option<(HartId, BlockNo)>
-    ensures { result ≡ asks_if (arrival_of machine.now step.now) }
+) -> (Option<(HartId, BlockNo)>, Option<HartId>)
+    ensures ask { result.0 ≡ asks_if (arrival_of machine.now step.now) }
+    ensures to { result.1 ≡ goes_to (arrival_of machine.now step.now) }
 {
     match step {
         Step::Deliver(key) => match machine.peek_flight(*key) {
-            Some(flight) => asked_by(&flight.message),
-            None => None,
+            Some(flight) => (asked_by(&flight.message), receiver(&flight.message)),
+            None => (None, None),
         },
-        Step::Core(_) | Step::Evict(..) => None,
+        Step::Core(_) | Step::Evict(..) => (None, None),
     }
 }
 

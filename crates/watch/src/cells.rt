@@ -1,16 +1,14 @@
-ghost use Rattle.std.specs.Prelude.{◌≡◌, ◌<◌, ◌≤◌, ◌+◌, ◌*◌, ℕ, get_or, slice_index};
-ghost use Rattle.words.specs.Limits.{most_harts};
+ghost use Rattle.std.specs.Prelude.{◌≡◌, ◌<◌, ◌≤◌, ◌+◌, ◌*◌, ℕ, get_or};
 ghost use Rattle.watch.specs.Kinds.{place_of, count_at, is_count, one_if};
 ghost use Rattle.watch.specs.Traffic.{capped};
 ghost use Rattle.watch.specs.declared.kinds.Kind.{Kind};
-ghost use Rattle.watch.specs.declared.kinds.Kind.TheVariants.{Retired};
 
 use crate::kinds::Kind;
 use std::marker::Model;
 use words::{HARTS, HartId};
 
 /// How many kinds there are.
-const KINDS: usize = 14;
+const KINDS: usize = 16;
 
 /// The counts of all harts.
 #[derive(Clone, Copy)]
@@ -30,7 +28,7 @@ impl Model for Counts {
 
 fn place(hart: HartId, kind: Kind) -> usize
     ensures value { result ≡ place_of hart kind }
-    ensures bound { result < 112 }
+    ensures bound { result < 128 }
 {
     KINDS * hart.index() + kind.index()
 }
@@ -63,15 +61,5 @@ impl Counts {
     {
         let place = place(hart, kind);
         self.counts[place] = self.counts[place].saturating_add(number);
-    }
-
-    /// Counts the words that each hart retired.
-    pub(crate) fn add_retired(&mut self, retired: &[u32; HARTS])
-        ensures { (h : ℕ) (k : Kind) → count_at self.old h k ≤ 18446744073709551615 →
-            count_at self.new h k ≡ capped (count_at self.old h k + slice_index retired.now h * one_if (is_count h k (h, Retired))) }
-    {
-        for i in 0..HARTS {
-            self.add(HartId::new(i as u8), Kind::Retired, u64::from(retired[i]));
-        }
     }
 }

@@ -26,8 +26,12 @@ pub enum Kind {
     WasRefused,
     /// Spills.
     Spilled,
+    /// Loads from a line that was there.
+    LoadHit,
     /// Requests to read a block of which the hart had no line.
     LoadMissed,
+    /// Stores to a line that was there, and atomic operations.
+    StoreHit,
     /// Requests to write a block of which it had none.
     StoreMissed,
     /// Requests to write a block of which it had a line.
@@ -40,7 +44,7 @@ impl Kind {
     /// Its number, from 0.
     pub(crate) fn index(self) -> usize
         ensures value { result ≡ index_of self }
-        ensures bound { result < 14 }
+        ensures bound { result < 16 }
     {
         match self {
             Kind::Retired => 0,
@@ -53,10 +57,12 @@ impl Kind {
             Kind::Refused => 7,
             Kind::WasRefused => 8,
             Kind::Spilled => 9,
-            Kind::LoadMissed => 10,
-            Kind::StoreMissed => 11,
-            Kind::Upgraded => 12,
-            Kind::Held => 13,
+            Kind::LoadHit => 10,
+            Kind::LoadMissed => 11,
+            Kind::StoreHit => 12,
+            Kind::StoreMissed => 13,
+            Kind::Upgraded => 14,
+            Kind::Held => 15,
         }
     }
 
@@ -71,6 +77,7 @@ impl Kind {
             AbortCause::Trapped(..) => Kind::Trapped,
         }
     }
+
     /// What a request counts as, where its hart has a line of the block or has none.
     pub(crate) fn of_request(want: Want, has_line: bool) -> Kind
         ensures { result ≡ kind_asked want has_line }

@@ -4,7 +4,7 @@ ghost use Rattle.watch.specs.CountTexts.{blanks, kinds, kind_name};
 use crate::kinds::Kind;
 
 /// The kinds, in the order in which they are shown.
-pub(crate) fn kinds() -> [Kind; 14]
+pub(crate) fn kinds() -> [Kind; 16]
     ensures { result ≡ kinds }
 {
     [
@@ -18,7 +18,9 @@ pub(crate) fn kinds() -> [Kind; 14]
         Kind::Refused,
         Kind::WasRefused,
         Kind::Spilled,
+        Kind::LoadHit,
         Kind::LoadMissed,
+        Kind::StoreHit,
         Kind::StoreMissed,
         Kind::Upgraded,
         Kind::Held,
@@ -40,7 +42,9 @@ pub(crate) fn kind_name(kind: Kind) -> &'static str
         Kind::Refused => "refused",
         Kind::WasRefused => "was-refused",
         Kind::Spilled => "spilled",
+        Kind::LoadHit => "load-hits",
         Kind::LoadMissed => "load-misses",
+        Kind::StoreHit => "store-hits",
         Kind::StoreMissed => "store-misses",
         Kind::Upgraded => "upgrades",
         Kind::Held => "held",

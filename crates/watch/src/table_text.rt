@@ -21,10 +21,10 @@ pub fn put_table<S: Sink>(counts: &Counts, harts: usize, sink: &mut S) -> Result
 }
 
 /// The heads of the columns, and then the kinds.
-fn rows() -> [Option<Kind>; 15]
+fn rows() -> [Option<Kind>; 17]
     ensures { result ≡ rows }
 {
-    let [a, b, c, d, e, f, g, h, i, j, k, l, m, n] = kinds();
+    let [a, b, c, d, e, f, g, h, i, j, k, l, m, n, o, p] = kinds();
     [
         None,
         Some(a),
@@ -41,6 +41,8 @@ fn rows() -> [Option<Kind>; 15]
         Some(l),
         Some(m),
         Some(n),
+        Some(o),
+        Some(p),
     ]
 }
 

@@ -11,4 +11,4 @@ returns-in-Ok-clause-ok g c =
     let seen = c.in-Ok.ensures in
     let small : c.args.steps < 4294967296 = omega (arith, c.ranges.steps.fits) in
     told (geometry g.row.SETS g.row.WAYS) (course c.args.choices.now (g.C.Chooser.behind c.run.new.chooser)) c.args.steps c.args.machine.now c.run.new.machine c.new-tally.result c.run.new.log (joined seen.0) small seen.1
-    c.new-tally.ensures.harts c.new-tally.ensures.machine (adds_all g.row.SETS seen.0 c.new-tally.result c.run.new.log seen.2)
+    c.new-tally.ensures.harts c.new-tally.ensures.machine c.new-tally.ensures.fresh (adds_all g.row.SETS seen.0 c.new-tally.result c.run.new.log seen.2)
