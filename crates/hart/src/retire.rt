@@ -132,10 +132,32 @@ impl<const SETS: usize, const WAYS: usize> Hart<SETS, WAYS> {
         ensures cache { self.new.cache ≡ self.old.cache }
         ensures stays { StaysPut self.old self.new }
     {
+        self.retire_loaded(word, effect, m, content, loaded_by(content, m))
+    }
+
+    /// Retires an access that writes this register.
+    #[inline(always)]
+    pub(crate) fn retire_loaded(
+        &mut self,
+        word: u32,
+        effect: &Effect,
+        m: &MemoryAct,
+        content: &Block,
+        loaded: Option<(Reg, u32)>,
+    ) -> CoreStep
+        requires act { effect.now.act ≡ act.Memory m.now }
+        requires aligned { m.now.addr % bytes_in m.now.width ≡ 0 }
+        requires loaded { loaded ≡ loaded_by (byte_in content.now) m.now }
+        ensures row { (output : List ℕ) →
+            retire_row self.old.index (byte_in content.now) word effect.now (shown_hart SETS output self.old)
+            ≡ stepped SETS output self.new result }
+        ensures cache { self.new.cache ≡ self.old.cache }
+        ensures stays { StaysPut self.old self.new }
+    {
         let entry = self.access_entry(word, m, content);
         self.put_status(Status::Running);
         self.pc = effect.next;
-        write_register(&mut self.regs, loaded_by(content, m));
+        write_register(&mut self.regs, loaded);
         self.fresh = false;
         CoreStep::gives(entry)
     }
