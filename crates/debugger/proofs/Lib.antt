@@ -16,3 +16,4 @@ mod OneLook
 mod OneAnswer
 mod OneLine
 pub mod OneSession
+mod Placed

@@ -26,7 +26,7 @@ use Rattle.debugger.proofs.OneLook.{look_once, refusal_is}
 use Rattle.debugger.proofs.OneTold.{told_once}
 use Rattle.debugger.proofs.OneTurns.{both_stay}
 
-quietly : (a b : SinkState) → b ≡ a → Puts a b [] (Ok tt)
+pub quietly : (a b : SinkState) → b ≡ a → Puts a b [] (Ok tt)
 quietly a b same = subst (λ (c : SinkState). Puts a c [] (Ok tt)) (sym same) (puts-nothing a)
 
 -- what both took is one text

@@ -249,9 +249,9 @@ module _ (g : Geometry) (s t : Session) (twins : AreTwinSessions g s t) where
       (is ∙ (ap (λ (h : DebugFault). Err h) (refused_once at e f refused refused_too) ∙ sym also), both_stay g s t u x twins one other)
 
   chooses : (at : Command) (c : Choice) (r u : Session) (o : Outcome)
-      → ((report : Report) × (o ≡ Ok report) × IsPlaced r at × Chooses g r c report u) ⊎ (((o ≡ Err fault.Limit) × ⊥) ⊎ ((f : DebugFault) × (o ≡ Err f) × (place_fault (setting_of r.machine) at ≡ Some f) × (u ≡ r)))
+      → ((report : Report) × (o ≡ Ok report) × (IsPlaced r at × Chooses g r c report u)) ⊎ (((o ≡ Err fault.Limit) × ⊥) ⊎ ((f : DebugFault) × (o ≡ Err f) × (place_fault (setting_of r.machine) at ≡ Some f) × (u ≡ r)))
       → Chosen at c r o u
-  chooses at c r u o (inl (report, is, placed, does)) = chosen at c r u o report is placed does
+  chooses at c r u o (inl (report, is, (placed, does))) = chosen at c r u o report is placed does
   chooses at c r u o (inr (inl (is, limited))) = absurd limited
   chooses at c r u o (inr (inr (f, is, refused, same))) = inr (inr (f, is, refused, same))
 

@@ -163,7 +163,7 @@ module _ (g : Geometry) where
   ]
 
   -- both come to a breakpoint
-  pub into_once : (most : ℕ) (s t u x : Session) (i p j q : ℕ) → AreTwinSessions g s t → RunsInto g most s i p u → RunsInto g most t j q x → ((i, p) ≡ (j, q)) × AreTwinSessions g u x
+  pub into_once : (most : ℕ) (s t u x : Session) (i p j q : ℕ) → AreTwinSessions g s t → RunsInto g most s i p u → RunsInto g most t j q x → (◌≡◌ {A = ℕ × ℕ} (i, p) (j, q)) × AreTwinSessions g u x
   into_once most s t u x i p j q twins (n, v, d, few, one, runs, turn, broke, goes) (m, y, e, few_too, other, runs_too, turn_too, broke_too, goes_too) = elim (cases_lt n m) [
     | inl below ↦ absurd (break_late n m s t v u y d i p twins below one turn broke goes other)
     | inr le ↦ elim (cases_lt m n) [
@@ -171,7 +171,10 @@ module _ (g : Geometry) where
       | inr ge ↦
           let same : m ≡ n = omega (arith, le, ge) in
           let both = one_after v y u x d e (runs_once n s t v y twins one (subst (λ (k : ℕ). RunsOn g k t y) same other)) turn turn_too in
-          (same_Some (i, p) (j, q) (sym broke ∙ (break_is u x d e both.1 both.0 ∙ broke_too)), both.1)
+          let at : ℕ × ℕ = (i, p) in
+          let at_too : ℕ × ℕ = (j, q) in
+          let one_place : at ≡ at_too = same_Some at at_too (sym broke ∙ (break_is u x d e both.1 both.0 ∙ broke_too)) in
+          (one_place, both.1)
     ]
   ]
 

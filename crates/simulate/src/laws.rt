@@ -26,7 +26,6 @@ ghost use Rattle.schedule.specs.Moments.{Moment, entries_of};
 ghost use Rattle.requests.specs.Ends.{search_start, AreEndsGiven};
 ghost use Rattle.requests.specs.Files.{IsListed, IsImageOf};
 ghost use Rattle.requests.specs.Runs.{ComesBy, addresses};
-ghost use Rattle.debugger.specs.Plays.{Giving};
 ghost use Rattle.debugger.specs.Sure.{AreKnown, answers_surely};
 ghost use Rattle.simulate.specs.Debugging.{IsPlayedByHand};
 ghost use Rattle.simulate.specs.Given.{IsGiven};
@@ -34,6 +33,8 @@ ghost use Rattle.simulate.specs.Threaded.{IsGivenInThreads};
 ghost use Rattle.requests.specs.Outputs.{Sinks, Texts, TakeAll};
 ghost use Rattle.requests.specs.Sources.{IsProgramIn, IsSourceOf, is_source};
 ghost use Rattle.requests.specs.Starts.{flat_start};
+
+use debugger::LineInput;
 
 /// Where a search ends with status 0, all ends are told: for every cache, and for every list of core, eviction and delivery steps from where the file's
 /// program begins to a machine whose harts have all stopped, the report on that machine is among those that standard output took.
@@ -96,12 +97,12 @@ pub fn reports_are_one()
 
 /// Two sessions of one request, one file and one input tell one text and ask for as many lines, where both come to their end with status 0, no memory is wanting, and no
 /// line asks for a word of the undo logs.
-pub fn sessions_by_hand_are_one()
-    ensures { (g : Geometry) (I : Type 0) (gives : Giving I) (bytes : I → Option (List ℕ)) (setup : Setup) (file prompt lines : List ℕ) (i j k l : I)
+pub fn sessions_by_hand_are_one<I: LineInput>()
+    ensures { (g : Geometry) (bytes : I → Option (List ℕ)) (setup : Setup) (file prompt lines : List ℕ) (i j k l : I)
         (told_before told_after asked_before asked_after told_earlier told_later asked_earlier asked_later : SinkState) →
-        AreKnown gives bytes → bytes i ≡ Some lines → bytes k ≡ Some lines →
-        IsPlayedByHand answers_surely g gives setup file prompt i j told_before told_after asked_before asked_after 0 →
-        IsPlayedByHand answers_surely g gives setup file prompt k l told_earlier told_later asked_earlier asked_later 0 →
+        AreKnown I.gives bytes → bytes i ≡ Some lines → bytes k ≡ Some lines →
+        IsPlayedByHand answers_surely g I.gives setup file prompt i j told_before told_after asked_before asked_after 0 →
+        IsPlayedByHand answers_surely g I.gives setup file prompt k l told_earlier told_later asked_earlier asked_later 0 →
         ((text : List ℕ) × TookAll told_before told_after text × TookAll told_earlier told_later text)
         × ((asked : List ℕ) × TookAll asked_before asked_after asked × TookAll asked_earlier asked_later asked) }
 {}

@@ -16,4 +16,4 @@ loop-preserved g c =
 pub returns-clause-told : goal.returns-clause-told
 returns-clause-told g c =
     let all : c.loop.counter ≡ 1000000 = omega (arith, c.loop-test.false, c.loop.auto.counter-end) in
-    (rw c.if-not-runs.false at c.runs.ensures, c.loop.counter, all, c.loop.invariant.0)
+    (rw c.if-not-runs.false at c.runs.ensures, (c.loop.counter, all, c.loop.invariant.0))
