@@ -126,7 +126,7 @@ readable_at_end g p n size most choices m words e all =
 seat_at : {A : Type 0} (xs : List A) (i : ℕ) → i < length xs → (x : A) × (slice_get xs i ≡ Some x)
 seat_at [] i less = absurd (omega (arith, less))
 seat_at (x ∷ xs) zero less = (x, refl)
-seat_at (x ∷ xs) (suc i) less = seat_at xs i (omega (arith, less))
+seat_at (x ∷ xs) (suc i) less = let lt : i < length xs = omega (arith, less) in seat_at xs i lt
 
 -- a hart that still runs in the flat state runs in the machine
 still_left : (g : Geometry) (f : Flat) (m : State) (i : ℕ) → Belongs g f (shown g.sets m) → f.setting.count ≤ most_harts → StillRuns f i → IsLeft m i
@@ -180,6 +180,7 @@ module _ (g : Geometry) (run : Run) (file : List ℕ) (p : Program) (holds : IsP
 
   -- they are the harts' turns
   turned : AreOfTurns g run.steps (StillRuns come.end.flat) comes.first comes.choices comes.last
+  unfolding comes
   turned =
       let e = come.end in
       let few : e.flat.setting.count ≤ most_harts = subst (λ (s : Setting). s.count ≤ most_harts) (sym (run_setting (first_flat p run.setup.harts run.setup.memory) e.flat e.entries e.runs))
@@ -208,12 +209,14 @@ module _ (g : Geometry) (run : Run) (file : List ℕ) (p : Program) (holds : IsP
 
       -- all was put
       pub given : (status : ℕ) → TookAll h k (history_text history list) → IsConcluded g m words a b status → IsGivenInThreads g run history file before after status
+      unfolding texts
       given status kept whole_put =
           let at = whole_put.1 come.end.flat come.end.belongs in
           (whole_put.0, (list, steps, counted, whole, texts status at.0, turned, subst (λ (l : List ℕ). TookAll a b l) (sym (append-nil (report_of come.end.flat words))) at.1, kept))
 
       -- a put of the report failed
       pub half_given : (fault : Fault) → TookAll h k (history_text history list) → IsHalfConcluded g m words a b fault → IsNotGivenInThreads g run history file before after fault
+      unfolding texts
       half_given fault kept half =
           let at = half.1 come.end.flat come.end.belongs in
           inr (inr (half.0, (list, steps, counted, whole, at.0, texts at.0 at.1, turned, subst (λ (l : List ℕ). TookPart a b l) (sym (append-nil (report_of come.end.flat words))) at.2, kept)))
