@@ -57,8 +57,8 @@ counts_by i (Some (TBegin offset)) = (i, Begun) ∷ []
 counts_by i (Some TCommit) = (i, Committed) ∷ []
 counts_by i other = []
 
--- what hart i's access counts as, and whether the hart was fresh: then the access is the end of a miss or of an upgrade, which was counted when it was asked for; else
--- its line was there, and it is a hit. What loads and stores, an atomic operation, is a store's hit, as its request is a store's
+-- an access of hart i is a hit, unless the hart was fresh: then it is the end of a miss or of an upgrade, which was counted when the hart asked. What loads and stores, an
+-- atomic operation, is a store's hit, as its request is a store's
 abbrev pub hit_by : Bool → ℕ → Option Access → Option Access → List (ℕ × Kind)
 hit_by true i store load = []
 hit_by false i (Some a) load = (i, StoreHit) ∷ []
@@ -155,8 +155,8 @@ abbrev pub fresh_at : Machine → Option ℕ → Fresh → Fresh
 fresh_at w None fresh = fresh
 fresh_at w (Some i) fresh = put_at i (w.harts i).fresh fresh
 
--- which harts are fresh behind a step, where they were so before it: not the one whose core made it; and one that got a message if that was the last answer to its
--- request, and granted it
+-- which harts are fresh behind a step, where these were so before it: the one whose core made it is no longer; one that gets a message is if the machine has it so, since
+-- that was the last answer to its request, and granted it
 abbrev pub fresh_by : Machine → Option ℕ → Step → Fresh → Fresh
 fresh_by w to (Core i) fresh = put_at i false fresh
 fresh_by w to (Evict i b) fresh = fresh
