@@ -18,8 +18,7 @@ pub use entry::answer;
 pub use laws::{
     all_ends_are_told, assembled_files_are_one, assembled_files_run_as_spelled,
     files_hold_one_program, listings_are_one, reports_are_one, sessions_by_hand_are_one,
-    threaded_reports_are_one,
-    told_ends_are_one, told_ends_are_reached,
+    threaded_reports_are_one, told_ends_are_one, told_ends_are_reached,
 };
 pub use requests::{
     Fault, HostFiles, Live, Meter, Outcome, Outlet, Page, RefusedLine, Store, StoreFault, readable,
