@@ -1,7 +1,6 @@
 -- Runs that no one tells apart have the same counts.
 use Rattle.std.proofs.Common.{◌≡◌, ◌+◌, ◌++◌, ◌∙◌, ℕ, max, List, [], ◌∷◌, refl, ap}
 use Rattle.std.specs.Prelude.{count_by, is_some}
-use Rattle.std.specs.List.{flat_map}
 use Rattle.std.proofs.Math.Path.{fun_ext}
 use Rattle.protocol.specs.Caches.{Geometry}
 use Rattle.machine.specs.Mail.{Mail}
@@ -14,23 +13,27 @@ use Rattle.watch.specs.declared.kinds.Kind.{Kind}
 use Rattle.watch.specs.declared.figures.Sum.{Sum}
 use Rattle.watch.specs.declared.figures.Figure.{Figure}
 use Rattle.watch.specs.declared.figures.Figure.TheVariants as figure
-use Rattle.watch.specs.Kinds.{one_if, counts_if, counts_asked, counts_in, asks_if, number_in, number_of}
+use Rattle.watch.specs.Kinds.{Fresh, none_fresh, one_if, counts_if, counts_asked, asks_if, fresh_behind, fresh_by, goes_to, number_from, number_in, number_of}
 use Rattle.watch.specs.Traffic.{was_sent, is_same, sum_of_step, total, in_flight, in_use, most, capped, figure_of}
 
 module _ (g : Geometry) where
   flights_alike : (m n : Moment) → AreTwinMoments g m n → AreAlike m.after.flights n.after.flights
   flights_alike m n twins key = ap (λ (mail : Mail). mail key) twins.after.mail
 
-  same_counts : (ms ns : List Moment) → AreTwinRuns g ms ns → flat_map (counts_in g.sets) ms ≡ flat_map (counts_in g.sets) ns
-  same_counts [] [] twins = refl
-  same_counts [] (n ∷ ns) twins = absurd twins
-  same_counts (m ∷ ms) [] twins = absurd twins
-  same_counts (m ∷ ms) (n ∷ ns) (first, rest) = λ i.
-      (counts_if (first.entry i) ++ counts_asked (first.after.machine i) (first.sent i) (first.after.sent i) (asks_if (first.arrival i)) (first.step i)) ++ same_counts ms ns rest i
+  -- of each hart, where the same harts were fresh before the first moment
+  same_from : (h : ℕ) (k : Kind) (one other : Fresh) → one ≡ other → (ms ns : List Moment) → AreTwinRuns g ms ns → number_from g.sets h k one ms ≡ number_from g.sets h k other ns
+  same_from h k one other same [] [] twins = refl
+  same_from h k one other same [] (n ∷ ns) twins = absurd twins
+  same_from h k one other same (m ∷ ms) [] twins = absurd twins
+  same_from h k one other same (m ∷ ms) (n ∷ ns) (first, rest) =
+      let behind : fresh_behind g.sets one m ≡ fresh_behind g.sets other n = λ i. fresh_by (first.after.machine i) (goes_to (first.arrival i)) (first.step i) (same i) in
+      let later : number_from g.sets h k (fresh_behind g.sets one m) ms ≡ number_from g.sets h k (fresh_behind g.sets other n) ns =
+      same_from h k (fresh_behind g.sets one m) (fresh_behind g.sets other n) behind ms ns rest in
+      λ i. number_in h k (counts_if (same i) (first.entry i) ++ counts_asked (first.after.machine i) (first.sent i) (first.after.sent i) (asks_if (first.arrival i)) (first.step i)) + later i
 
-  -- of each hart
+  -- where none was
   pub same_number : (h : ℕ) (k : Kind) (ms ns : List Moment) → AreTwinRuns g ms ns → number_of g.sets h k ms ≡ number_of g.sets h k ns
-  same_number h k ms ns twins = ap (number_in h k) (same_counts ms ns twins)
+  same_number h k ms ns twins = same_from h k none_fresh none_fresh refl ms ns twins
 
   same_total : (s : Sum) (ms ns : List Moment) → AreTwinRuns g ms ns → total s ms ≡ total s ns
   same_total s [] [] twins = refl
