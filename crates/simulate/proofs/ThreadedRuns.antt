@@ -110,12 +110,21 @@ pub record IsEndBy (g : Geometry) (p : Program) (n size most : ℕ) (choices : L
   pub reasons : HaveReasons (first_flat p n size) entries
   pub belongs : Belongs g flat (shown g.sets m)
 
-pub end_by : (g : Geometry) (p : Program) (n size : ℕ) (tells : Told → Type 0) (most : ℕ) (m : State) (e : IsServedEnd g p n size tells most m) → IsEndBy g p n size most e.choices m
-end_by g p n size tells most m e = record { entries = e.entries; course = e.course; turns = e.turns; flat = e.flat; runs = e.runs; reasons = e.reasons; belongs = e.belongs }
+pub end_by : (g : Geometry) (p : Program) (n size : ℕ) (tells : Told → Type 0) (most turns : ℕ) (m : State) → turns ≡ most → (e : IsServedEnd g p n size tells turns m) → IsEndBy g p n size most e.choices m
+end_by g p n size tells most turns m same e = record {
+  entries = e.entries;
+  course = e.course;
+  turns = subst (λ k. AreOfTurns g k (IsLeft m) e.course.first e.choices m) same e.turns;
+  flat = e.flat;
+  runs = e.runs;
+  reasons = e.reasons;
+  belongs = e.belongs;
+}
 
 -- the same of choices that are known
-pub end_known : (g : Geometry) (p : Program) (n size most : ℕ) (choices : List Choice) (m : State) (e : IsServedEnd g p n size (λ told. told.choices ≡ Some choices) most m) → IsEndBy g p n size most choices m
-end_known g p n size most choices m e = subst (λ (cs : List Choice). IsEndBy g p n size most cs m) (same_Some e.choices choices e.told) (end_by g p n size (λ told. told.choices ≡ Some choices) most m e)
+pub end_known : (g : Geometry) (p : Program) (n size most turns : ℕ) (choices : List Choice) (m : State) → turns ≡ most → IsServedEnd g p n size (λ told. told.choices ≡ Some choices) turns m → IsEndBy g p n size most choices m
+end_known g p n size most turns choices m same e =
+    subst (λ (cs : List Choice). IsEndBy g p n size most cs m) (same_Some e.choices choices e.told) (end_by g p n size (λ told. told.choices ≡ Some choices) most turns m same e)
 
 -- words that can be read in the first state can be read in the machine that its harts come to
 readable_at_end : (g : Geometry) (p : Program) (n size most : ℕ) (choices : List Choice) (m : State) (words : List ℕ) → IsEndBy g p n size most choices m → AllReadable (first_flat p n size).setting words → AllReadable (setting_of m) words

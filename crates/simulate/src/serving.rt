@@ -55,7 +55,13 @@ where
 {
     let desk = locked(alloc, board)?;
     serve::<Box<Served<'p, SETS, WAYS, J>>, Whole, R>(rt, &desk, harts as usize, &Whole, turns)?;
-    if_of(Box::into_inner(desk.into_inner()), program, harts, size, turns)
+    if_of(
+        Box::into_inner(desk.into_inner()),
+        program,
+        harts,
+        size,
+        turns,
+    )
 }
 
 /// A board, apart from its lock. It fails only if memory runs out.

@@ -6,9 +6,9 @@ use Rattle.simulate.proofs.serving.if_of.Goals as goal
 
 pub returns-then-same-clause-end : goal.returns-then-same-clause-end
 returns-then-same-clause-end g c =
-    end_same (geometry g.row.SETS g.row.WAYS) c.args.program.now c.finish.result.program.now c.args.harts c.finish.result.harts c.args.size c.finish.result.size
-    (g.J.Journal.tells c.finish.result.journal) c.args.turns c.finish.result.machine (c.same.ensures.0 c.if-same.true) c.if-end-harts.true c.if-end-size.true
-    (c.finish.ensures.end c.args.turns (c.is_done.ensures.0 c.if-is_done.true))
+    end_same (geometry g.row.SETS g.row.WAYS) c.args.program.now c.finish-end.result.program.now c.args.harts c.finish-end.result.harts c.args.size c.finish-end.result.size
+    (g.J.Journal.tells c.finish-end.result.journal) c.args.turns c.finish-end.result.machine (c.same.ensures.0 c.if-same.true) c.if-end-harts.true c.if-end-size.true
+    (c.finish-end.ensures.end c.args.turns (c.is_done-is_done.ensures.0 c.if-is_done.true))
 
 -- a machine has a size that fits: it has no more sets than lines
 pub drop-end-requires-3-room-T-Destruct : goal.drop-end-requires-3-room-T-Destruct

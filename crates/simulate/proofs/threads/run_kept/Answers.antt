@@ -22,14 +22,14 @@ returns-in_err-end g c = λ file holds.
 pub keep_and_conclude-requires : goal.keep_and_conclude-requires
 keep_and_conclude-requires g c =
     let come = come_to (geometry g.row.SETS g.row.WAYS) c.args.run.now c.args.code.program.now c.in_ok-end.end.journal.choices c.in_ok-end.end.machine c.in_ok-board.field-0.addrs.items c.in_ok-board.ensures
-    (end_known (geometry g.row.SETS g.row.WAYS) c.args.code.program.now c.args.run.now.setup.harts c.args.run.now.setup.memory c.args.run.now.steps c.in_ok-end.end.journal.choices c.in_ok-end.end.machine c.in_ok-end.ensures)
+    (end_known (geometry g.row.SETS g.row.WAYS) c.args.code.program.now c.args.run.now.setup.harts c.args.run.now.setup.memory c.args.run.now.steps c.from-turns.result c.in_ok-end.end.journal.choices c.in_ok-end.end.machine c.from-turns.ensures c.in_ok-end.ensures)
     c.written_choices_are_read.ensures.text c.written_choices_are_read.ensures.spelled in
     (omega arith, subst (λ (l : List ℕ). AllReadable (setting_of c.in_ok-end.end.machine) l) (sym c.deref.ensures.value) come.readable)
 
 pub returns : goal.returns
 returns g c = λ file holds.
     let come = come_to (geometry g.row.SETS g.row.WAYS) c.args.run.now c.args.code.program.now c.in_ok-end.end.journal.choices c.in_ok-end.end.machine c.in_ok-board.field-0.addrs.items c.in_ok-board.ensures
-    (end_known (geometry g.row.SETS g.row.WAYS) c.args.code.program.now c.args.run.now.setup.harts c.args.run.now.setup.memory c.args.run.now.steps c.in_ok-end.end.journal.choices c.in_ok-end.end.machine c.in_ok-end.ensures)
+    (end_known (geometry g.row.SETS g.row.WAYS) c.args.code.program.now c.args.run.now.setup.harts c.args.run.now.setup.memory c.args.run.now.steps c.from-turns.result c.in_ok-end.end.journal.choices c.in_ok-end.end.machine c.from-turns.ensures c.in_ok-end.ensures)
     c.written_choices_are_read.ensures.text c.written_choices_are_read.ensures.spelled in
     concluded_kept (geometry g.row.SETS g.row.WAYS) c.args.run.now file c.args.code.program.now holds c.in_ok-end.end.journal.choices c.in_ok-end.end.machine c.in_ok-board.field-0.addrs.items come
     c.deref.result.now c.deref.ensures.value c.args.path (g.T.Sink.state c.args.page.now) (g.T.Sink.state c.keep_and_conclude.new.page) (g.O.Sink.state c.args.out.now) (g.O.Sink.state c.keep_and_conclude.new.out)

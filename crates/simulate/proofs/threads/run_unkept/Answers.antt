@@ -23,7 +23,7 @@ pub conclude-requires : goal.conclude-requires
 conclude-requires g c =
     let choices = c.in_ok-end.ensures.choices in
     let come = come_to (geometry g.row.SETS g.row.WAYS) c.args.run.now c.args.code.program.now choices c.in_ok-end.end.machine c.in_ok-board.field-0.addrs.items c.in_ok-board.ensures
-    (end_by (geometry g.row.SETS g.row.WAYS) c.args.code.program.now c.args.run.now.setup.harts c.args.run.now.setup.memory _ c.args.run.now.steps c.in_ok-end.end.machine c.in_ok-end.ensures)
+    (end_by (geometry g.row.SETS g.row.WAYS) c.args.code.program.now c.args.run.now.setup.harts c.args.run.now.setup.memory _ c.args.run.now.steps c.from-turns.result c.in_ok-end.end.machine c.from-turns.ensures c.in_ok-end.ensures)
     c.written_choices_are_read.ensures.text c.written_choices_are_read.ensures.spelled in
     (omega arith, subst (λ (l : List ℕ). AllReadable (setting_of c.in_ok-end.end.machine) l) (sym c.deref.ensures.value) come.readable)
 
@@ -31,7 +31,7 @@ pub returns : goal.returns
 returns g c = λ file page holds.
     let choices = c.in_ok-end.ensures.choices in
     let come = come_to (geometry g.row.SETS g.row.WAYS) c.args.run.now c.args.code.program.now choices c.in_ok-end.end.machine c.in_ok-board.field-0.addrs.items c.in_ok-board.ensures
-    (end_by (geometry g.row.SETS g.row.WAYS) c.args.code.program.now c.args.run.now.setup.harts c.args.run.now.setup.memory _ c.args.run.now.steps c.in_ok-end.end.machine c.in_ok-end.ensures)
+    (end_by (geometry g.row.SETS g.row.WAYS) c.args.code.program.now c.args.run.now.setup.harts c.args.run.now.setup.memory _ c.args.run.now.steps c.from-turns.result c.in_ok-end.end.machine c.from-turns.ensures c.in_ok-end.ensures)
     c.written_choices_are_read.ensures.text c.written_choices_are_read.ensures.spelled in
     concluded (geometry g.row.SETS g.row.WAYS) c.args.run.now file c.args.code.program.now holds choices c.in_ok-end.end.machine c.in_ok-board.field-0.addrs.items come c.deref.result.now c.deref.ensures.value page
     (g.O.Sink.state c.args.out.now) (g.O.Sink.state c.conclude.new.sink) c.conclude.result c.conclude.ensures
