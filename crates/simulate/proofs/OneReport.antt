@@ -1,6 +1,5 @@
 -- Two runs of one file by one schedule give one report.
-use Rattle.std.proofs.Common.{◌≡◌, ◌<◌, ◌≤◌, ◌+◌, ◌-◌, ◌⊎◌, ◌++◌, ◌∙◌, ℕ, suc, Option, Some, None, List, [], ◌∷◌, map, inl, inr, arith, refl, sym, ap, subst}
-use Rattle.std.specs.List.{flat_map}
+use Rattle.std.proofs.Common.{◌≡◌, ◌<◌, ◌≤◌, ◌+◌, ◌-◌, ◌⊎◌, ◌++◌, ◌∙◌, ℕ, Some, None, List, [], ◌∷◌, map, inl, inr, arith, refl, sym, ap, subst}
 use Rattle.flat.specs.State.{Flat}
 use Rattle.flat.specs.Steps.{IsRun}
 use Rattle.flat.proofs.Determined.{one_last}

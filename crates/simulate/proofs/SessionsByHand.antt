@@ -1,5 +1,5 @@
 -- Two sessions of one request, one file and one input tell one text.
-use Rattle.std.proofs.Common.{◌≡◌, ◌∙◌, ℕ, Option, Some, List, Result, Ok, Err, refl, sym, ap, subst}
+use Rattle.std.proofs.Common.{◌≡◌, ◌∙◌, ℕ, Option, Some, List, Result, Ok, Err, refl, sym, subst}
 use Rattle.words.specs.Sinks.{SinkState, TookAll}
 use Rattle.loader.specs.Programs.{Program}
 use Rattle.protocol.specs.Caches.{Geometry}

@@ -28,9 +28,7 @@ use Rattle.protocol.specs.Machine.{Machine}
 use Rattle.protocol.specs.Start.{start, first_hart}
 use Rattle.hart.specs.Shown.{shown_hart}
 use Rattle.machine.specs.States.{Seat, State, setting_of, shown, hart_at}
-use Rattle.machine.specs.Lent.{hart_if}
 use Rattle.board.specs.Histories.{first_flat, Told, IsCourse}
-use Rattle.board.specs.Boards.{IsRunning}
 use Rattle.board.specs.Turns.{AreOfTurns, IsLeft, IsServedEnd}
 use Rattle.schedule.specs.declared.choices.Choice.{Choice}
 use Rattle.schedule.specs.Lines.{lines_of, AreSpelledBy}
