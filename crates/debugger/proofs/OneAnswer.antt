@@ -18,7 +18,7 @@ use Rattle.debugger.specs.Answers.{Answers, Carries, ShowsLook, flow_of}
 use Rattle.debugger.specs.Debugging.{said}
 use Rattle.debugger.specs.Looks.{refusal}
 use Rattle.debugger.specs.Sessions.{Session}
-use Rattle.debugger.specs.Sure.{IsElsewhere, LooksElsewhere, answers_surely}
+use Rattle.debugger.specs.Sure.{answers_surely}
 use Rattle.debugger.specs.Texts.{IsTextOf}
 use Rattle.debugger.specs.Twins.{AreTwinSessions}
 use Rattle.debugger.proofs.OneDeed.{Outcome, Comes, AreOne, one_deed}
@@ -92,42 +92,42 @@ module _ (g : Geometry) (names : Table) (s t : Session) (twins : AreTwinSessions
   deed_once k r q deed sure clean sure_too clean_too one other =
       deed_alike k r q deed (spoken g names s k u a b r one sure clean) (spoken g names t k x c d q other sure_too clean_too)
 
-  look_alike : (l : Look) (r q : Result Flow DebugFault) → LooksElsewhere l → (r ≡ Err fault.Device → ⊥) → (q ≡ Err fault.Device → ⊥)
+  look_alike : (l : Look) (r q : Result Flow DebugFault) → (r ≡ Err fault.Device → ⊥) → (q ≡ Err fault.Device → ⊥)
       → ShowsLook names g.sets s.machine l a b r × (u ≡ s) → ShowsLook names g.sets t.machine l c d q × (x ≡ t) → AreAlike r q
-  look_alike l (Ok f) (Ok h) looks clean clean_too ((none, shows, go), same) ((none_too, shows_too, go_too), also) =
-      let text : shows.text ≡ shows_too.text = look_once names g s.machine t.machine twins.machine l shows.text shows_too.text looks none shows.is shows_too.is in (
+  look_alike l (Ok f) (Ok h) clean clean_too ((none, shows, go), same) ((none_too, shows_too, go_too), also) =
+      let text : shows.text ≡ shows_too.text = look_once names g s.machine t.machine twins.machine l shows.text shows_too.text none shows.is shows_too.is in (
         ap (λ (y : Flow). Ok y) (go ∙ sym go_too),
         both_stay g s t u x twins same also,
         (shows.text, shows.puts, subst (λ (text : List ℕ). Puts c d text (Ok tt)) (sym text) shows_too.puts),
       )
-  look_alike l (Ok f) (Err e) looks clean clean_too ((none, shows, go), same) (inl (device, fine, put, cut), also) = absurd (clean_too (ap (λ (y : DebugFault). Err y) device))
-  look_alike l (Ok f) (Err e) looks clean clean_too ((none, shows, go), same) (inr (refused, quiet), also) =
-      absurd (none-some e (sym none ∙ (refusal_is names g s.machine t.machine twins.machine l looks ∙ refused)))
-  look_alike l (Err e) q looks clean clean_too (inl (device, fine, put, cut), same) other = absurd (clean (ap (λ (y : DebugFault). Err y) device))
-  look_alike l (Err e) (Ok h) looks clean clean_too (inr (refused, quiet), same) ((none, shows, go), also) =
-      absurd (none-some e (sym none ∙ (sym (refusal_is names g s.machine t.machine twins.machine l looks) ∙ refused)))
-  look_alike l (Err e) (Err h) looks clean clean_too (inr (refused, quiet), same) (inl (device, fine, put, cut), also) = absurd (clean_too (ap (λ (y : DebugFault). Err y) device))
-  look_alike l (Err e) (Err h) looks clean clean_too (inr (refused, quiet), same) (inr (refused_too, quiet_too), also) = (
-    ap (λ (y : DebugFault). Err y) (same_Some e h (sym refused ∙ (refusal_is names g s.machine t.machine twins.machine l looks ∙ refused_too))),
+  look_alike l (Ok f) (Err e) clean clean_too ((none, shows, go), same) (inl (device, fine, put, cut), also) = absurd (clean_too (ap (λ (y : DebugFault). Err y) device))
+  look_alike l (Ok f) (Err e) clean clean_too ((none, shows, go), same) (inr (refused, quiet), also) =
+      absurd (none-some e (sym none ∙ (refusal_is names g s.machine t.machine twins.machine l ∙ refused)))
+  look_alike l (Err e) q clean clean_too (inl (device, fine, put, cut), same) other = absurd (clean (ap (λ (y : DebugFault). Err y) device))
+  look_alike l (Err e) (Ok h) clean clean_too (inr (refused, quiet), same) ((none, shows, go), also) =
+      absurd (none-some e (sym none ∙ (sym (refusal_is names g s.machine t.machine twins.machine l) ∙ refused)))
+  look_alike l (Err e) (Err h) clean clean_too (inr (refused, quiet), same) (inl (device, fine, put, cut), also) = absurd (clean_too (ap (λ (y : DebugFault). Err y) device))
+  look_alike l (Err e) (Err h) clean clean_too (inr (refused, quiet), same) (inr (refused_too, quiet_too), also) = (
+    ap (λ (y : DebugFault). Err y) (same_Some e h (sym refused ∙ (refusal_is names g s.machine t.machine twins.machine l ∙ refused_too))),
     both_stay g s t u x twins same also,
     ([], quietly a b quiet, quietly c d quiet_too),
   )
 
-  alike : (k : Command) (r q : Result Flow DebugFault) → IsElsewhere k → (r ≡ Err fault.NoMemory → ⊥) → (r ≡ Err fault.Device → ⊥) → (q ≡ Err fault.NoMemory → ⊥) → (q ≡ Err fault.Device → ⊥)
+  alike : (k : Command) (r q : Result Flow DebugFault) → (r ≡ Err fault.NoMemory → ⊥) → (r ≡ Err fault.Device → ⊥) → (q ≡ Err fault.NoMemory → ⊥) → (q ≡ Err fault.Device → ⊥)
       → Answers g names s k u a b r → Answers g names t k x c d q → AreAlike r q
-  alike (command.Step) r q looks sure clean sure_too clean_too one other = deed_once command.Step r q (λ l is. cc) sure clean sure_too clean_too one other
-  alike (command.Run n) r q looks sure clean sure_too clean_too one other = deed_once (command.Run n) r q (λ l is. cc) sure clean sure_too clean_too one other
-  alike (command.Break p) r q looks sure clean sure_too clean_too one other = deed_once (command.Break p) r q (λ l is. cc) sure clean sure_too clean_too one other
-  alike (command.Core h) r q looks sure clean sure_too clean_too one other = deed_once (command.Core h) r q (λ l is. cc) sure clean sure_too clean_too one other
-  alike (command.Evict h p) r q looks sure clean sure_too clean_too one other = deed_once (command.Evict h p) r q (λ l is. cc) sure clean sure_too clean_too one other
-  alike (command.Deliver sort h p) r q looks sure clean sure_too clean_too one other = deed_once (command.Deliver sort h p) r q (λ l is. cc) sure clean sure_too clean_too one other
-  alike (command.Look l) r q looks sure clean sure_too clean_too one other = look_alike l r q looks clean clean_too one other
-  alike (command.Comment) r q looks sure clean sure_too clean_too one other = deed_once command.Comment r q (λ l is. cc) sure clean sure_too clean_too one other
-  alike (command.Quit) r q looks sure clean sure_too clean_too one other = deed_once command.Quit r q (λ l is. cc) sure clean sure_too clean_too one other
+  alike (command.Step) r q sure clean sure_too clean_too one other = deed_once command.Step r q (λ l is. cc) sure clean sure_too clean_too one other
+  alike (command.Run n) r q sure clean sure_too clean_too one other = deed_once (command.Run n) r q (λ l is. cc) sure clean sure_too clean_too one other
+  alike (command.Break p) r q sure clean sure_too clean_too one other = deed_once (command.Break p) r q (λ l is. cc) sure clean sure_too clean_too one other
+  alike (command.Core h) r q sure clean sure_too clean_too one other = deed_once (command.Core h) r q (λ l is. cc) sure clean sure_too clean_too one other
+  alike (command.Evict h p) r q sure clean sure_too clean_too one other = deed_once (command.Evict h p) r q (λ l is. cc) sure clean sure_too clean_too one other
+  alike (command.Deliver sort h p) r q sure clean sure_too clean_too one other = deed_once (command.Deliver sort h p) r q (λ l is. cc) sure clean sure_too clean_too one other
+  alike (command.Look l) r q sure clean sure_too clean_too one other = look_alike l r q clean clean_too one other
+  alike (command.Comment) r q sure clean sure_too clean_too one other = deed_once command.Comment r q (λ l is. cc) sure clean sure_too clean_too one other
+  alike (command.Quit) r q sure clean sure_too clean_too one other = deed_once command.Quit r q (λ l is. cc) sure clean sure_too clean_too one other
 
   -- so does the answer as a line hears it
   pub answer_once : (k : Command) (r q : Result Bool DebugFault) → (r ≡ Err fault.Device → ⊥) → (q ≡ Err fault.Device → ⊥) → answers_surely g names s k u a b r → answers_surely g names t k x c d q
       → (r ≡ q) × AreTwinSessions g u x × AreToldOne a b c d
-  answer_once k r q clean clean_too ((told, one, is), sure, looks) ((told_too, other, also), sure_too, looks_too) =
-      let both = alike k told told_too looks (λ e. sure (is ∙ ap said e)) (λ e. clean (is ∙ ap said e)) (λ e. sure_too (also ∙ ap said e)) (λ e. clean_too (also ∙ ap said e)) one other in
+  answer_once k r q clean clean_too ((told, one, is), sure) ((told_too, other, also), sure_too) =
+      let both = alike k told told_too (λ e. sure (is ∙ ap said e)) (λ e. clean (is ∙ ap said e)) (λ e. sure_too (also ∙ ap said e)) (λ e. clean_too (also ∙ ap said e)) one other in
       (is ∙ (ap said both.0 ∙ sym also), both.1, both.2)

@@ -1,9 +1,10 @@
--- What a look shows is the same on machines that no step tells apart. Left open is a word of the undo logs: what stands there behind the records isn't said by the protocol.
+-- What a look shows is the same on machines that no step tells apart.
 use Rattle.std.proofs.Common.{◌≡◌, ◌<◌, ◌/◌, ◌%◌, ◌==◌, ◌&&◌, ◌++◌, ◌∙◌, ℕ, Bool, true, false, cond, Option, Some, None, List, [], ◌∷◌, length, codes, inl, inr, arith, refl, sym, ap, subst}
 use Rattle.std.specs.Prelude.{IfSome, is_some}
 use Rattle.std.specs.Option.{option_map, option_map_or, option_or}
 use Rattle.std.specs.List.{flat_map, range_with_len, slice_index_or}
 use Rattle.std.proofs.Math.Path.{fun_ext}
+use Rattle.std.proofs.lemmas.Option.{none-some}
 use Rattle.words.specs.Limits.{block_bytes}
 use Rattle.table.specs.Program.{word_at}
 use Rattle.network.specs.declared.net.Flight.{Flight}
@@ -12,14 +13,14 @@ use Rattle.protocol.specs.Caches.{Geometry}
 use Rattle.protocol.specs.Machine.{Machine}
 use Rattle.disassembler.specs.Tables.{Table}
 use Rattle.disassembler.specs.Listing.{line}
-use Rattle.render.specs.Blocks.{directory_text}
+use Rattle.render.specs.Blocks.{directory_text, word_line}
 use Rattle.render.specs.Registers.{registers_lines}
 use Rattle.machine.specs.Mail.{Mail}
-use Rattle.machine.specs.Reads.{info_of}
+use Rattle.machine.specs.Reads.{info_of, log_word}
 use Rattle.machine.specs.States.{State, setting_of, shown}
 use Rattle.machine.specs.Turns.{is_held}
 use Rattle.machine.specs.Twins.{AreTwins}
-use Rattle.machine.proofs.TwinReads.{each_kept, raw_is, peek_is, view_is}
+use Rattle.machine.proofs.TwinReads.{each_kept, log_word_is, raw_is, peek_is, view_is}
 use Rattle.debugger.specs.declared.commands.command.Look.{Look}
 use Rattle.debugger.specs.declared.commands.command.Look.TheVariants.{Regs, Word, Raw, View, Line, Dir, Dirs, Tx, Log, Dis, Messages, Harts, Help}
 use Rattle.debugger.specs.declared.commands.fault.DebugFault.{DebugFault}
@@ -27,7 +28,6 @@ use Rattle.debugger.specs.declared.commands.fault.DebugFault.TheVariants.{Addres
 use Rattle.debugger.specs.Refusals.{hart_fault, word_fault, text_fault}
 use Rattle.debugger.specs.LookTexts.{cached_line, tx_line, entry_line, message_line}
 use Rattle.debugger.specs.Looks.{refusal, AreSentAfter, flight_line, line_of_hart, word_text, IsTextOf}
-use Rattle.debugger.specs.Sure.{LooksElsewhere}
 use Rattle.debugger.proofs.Readable.{lies_below}
 
 -- a message is before another, or the other before it
@@ -42,22 +42,28 @@ not_there : (b : Bool) → ◌≡◌ {A = Option DebugFault} (cond (b && false) 
 not_there true is = cc
 not_there false is = cc
 
+-- a word of the undo logs has one line
+logged_once : (a : ℕ) (o : Option ℕ) (one other : List ℕ) → ◌≡◌ {A = Option DebugFault} (cond (is_some o) None (Some Address)) None → IfSome o (λ x. one ≡ word_line a x) → IfSome o (λ x. other ≡ word_line a x)
+    → one ≡ other
+logged_once a None one other fine is also = absurd (none-some Address (sym fine))
+logged_once a (Some x) one other fine is also = is ∙ sym also
+
 module _ (names : Table) (g : Geometry) (v w : State) (twins : AreTwins g v w) where
   -- the same looks are refused
-  pub refusal_is : (l : Look) → LooksElsewhere l → refusal v l ≡ refusal w l
-  refusal_is (Regs h) looks = ap (λ (m : Machine). hart_fault m.setting h) twins.machine
-  refusal_is (Word a) looks = ap (λ (m : Machine). word_fault m.setting a) twins.machine
-  refusal_is (Raw a) looks = ap (λ (m : Machine). word_fault m.setting a) twins.machine
-  refusal_is (View h a) looks = ap (λ (m : Machine). option_or (hart_fault m.setting h) (word_fault m.setting a)) twins.machine
-  refusal_is (Line h a) looks = ap (λ (m : Machine). option_or (hart_fault m.setting h) (word_fault m.setting a)) twins.machine
-  refusal_is (Dir a) looks = ap (λ (m : Machine). word_fault m.setting a) twins.machine
-  refusal_is Dirs looks = refl
-  refusal_is (Tx h) looks = ap (λ (m : Machine). hart_fault m.setting h) twins.machine
-  refusal_is (Log a) looks = absurd looks
-  refusal_is (Dis b) looks = ap (λ (m : Machine). text_fault m.setting b) twins.machine
-  refusal_is Messages looks = refl
-  refusal_is Harts looks = refl
-  refusal_is Help looks = refl
+  pub refusal_is : (l : Look) → refusal v l ≡ refusal w l
+  refusal_is (Regs h) = ap (λ (m : Machine). hart_fault m.setting h) twins.machine
+  refusal_is (Word a) = ap (λ (m : Machine). word_fault m.setting a) twins.machine
+  refusal_is (Raw a) = ap (λ (m : Machine). word_fault m.setting a) twins.machine
+  refusal_is (View h a) = ap (λ (m : Machine). option_or (hart_fault m.setting h) (word_fault m.setting a)) twins.machine
+  refusal_is (Line h a) = ap (λ (m : Machine). option_or (hart_fault m.setting h) (word_fault m.setting a)) twins.machine
+  refusal_is (Dir a) = ap (λ (m : Machine). word_fault m.setting a) twins.machine
+  refusal_is Dirs = refl
+  refusal_is (Tx h) = ap (λ (m : Machine). hart_fault m.setting h) twins.machine
+  refusal_is (Log a) = ap (λ (o : Option ℕ). cond (is_some o) None (Some Address)) (log_word_is g v w twins a)
+  refusal_is (Dis b) = ap (λ (m : Machine). text_fault m.setting b) twins.machine
+  refusal_is Messages = refl
+  refusal_is Harts = refl
+  refusal_is Help = refl
 
   -- The messages in flight, by age
 
@@ -100,24 +106,25 @@ module _ (names : Table) (g : Geometry) (v w : State) (twins : AreTwins g v w) w
   text_once b (Some x) one other at fine is also = is ∙ sym also
 
   -- what each look shows
-  pub look_once : (l : Look) (one other : List ℕ) → LooksElsewhere l → refusal v l ≡ None → IsTextOf names g.sets v l one → IsTextOf names g.sets w l other → one ≡ other
-  look_once (Regs h) one other looks fine is also =
+  pub look_once : (l : Look) (one other : List ℕ) → refusal v l ≡ None → IsTextOf names g.sets v l one → IsTextOf names g.sets w l other → one ≡ other
+  look_once (Regs h) one other fine is also =
       is ∙ (ap (λ (m : Machine). registers_lines names (m.harts h).regs (m.harts h).pc (m.harts h).status) twins.machine ∙ sym also)
-  look_once (Word a) one other looks fine is also =
+  look_once (Word a) one other fine is also =
       is (length v.flights) (lies_below v.flights) ∙ (ap (word_text a) (peek_is g v w twins) ∙ sym (also (length w.flights) (lies_below w.flights)))
-  look_once (Raw a) one other looks fine is also =
+  look_once (Raw a) one other fine is also =
       is (length v.flights) (lies_below v.flights) ∙ (ap (word_text a) (raw_is g v w twins) ∙ sym (also (length w.flights) (lies_below w.flights)))
-  look_once (View h a) one other looks fine is also =
+  look_once (View h a) one other fine is also =
       is (length v.flights) (lies_below v.flights) ∙ (ap (word_text a) (view_is g v w twins h) ∙ sym (also (length w.flights) (lies_below w.flights)))
-  look_once (Line h a) one other looks fine is also = is ∙ (ap (λ (m : Machine). cached_line ((m.harts h).lines (a / block_bytes))) twins.machine ∙ sym also)
-  look_once (Dir a) one other looks fine is also = is ∙ (ap (λ (m : Machine). directory_text (m.entries (a / block_bytes)) ++ codes "\n") twins.machine ∙ sym also)
-  look_once Dirs one other looks fine is also = is ∙ (each_kept g v w twins (λ e. entry_line e.0 e.1) ∙ sym also)
-  look_once (Tx h) one other looks fine is also = is ∙ (ap (λ (m : Machine). tx_line (option_map info_of (m.harts h).tx)) twins.machine ∙ sym also)
-  look_once (Log a) one other looks fine is also = absurd looks
-  look_once (Dis b) one other looks fine is also = text_once b (word_at (setting_of v).segments b) one other refl fine is
+  look_once (Line h a) one other fine is also = is ∙ (ap (λ (m : Machine). cached_line ((m.harts h).lines (a / block_bytes))) twins.machine ∙ sym also)
+  look_once (Dir a) one other fine is also = is ∙ (ap (λ (m : Machine). directory_text (m.entries (a / block_bytes)) ++ codes "\n") twins.machine ∙ sym also)
+  look_once Dirs one other fine is also = is ∙ (each_kept g v w twins (λ e. entry_line e.0 e.1) ∙ sym also)
+  look_once (Tx h) one other fine is also = is ∙ (ap (λ (m : Machine). tx_line (option_map info_of (m.harts h).tx)) twins.machine ∙ sym also)
+  look_once (Log a) one other fine is also = logged_once a (log_word v a) one other fine is
+      (subst (λ (o : Option ℕ). IfSome o (λ x. other ≡ word_line a x)) (sym (log_word_is g v w twins a)) also)
+  look_once (Dis b) one other fine is also = text_once b (word_at (setting_of v).segments b) one other refl fine is
       (subst (λ (m : Machine). IfSome (word_at m.setting.segments b) (λ x. other ≡ line names b x)) (sym twins.machine) also)
-  look_once Messages one other looks fine (xs, ordered, is) (ys, ordered_too, also) =
+  look_once Messages one other fine (xs, ordered, is) (ys, ordered_too, also) =
       is ∙ (ap (flat_map (flight_line g.sets v)) (keys_once None xs ys ordered ordered_too)
       ∙ (ap (λ (item : ℕ → List ℕ). flat_map item ys) (fun_ext flight_is) ∙ sym also))
-  look_once Harts one other looks fine is also = is ∙ (ap (λ (m : Machine). flat_map (line_of_hart names m) (range_with_len 0 m.setting.count)) twins.machine ∙ sym also)
-  look_once Help one other looks fine is also = is ∙ sym also
+  look_once Harts one other fine is also = is ∙ (ap (λ (m : Machine). flat_map (line_of_hart names m) (range_with_len 0 m.setting.count)) twins.machine ∙ sym also)
+  look_once Help one other fine is also = is ∙ sym also

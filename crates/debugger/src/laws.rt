@@ -12,8 +12,7 @@ ghost use Rattle.debugger.specs.Twins.{AreTwinSessions};
 
 use crate::input::LineInput;
 
-/// Two sessions of machines that no step tells apart are one, where their inputs are the same bytes, no memory is wanting, and no line asks for a word of the undo
-/// logs. So many lines that no failed put or read came in: the same was told and asked, no command tells the sessions apart, and the same is left to read. And
+/// Two sessions of machines that no step tells apart are one, where their inputs are the same bytes and no memory is wanting. So many lines that no failed put or read came in: the same was told and asked, no command tells the sessions apart, and the same is left to read. And
 /// sessions that have come to their end have told the same, and asked for as many lines.
 pub fn sessions_are_one<I: LineInput>()
     ensures lines { (g : Geometry) (names : Table) (bytes : I → Option (List ℕ)) (prompt file : List ℕ) (n : ℕ) (v w x y : Talk Session I) → AreKnown I.gives bytes →

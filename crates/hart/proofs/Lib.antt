@@ -11,3 +11,4 @@ pub mod Quick
 pub mod Keeping
 pub mod Places
 pub mod Layouts
+pub mod Bytes

@@ -78,7 +78,7 @@ log_of-shown tx idle = by_depth (tx.depth == 0) refl
     by_depth true is = sym (shown_log-empty tx.log (idle (grind (arith, nat_tests))))
     by_depth false is = refl
 
-length-shown_log : (log : Log) → length (shown_log log) ≡ log.count
+pub length-shown_log : (log : Log) → length (shown_log log) ≡ log.count
 length-shown_log log = length-reverse (map shown_record (records log)) ∙ length-map (records log) shown_record ∙ length-records log
 
 -- a transaction that runs is shown

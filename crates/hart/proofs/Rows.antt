@@ -1,5 +1,6 @@
 -- Which row it comes to, by what is known of the hart.
-use Rattle.std.proofs.Common.{◌≡◌, ◌==◌, ◌-◌, ◌/◌, ◌&&◌, ℕ, nat_le, length, cond, ◌∷◌, Bool, true, false, List, Option, Some, None, is_some, refl, sym, arith}
+use Rattle.std.proofs.Common.{◌≡◌, ◌==◌, ◌+◌, ◌-◌, ◌/◌, ◌&&◌, ℕ, nat_le, length, cond, ◌∷◌, Bool, true, false, List, Option, Some, None, is_some, refl, sym, arith}
+use Rattle.std.specs.Prelude.{is_none}
 use Rattle.std.specs.Option.{option_map}
 use Rattle.std.proofs.lemmas.Bool.Decides.{nat_tests}
 use Rattle.words.specs.declared.stamp.Stamp.{Stamp}
@@ -15,7 +16,7 @@ use Rattle.protocol.specs.Lines.{Line, refuses, byte_in, owned_content, line_giv
 use Rattle.protocol.specs.Hart.{Hart, Transaction, LogRecord, Request, sends, overflow_of, with_line}
 use Rattle.protocol.specs.Requests.{have_answered, granted_so_far, refused_row, granted_row, answer_row}
 use Rattle.protocol.specs.Evict.{evict_row, evict_by, drop_row, write_back_row, without_line, spill_of}
-use Rattle.protocol.specs.Core.{Makes, Lacks, start_abort_row, undo_row, undo_move, abort_move, fetch_row, move_row, commit_row, retire_row, no_memory, is_log_due, tx_used, access_row}
+use Rattle.protocol.specs.Core.{Makes, Lacks, start_abort_row, undo_row, undo_move, abort_move, fetch_row, move_row, begin_row, tx_begun, commit_row, retire_row, no_memory, is_log_due, tx_used, access_row}
 use Rattle.words.specs.Limits.{log_records}
 use Rattle.words.specs.declared.cause.AbortCause.{AbortCause}
 use Rattle.words.specs.declared.cause.AbortCause.TheVariants.{LogFull}
@@ -112,6 +113,15 @@ pub commits-inner : (i w : ℕ) (e : Effect) (o : Option Transaction) (h k : Har
     → commit_row i w e o h ≡ retire_row i no_memory w e k
 commits-inner i w e None h k outside is = rw (outside refl) refl
 commits-inner i w e (Some t) h k outside is = let f = is t refl in rw (f.0, f.1) refl
+
+-- a begin
+
+pub begins : (i taken w p : ℕ) (e : Effect) (o : Option Transaction) (h k : Hart) (stamped : Bool)
+    → (o ≡ None → (k ≡ record h { tx = Some (tx_begun i taken p h); kept_stamp = None }) × (stamped ≡ is_none h.kept_stamp))
+    → ((t : Transaction) → o ≡ Some t → (k ≡ record h { tx = Some (record t { depth = t.depth + 1 }) }) × (stamped ≡ false))
+    → begin_row i taken w e p o h ≡ record (retire_row i no_memory w e k) { stamped = stamped }
+begins i taken w p e None h k stamped outside is = let f = outside refl in rw (f.0, f.1) refl
+begins i taken w p e (Some t) h k stamped outside is = let f = is t refl in rw (f.0, f.1) refl
 
 -- an access in a transaction, with and without room in the log
 

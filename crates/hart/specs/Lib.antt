@@ -3,3 +3,4 @@ pub mod Shown
 pub mod Rows
 pub mod Locals
 pub mod Places
+pub mod Staying

@@ -42,10 +42,3 @@ pub record IsSound (sets : ℕ) (p : Parts) : Type 0 where
   pub few : p.harts ≤ most_harts
   pub tx : IsKept p.tx
   pub waits : (r : Request) → p.request ≡ Some r → HasRoomFor sets p.cache r
-
--- where a hart stands in its machine, and its log in memory, never changes
-pub record StaysPut (old new : Parts) : Type 0 where
-  pub index : new.index ≡ old.index
-  pub harts : new.harts ≡ old.harts
-  pub size : new.size ≡ old.size
-  pub log : new.tx.log.base ≡ old.tx.log.base

@@ -15,7 +15,7 @@ use words::{AbortCause, Cause, Entry, LineState, Status};
 
 /// Traps and aborts.
 impl<const SETS: usize, const WAYS: usize> Hart<SETS, WAYS> {
-    ghost use Rattle.hart.specs.Parts.{StaysPut};
+    ghost use Rattle.hart.specs.Staying.{StaysPut};
     ghost use Rattle.hart.specs.Places.{KeepsWays};
     ghost use Rattle.hart.specs.Shown.{shown_line, shown_record, shown_tx, shown_log, shown_hart};
     ghost use Rattle.hart.specs.Rows.{stepped};

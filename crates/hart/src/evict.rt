@@ -11,7 +11,7 @@ use conflict::PutOut;
 use words::{BlockNo, Entry, Message};
 
 impl<const SETS: usize, const WAYS: usize> Hart<SETS, WAYS> {
-    ghost use Rattle.hart.specs.Parts.{StaysPut};
+    ghost use Rattle.hart.specs.Staying.{StaysPut};
     ghost use Rattle.hart.specs.Places.{KeepsWays};
     ghost use Rattle.hart.specs.Shown.{shown_line, shown_hart};
     ghost use Rattle.hart.specs.Rows.{replied};

@@ -1,6 +1,7 @@
 ghost use Rattle.std.specs.Prelude.{◌≡◌, ◌<◌, ◌≤◌, ◌+◌, ◌-◌, ◌*◌, ◌^◌, ◌↔◌, ℕ, [], IsTrue, IsSome, Option, None, replicate};
 ghost use Rattle.std.specs.Option.{option_map};
 ghost use Rattle.words.specs.Limits.{most_harts, log_bytes};
+ghost use Rattle.undo_log.specs.Log.{empty_log};
 ghost use Rattle.flat.specs.State.{Setting};
 ghost use Rattle.flat.specs.Start.{first_regs};
 ghost use Rattle.protocol.specs.Start.{start};
@@ -105,7 +106,7 @@ impl<const SETS: usize, const WAYS: usize> Hart<SETS, WAYS> {
         ensures index { result.index ≡ index }
         ensures harts { result.harts ≡ harts }
         ensures size { result.size ≡ size }
-        ensures log { result.tx.log.base ≡ size - log_bytes * (index + 1) }
+        ensures log { result.tx.log ≡ empty_log (size - log_bytes * (index + 1)) }
         ensures cache { result.cache ≡ replicate SETS (replicate WAYS None) }
     {
         let base = size.saturating_sub(LOG_BYTES * (index.index() + 1));

@@ -17,7 +17,7 @@ use conflict::{
 use words::{Block, BlockNo, Entry, HartId, Kind, LineState, Message, Stamp};
 
 impl<const SETS: usize, const WAYS: usize> Hart<SETS, WAYS> {
-    ghost use Rattle.hart.specs.Parts.{StaysPut};
+    ghost use Rattle.hart.specs.Staying.{StaysPut};
     ghost use Rattle.hart.specs.Places.{KeepsWays};
     ghost use Rattle.conflict.specs.Requests.{shown_granted};
     ghost use Rattle.hart.specs.Shown.{shown_line, shown_tx, shown_hart};

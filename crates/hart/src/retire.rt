@@ -50,7 +50,7 @@ fn output_by(regs: &Regs, act: &Act) -> Option<u8>
 
 /// Instructions that are retired.
 impl<const SETS: usize, const WAYS: usize> Hart<SETS, WAYS> {
-    ghost use Rattle.hart.specs.Parts.{StaysPut};
+    ghost use Rattle.hart.specs.Staying.{StaysPut};
     ghost use Rattle.hart.specs.Places.{KeepsWays};
     ghost use Rattle.hart.specs.Shown.{shown_line, shown_tx, running, shown_hart};
     ghost use Rattle.hart.specs.Rows.{stepped, is_access};
@@ -62,6 +62,7 @@ impl<const SETS: usize, const WAYS: usize> Hart<SETS, WAYS> {
         ensures row { (output : List ℕ) → retire_row self.old.index no_memory word effect.now (shown_hart SETS output self.old)
             ≡ stepped SETS output self.new result }
         ensures cache { self.new.cache ≡ self.old.cache }
+        ensures tx { self.new.tx ≡ self.old.tx }
         ensures stays { StaysPut self.old self.new }
     {
         let entry = Entry::Retire {
@@ -130,6 +131,7 @@ impl<const SETS: usize, const WAYS: usize> Hart<SETS, WAYS> {
             retire_row self.old.index (byte_in content.now) word effect.now (shown_hart SETS output self.old)
             ≡ stepped SETS output self.new result }
         ensures cache { self.new.cache ≡ self.old.cache }
+        ensures tx { self.new.tx ≡ self.old.tx }
         ensures stays { StaysPut self.old self.new }
     {
         self.retire_loaded(word, effect, m, content, loaded_by(content, m))
@@ -152,6 +154,7 @@ impl<const SETS: usize, const WAYS: usize> Hart<SETS, WAYS> {
             retire_row self.old.index (byte_in content.now) word effect.now (shown_hart SETS output self.old)
             ≡ stepped SETS output self.new result }
         ensures cache { self.new.cache ≡ self.old.cache }
+        ensures tx { self.new.tx ≡ self.old.tx }
         ensures stays { StaysPut self.old self.new }
     {
         let entry = self.access_entry(word, m, content);
@@ -259,6 +262,7 @@ impl<const SETS: usize, const WAYS: usize> Hart<SETS, WAYS> {
             retire_row self.old.index (byte_in line.now.content) word effect.now used
             ≡ stepped SETS output self.new result }
         ensures ways { KeepsWays SETS self.old.cache self.new.cache }
+        ensures tx { self.new.tx ≡ self.old.tx }
         ensures stays { StaysPut self.old self.new }
     {
         self.use_line(m, line, in_transaction);
@@ -325,6 +329,7 @@ impl<const SETS: usize, const WAYS: usize> Hart<SETS, WAYS> {
             ≡ with_line (m.now.addr / 32) (Some (line_used in_transaction m.now (shown_line line.now)))
             (shown_hart SETS output self.old) }
         ensures ways { KeepsWays SETS self.old.cache self.new.cache }
+        ensures tx { self.new.tx ≡ self.old.tx }
         ensures stays { StaysPut self.old self.new }
     {
         let marks = marks_after(in_transaction, m, line.marks);

@@ -8,6 +8,7 @@ ghost use Rattle.protocol.specs.Requests.{gives_way};
 ghost use Rattle.protocol.specs.Evict.{tx_spilled};
 ghost use Rattle.protocol.specs.HartMessages.{tx_refusing};
 ghost use Rattle.hart.specs.Parts.{IsKept};
+ghost use Rattle.hart.specs.Staying.{KeepsLog};
 ghost use Rattle.hart.specs.Shown.{shown_tx, shown_log, shown_record, stamp_in, first_begun};
 
 use transaction::{Restart, Tx};
@@ -30,12 +31,13 @@ pub(crate) fn overflow_of(tx: &Tx) -> bool
 }
 
 /// A line was given up, marked or not.
+#[tactic(auto, using(crate::proofs::Bytes::kept_bytes))]
 pub(crate) fn note_spill(tx: &mut Tx, marked: bool)
     requires { IsKept tx.old }
     ensures kept { IsKept tx.new }
     ensures shown { shown_tx tx.new ≡ option_map (tx_spilled marked) (shown_tx tx.old) }
     ensures stamp { kept_stamp tx.new ≡ kept_stamp tx.old }
-    ensures base { tx.new.log.base ≡ tx.old.log.base }
+    ensures keeps { KeepsLog tx.old tx.new }
 {
     if marked && tx.depth() > 0 {
         tx.set_overflow();
@@ -43,12 +45,13 @@ pub(crate) fn note_spill(tx: &mut Tx, marked: bool)
 }
 
 /// A request with this stamp was refused.
+#[tactic(auto, using(crate::proofs::Bytes::kept_bytes))]
 pub(crate) fn note_refusal(tx: &mut Tx, requester: Option<Stamp>)
     requires { IsKept tx.old }
     ensures kept { IsKept tx.new }
     ensures shown { shown_tx tx.new ≡ option_map (tx_refusing requester) (shown_tx tx.old) }
     ensures stamp { kept_stamp tx.new ≡ kept_stamp tx.old }
-    ensures base { tx.new.log.base ≡ tx.old.log.base }
+    ensures keeps { KeepsLog tx.old tx.new }
 {
     if tx.depth() > 0 {
         tx.note_refusal(requester);
@@ -56,12 +59,13 @@ pub(crate) fn note_refusal(tx: &mut Tx, requester: Option<Stamp>)
 }
 
 /// A request of the hart was refused, by an earlier transaction or not: it aborts if it has refused an earlier one.
+#[tactic(auto, using(crate::proofs::Bytes::kept_bytes))]
 pub(crate) fn give_way(tx: &mut Tx, earlier_refused: bool)
     requires { IsKept tx.old }
     ensures kept { IsKept tx.new }
     ensures shown { shown_tx tx.new ≡ option_map (gives_way earlier_refused) (shown_tx tx.old) }
     ensures stamp { kept_stamp tx.new ≡ kept_stamp tx.old }
-    ensures base { tx.new.log.base ≡ tx.old.log.base }
+    ensures keeps { KeepsLog tx.old tx.new }
 {
     if tx.must_abort(earlier_refused) {
         start_abort(tx, AbortCause::Conflict);
@@ -69,18 +73,20 @@ pub(crate) fn give_way(tx: &mut Tx, earlier_refused: bool)
 }
 
 /// The running transaction starts to be aborted, if there is one.
+#[tactic(auto, using(crate::proofs::Bytes::kept_bytes))]
 pub(crate) fn start_abort(tx: &mut Tx, cause: AbortCause)
     requires { IsKept tx.old }
     ensures kept { IsKept tx.new }
     ensures shown { shown_tx tx.new ≡ option_map (λ (t : Transaction). record t { aborting = Some cause }) (shown_tx tx.old) }
     ensures stamp { kept_stamp tx.new ≡ kept_stamp tx.old }
-    ensures base { tx.new.log.base ≡ tx.old.log.base }
+    ensures keeps { KeepsLog tx.old tx.new }
 {
     // Outside a transaction there is nothing to abort.
     let _outside = tx.start_abort(cause);
 }
 
 /// A transaction begins, or goes one deeper. The answer is whether it takes the stamp.
+#[tactic(auto, using(crate::proofs::Bytes::kept_bytes))]
 pub(crate) fn begin(tx: &mut Tx, regs: &Regs, abort_pc: Addr, stamp: Stamp) -> bool
     requires kept { IsKept tx.old }
     requires aborting { tx.old.aborting ≡ None }
@@ -92,12 +98,13 @@ pub(crate) fn begin(tx: &mut Tx, regs: &Regs, abort_pc: Addr, stamp: Stamp) -> b
     ensures inside { (t : Transaction) → shown_tx tx.old ≡ Some t →
         (shown_tx tx.new ≡ Some (record t { depth = t.depth + 1 }))
         × (kept_stamp tx.new ≡ kept_stamp tx.old) × (result ≡ false) }
-    ensures base { tx.new.log.base ≡ tx.old.log.base }
+    ensures keeps { KeepsLog tx.old tx.new }
 {
     tx.begin(regs, abort_pc, stamp).unwrap_or(false)
 }
 
 /// The innermost transaction ends. The answer is whether it is the outermost too. Outside a transaction nothing changes.
+#[tactic(auto, using(crate::proofs::Bytes::kept_bytes))]
 pub(crate) fn commit(tx: &mut Tx) -> bool
     requires kept { IsKept tx.old }
     requires aborting { tx.old.aborting ≡ None }
@@ -106,12 +113,13 @@ pub(crate) fn commit(tx: &mut Tx) -> bool
     ensures inside { (t : Transaction) → shown_tx tx.old ≡ Some t → (result ≡ (t.depth == 1))
         × (shown_tx tx.new ≡ cond (t.depth == 1) None (Some (record t { depth = t.depth - 1 }))) }
     ensures stamp { kept_stamp tx.new ≡ kept_stamp tx.old }
-    ensures base { tx.new.log.base ≡ tx.old.log.base }
+    ensures keeps { KeepsLog tx.old tx.new }
 {
     tx.commit().is_ok() && tx.depth() == 0
 }
 
 /// An abort ends, whose log is undone.
+#[tactic(auto, using(crate::proofs::Bytes::kept_bytes))]
 pub(crate) fn end_abort(tx: &mut Tx) -> Restart
     requires kept { IsKept tx.old }
     requires aborting { IsSome tx.old.aborting }
@@ -122,12 +130,13 @@ pub(crate) fn end_abort(tx: &mut Tx) -> Restart
     ensures regs { result.regs ≡ tx.old.checkpoint }
     ensures pc { result.pc ≡ tx.old.abort_pc }
     ensures cause { tx.old.aborting ≡ Some result.cause }
-    ensures base { tx.new.log.base ≡ tx.old.log.base }
+    ensures keeps { KeepsLog tx.old tx.new }
 {
     tx.end_abort()
 }
 
 /// Takes the newest record off the log.
+#[tactic(auto, using(crate::proofs::Bytes::kept_bytes))]
 pub(crate) fn pop_record(tx: &mut Tx)
     requires kept { IsKept tx.old }
     requires some { 0 < tx.old.log.count }
@@ -137,7 +146,7 @@ pub(crate) fn pop_record(tx: &mut Tx)
         shown_tx tx.new ≡ Some (record t { log = shown_log tx.new.log }) }
     ensures log { shown_log tx.old.log ≡ shown_record (newest_of tx.old.log) ∷ shown_log tx.new.log }
     ensures stamp { kept_stamp tx.new ≡ kept_stamp tx.old }
-    ensures base { tx.new.log.base ≡ tx.old.log.base }
+    ensures keeps { KeepsLog tx.old tx.new }
 {
     tx.pop_record();
 }
@@ -154,7 +163,7 @@ pub(crate) fn append_record(tx: &mut Tx, block: BlockNo, before: &Block) -> bool
         shown_tx tx.new ≡ Some (record t { log = record { block = block; before = before.now } ∷ t.log }) }
     ensures full { IsFalse result → tx.new ≡ tx.old }
     ensures stamp { kept_stamp tx.new ≡ kept_stamp tx.old }
-    ensures base { tx.new.log.base ≡ tx.old.log.base }
+    ensures keeps { KeepsLog tx.old tx.new }
 {
     tx.append_record(block, before).is_ok()
 }

@@ -7,7 +7,7 @@ use Rattle.std.proofs.lemmas.Option.{slice_get_read}
 use Rattle.words.specs.Limits.{block_bytes}
 use Rattle.flat.specs.Bytes.{put_at}
 use Rattle.flat.specs.State.{idle}
-use Rattle.hart.specs.Parts.{StaysPut}
+use Rattle.hart.specs.Staying.{StaysPut}
 use Rattle.hart.specs.Shown.{shown_hart}
 use Rattle.protocol.specs.Start.{first_hart}
 use Rattle.machine.specs.States.{Seat, State, hart_at, setting_of}

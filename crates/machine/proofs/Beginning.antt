@@ -7,6 +7,7 @@ use Rattle.flat.specs.Start.{first_hart as flat_first}
 use Rattle.std.proofs.lemmas.Bool.Decides.{nat_tests}
 use Rattle.std.proofs.lemmas.Option.{slice_get_within}
 use Rattle.words.specs.Limits.{block_bytes, stack_bytes, log_bytes}
+use Rattle.undo_log.specs.Log.{empty_log}
 use Rattle.table.specs.Program.{Segment, image_at}
 use Rattle.loader.specs.Programs.{Program}
 use Rattle.flat.specs.State.{Setting, idle}
@@ -31,6 +32,7 @@ pub record IsFirst (sets ways size count entry j : ℕ) (x : Seat) : Type 0 wher
   pub hart : (s : Setting) → s.size ≡ size → s.count ≡ count → shown_hart sets x.output x.hart ≡ (start s entry).harts j
   pub seated : (s : Setting) → s.size ≡ size → s.count ≡ count → IsSeated s j x.hart
   pub cache : x.hart.cache ≡ replicate sets (replicate ways None)
+  pub log : x.hart.tx.log ≡ empty_log (size - log_bytes * (j + 1))
 
 -- and so are all
 abbrev pub AreFirst : ℕ → ℕ → ℕ → ℕ → ℕ → List Seat → Type 0

@@ -22,7 +22,7 @@ use Rattle.hart.specs.Places.{KeepsWays}
 use Rattle.hart.specs.Shown.{shown_hart, lines_of}
 use Rattle.hart.specs.Rows.{setting_of as hart_setting, victim_of}
 use Rattle.machine.specs.Mail.{SendsOn, mail_of}
-use Rattle.machine.specs.Making.{BringsAbout, MakesStep, AllKeepWays, victims}
+use Rattle.machine.specs.Making.{BringsAbout, MakesStep, AllKeepWays, AllKeepLogs, victims}
 use Rattle.machine.specs.Rows.{stepped}
 use Rattle.machine.specs.States.{Seat, State, shown, geometry, hart_at, setting_of, IsSeated, IsSound}
 use Rattle.machine.proofs.Acting.{Acts, seat_before, hart_before, rests_still}
@@ -30,7 +30,7 @@ use Rattle.machine.proofs.Made.{steps_of}
 use Rattle.machine.proofs.Sending.{all_left}
 use Rattle.machine.proofs.Steps.{of_none, row_does, row_rests}
 use Rattle.machine.proofs.Sound.{still_sound}
-use Rattle.machine.proofs.Staying.{seats_stay, others_stay}
+use Rattle.machine.proofs.Staying.{seats_stay, others_stay, logs_stay, other_logs_stay}
 
 -- victims that may be named for every block may be named for the one that is lacked
 pub may_lack : (g : Geometry) (h : Hart) (victim : ℕ → Option ℕ) (move : Move) → ((b : ℕ) → MayName g h.lines b (victim b)) → MayLack g h victim move
@@ -70,12 +70,13 @@ module _ (sets ways i : ℕ) (v w : State) (old new : Seat) (sound : IsSound set
   victims_are = sym (ap (λ o b. option_and_then (λ (s : Seat). victim_of sets s.hart.cache b) o) (seat_before i v w old new a))
 
   -- so a change by them is the step's
-  by_rule : (e : Option Entry) (x : State) → Names sets ways old → AllKeepWays sets v x → BringsAbout sets v (change_of (victim_of sets old.hart.cache) (Core i) (shown sets v)) e x → x.directory ≡ v.directory
+  by_rule : (e : Option Entry) (x : State) → Names sets ways old → AllKeepWays sets v x → AllKeepLogs v x → BringsAbout sets v (change_of (victim_of sets old.hart.cache) (Core i) (shown sets v)) e x → x.directory ≡ v.directory
       → MakesStep (geometry sets ways) v (Core i) e x
-  by_rule e x names keep about same = record {
+  by_rule e x names keep logs about same = record {
     may = subst (MayNameIn (geometry sets ways) (shown sets v) (Core i)) victims_are (named names);
     made = subst (λ victim. BringsAbout sets v (change_of victim (Core i) (shown sets v)) e x) victims_are about;
     ways = keep;
+    logs = logs;
     kept = subst KeepsUsed (sym same) sound.kept;
   }
 
@@ -86,12 +87,12 @@ module _ (sets ways i : ℕ) (v w : State) (old new : Seat) (sound : IsSound set
   core_makes made names keeps does stamps sends =
       let t : HartResult = stepped sets new made in
       let about = row_does sets i _ t v w old new (row_of (Some made) does) (record { acts = a; hart = refl; stamps = stamps; left = mail_of v.flights; leaves = all_left v.flights; sends = sends }) in
-      let step : MakesStep (geometry sets ways) v (Core i) made.entry w = by_rule made.entry w names (others_stay sets i v w old new a keeps) about a.directory in
+      let step : MakesStep (geometry sets ways) v (Core i) made.entry w = by_rule made.entry w names (others_stay sets i v w old new a keeps) (other_logs_stay i v w old new a) about a.directory in
       (step, still_sound sets ways i v w old new (Core i) made.entry sound a (steps_of (geometry sets ways) v (Core i) made.entry w step))
 
   -- or none is enabled
   pub core_rests : Names sets ways old → MakesOf sets v.program.segments v.stamps old new None → MakesStep (geometry sets ways) v (Core i) None v
-  core_rests names does = by_rule None v names (seats_stay sets v v refl) (row_rests sets i _ v (row_of None does) a.number) refl
+  core_rests names does = by_rule None v names (seats_stay sets v v refl) (logs_stay v v refl) (row_rests sets i _ v (row_of None does) a.number) refl
 
   -- or the hart went on by itself
   pub advances : (r : Option Entry) → Names sets ways old → KeepsWays sets old.hart.cache new.hart.cache → IfSome r (λ e. FollowsAlone sets (hart_setting v.program.segments old.hart) old.hart new.hart (Retired e) × RetiresPlain old.hart.index e) → IfNone r (new ≡ old)
@@ -123,4 +124,4 @@ core_of_none sets ways i v sound past =
     let named : MayNameIn (geometry sets ways) (shown sets v) (Core i) (λ b. None) =
     subst (λ h. MayLack (geometry sets ways) h (λ b. None) (core_move (setting_of v) i v.stamps h)) (sym none)
     (may_lack (geometry sets ways) (first_hart idle) (λ b. None) _ (λ b. empty_room (geometry sets ways) (first_hart idle).lines b sound.some_way (λ c. refl))) in
-    record { may = subst (MayNameIn (geometry sets ways) (shown sets v) (Core i)) (sym no_victim) named; made = of_none sets i v _ past; ways = seats_stay sets v v refl; kept = sound.kept }
+    record { may = subst (MayNameIn (geometry sets ways) (shown sets v) (Core i)) (sym no_victim) named; made = of_none sets i v _ past; ways = seats_stay sets v v refl; logs = logs_stay v v refl; kept = sound.kept }

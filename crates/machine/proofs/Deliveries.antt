@@ -17,23 +17,24 @@ use Rattle.hart.specs.Places.{KeepsWays}
 use Rattle.hart.specs.Shown.{shown_hart}
 use Rattle.hart.specs.Rows.{replied}
 use Rattle.machine.specs.Mail.{SendsOn, in_flight, mail_of}
-use Rattle.machine.specs.Making.{BringsAbout, MakesStep, AllKeepWays}
+use Rattle.machine.specs.Making.{BringsAbout, MakesStep, AllKeepWays, AllKeepLogs}
 use Rattle.machine.specs.States.{Seat, State, shown, geometry, hart_at, setting_of, IsSeated, IsSound}
 use Rattle.machine.proofs.Acting.{Acts, seat_before, hart_before}
 use Rattle.machine.proofs.Made.{nothing, steps_of}
 use Rattle.machine.proofs.Sending.{left_without}
 use Rattle.machine.proofs.Steps.{of_hart, of_none, hart_does}
 use Rattle.machine.proofs.Sound.{still_sound}
-use Rattle.machine.proofs.Staying.{seats_stay, others_stay}
+use Rattle.machine.proofs.Staying.{seats_stay, others_stay, logs_stay, other_logs_stay}
 
 -- a message to a hart, or to the directory, comes about as a step if its arrival does
 pub arrives : (sets ways key : ℕ) (v : State) (m : Message) (to : Option ℕ) (e : Option Entry) (w : State) → in_flight v.flights key ≡ Some (shown_message m) → receiver_of (shown_message m) ≡ to
-    → AllKeepWays sets v w → KeepsUsed w.directory → BringsAbout sets v (arrival key (shown_message m) to (shown sets v)) e w → MakesStep (geometry sets ways) v (Deliver key) e w
-arrives sets ways key v m to e w here goes keep used about = record {
+    → AllKeepWays sets v w → AllKeepLogs v w → KeepsUsed w.directory → BringsAbout sets v (arrival key (shown_message m) to (shown sets v)) e w → MakesStep (geometry sets ways) v (Deliver key) e w
+arrives sets ways key v m to e w here goes keep logs used about = record {
   may = tt {0};
   made = subst (λ o. BringsAbout sets v (delivery key o (shown sets v)) e w) (sym here)
       (subst (λ o. BringsAbout sets v (arrival key (shown_message m) o (shown sets v)) e w) (sym goes) about);
   ways = keep;
+  logs = logs;
   kept = used;
 }
 
@@ -43,12 +44,12 @@ goes_to o m to here goes = same_Some (receiver_of m) to (sym (ap (option_map rec
 
 -- no message arrives under a key that has none
 pub arrives_none : (sets ways key : ℕ) (v : State) → IsSound sets ways v → in_flight v.flights key ≡ None → MakesStep (geometry sets ways) v (Deliver key) None v
-arrives_none sets ways key v sound none = record { may = tt {0}; made = subst (λ o. BringsAbout sets v (delivery key o (shown sets v)) None v) (sym none) (nothing sets v); ways = seats_stay sets v v refl; kept = sound.kept }
+arrives_none sets ways key v sound none = record { may = tt {0}; made = subst (λ o. BringsAbout sets v (delivery key o (shown sets v)) None v) (sym none) (nothing sets v); ways = seats_stay sets v v refl; logs = logs_stay v v refl; kept = sound.kept }
 
 -- nor one for a number that is no hart's
 pub arrives_nowhere : (sets ways key i : ℕ) (v : State) (m : Message) → IsSound sets ways v → in_flight v.flights key ≡ Some (shown_message m) → receiver_of (shown_message m) ≡ Some i → length v.seats ≤ i
     → MakesStep (geometry sets ways) v (Deliver key) None v
-arrives_nowhere sets ways key i v m sound here goes past = arrives sets ways key v m (Some i) None v here goes (seats_stay sets v v refl) sound.kept (of_none sets i v _ past)
+arrives_nowhere sets ways key i v m sound here goes past = arrives sets ways key v m (Some i) None v here goes (seats_stay sets v v refl) (logs_stay v v refl) sound.kept (of_none sets i v _ past)
 
 -- what a hart made of a message, as its row has it
 abbrev pub AnswersAs : ℕ → Message → Seat → Seat → Reply → Type 0
@@ -78,6 +79,6 @@ arrives_at_hart sets ways key i v w old new m r sound a output stamps here goes 
         (record { acts = a; hart = ap (λ o. shown_hart sets o new.hart) output; stamps = stamps; left = put_at key None (mail_of v.flights); leaves = left_without key v.flights; sends = sends })
 
     made : MakesStep (geometry sets ways) v (Deliver key) r.entry w
-    made = arrives sets ways key v m (Some i) r.entry w here goes (others_stay sets i v w old new a keeps) (subst KeepsUsed (sym a.directory) sound.kept)
+    made = arrives sets ways key v m (Some i) r.entry w here goes (others_stay sets i v w old new a keeps) (other_logs_stay i v w old new a) (subst KeepsUsed (sym a.directory) sound.kept)
         (of_hart sets i v _ r.entry w a.number
         (subst (λ t. BringsAbout sets v (hart_change i t (record (shown sets v) { net = base })) r.entry w) (sym row) about))

@@ -5,7 +5,8 @@ use Rattle.words.specs.declared.entry.Entry.{Entry}
 use Rattle.words.specs.declared.entry.Step.{Step}
 use Rattle.flat.specs.State.{Setting}
 use Rattle.flat.proofs.Maps.{one_number, two_numbers}
-use Rattle.hart.specs.Parts.{Parts, StaysPut}
+use Rattle.hart.specs.Parts.{Parts}
+use Rattle.hart.specs.Staying.{StaysPut}
 use Rattle.protocol.specs.Machine.{Steps}
 use Rattle.directory.specs.Blocks.{KeepsUsed}
 use Rattle.isolation.proofs.Belongs.Belonging.{belongs_next}
@@ -15,7 +16,7 @@ use Rattle.machine.proofs.Acting.{Acts, seat_before, count_after, setting_after}
 
 -- a hart at its place stays there
 stays_seated : (s : Setting) (i : ℕ) (old new : Parts) → StaysPut old new → IsSeated s i old → IsSeated s i new
-stays_seated s i old new p at = record { index = p.index ∙ at.index; harts = p.harts ∙ at.harts; size = p.size ∙ at.size; log = p.log ∙ at.log }
+stays_seated s i old new p at = record { index = p.index ∙ at.index; harts = p.harts ∙ at.harts; size = p.size ∙ at.size; log = p.log.base ∙ at.log }
 
 pub one_seat : (a b : Seat) → Some a ≡ Some b → a ≡ b
 one_seat a b e = grind arith

@@ -24,7 +24,7 @@ use Rattle.machine.proofs.Acting.{Acts, seat_before, hart_before, harts_after, c
 use Rattle.machine.proofs.Made.{nothing, steps_of}
 use Rattle.machine.proofs.Sending.{all_left}
 use Rattle.machine.proofs.Sound.{still_sound}
-use Rattle.machine.proofs.Staying.{seats_stay, others_stay}
+use Rattle.machine.proofs.Staying.{seats_stay, others_stay, logs_stay, other_logs_stay}
 
 -- Numbers of harts
 
@@ -104,11 +104,11 @@ evicts sets ways i b v w old new r sound a output stamps keeps does sends =
     let t : HartResult = replied sets old.output new.hart r in
     let about = row_does sets i (evict_row i b (hart_at sets v.seats i)) t v w old new (evict_row_of sets ways i b v w old new (Some r) sound a does)
     (record { acts = a; hart = ap (λ o. shown_hart sets o new.hart) output; stamps = stamps; left = mail_of v.flights; leaves = all_left v.flights; sends = sends }) in
-    let made : MakesStep (geometry sets ways) v (Evict i b) r.entry w = record { may = tt {0}; made = about; ways = others_stay sets i v w old new a keeps; kept = subst KeepsUsed (sym a.directory) sound.kept } in
+    let made : MakesStep (geometry sets ways) v (Evict i b) r.entry w = record { may = tt {0}; made = about; ways = others_stay sets i v w old new a keeps; logs = other_logs_stay i v w old new a; kept = subst KeepsUsed (sym a.directory) sound.kept } in
     (made, still_sound sets ways i v w old new (Evict i b) r.entry sound a (steps_of (geometry sets ways) v (Evict i b) r.entry w made))
 
 -- or that isn't enabled
 pub evicts_nothing : (sets ways i b : ℕ) (v w : State) (old new : Seat) → IsSound sets ways v → Acts i v w old new → EvictsAs sets b old new None
     → MakesStep (geometry sets ways) v (Evict i b) None v
 evicts_nothing sets ways i b v w old new sound a does =
-    record { may = tt {0}; made = row_rests sets i (evict_row i b (hart_at sets v.seats i)) v (evict_row_of sets ways i b v w old new None sound a does) a.number; ways = seats_stay sets v v refl; kept = sound.kept }
+    record { may = tt {0}; made = row_rests sets i (evict_row i b (hart_at sets v.seats i)) v (evict_row_of sets ways i b v w old new None sound a does) a.number; ways = seats_stay sets v v refl; logs = logs_stay v v refl; kept = sound.kept }

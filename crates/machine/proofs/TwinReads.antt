@@ -1,9 +1,14 @@
 -- What is read of machines that no step tells apart is the same.
-use Rattle.std.proofs.Common.{◌≡◌, ◌≤◌, ◌+◌, ◌++◌, ◌∙◌, ℕ, Bool, Option, None, List, [], ◌∷◌, get_or, length, map, arith, refl, sym, ap, subst}
+use Rattle.std.proofs.Common.{◌≡◌, ◌≤◌, ◌+◌, ◌-◌, ◌++◌, ◌∙◌, ℕ, Bool, cond, Option, Some, None, List, [], ◌∷◌, get_or, length, map, arith, refl, sym, ap, subst}
+use Rattle.std.specs.Prelude.{slice_get}
 use Rattle.std.specs.List.{flat_map}
+use Rattle.std.specs.Option.{option_map}
 use Rattle.std.proofs.Math.Path.{fun_ext}
 use Rattle.std.proofs.lemmas.List.{length-map}
+use Rattle.std.proofs.lemmas.Option.{slice_get_within}
 use Rattle.words.specs.declared.entry.Step.{Step}
+use Rattle.undo_log.specs.Bytes.{word_at}
+use Rattle.flat.specs.State.{Setting}
 use Rattle.cache.specs.declared.line.Line.{Line}
 use Rattle.protocol.specs.Caches.{Geometry}
 use Rattle.protocol.specs.Directory.{DirEntry}
@@ -13,10 +18,12 @@ use Rattle.protocol.specs.Values.{raw, peek, view}
 use Rattle.protocol.proofs.Keys.{same_raw, same_peek, same_view}
 use Rattle.directory.specs.declared.entry.DirEntry.{DirEntry as CodedEntry}
 use Rattle.directory.specs.Entries.{shown_entry}
-use Rattle.machine.specs.States.{State, shown}
+use Rattle.machine.specs.Reads.{is_in_logs, hart_of_log, logged_word, log_word}
+use Rattle.machine.specs.States.{Seat, State, setting_of, shown}
 use Rattle.machine.specs.Twins.{AreTwins}
 use Rattle.machine.specs.Watch.{applies, IsEnabledByRule}
 use Rattle.machine.proofs.Answered.{all_below}
+use Rattle.machine.proofs.Places.{none_past}
 use Rattle.machine.proofs.Twins.{victims_are}
 
 -- an entry with its block
@@ -43,6 +50,7 @@ module _ (g : Geometry) (v w : State) (twins : AreTwins g v w) where
               record { placed = stands.placed; alone = λ other beside apart there. stands.alone other beside apart (ap (λ (ways : List (Option Line)). get_or ways other None) (alike.ways set) ∙ there) };
           ways = λ set. sym (alike.ways set);
         };
+    logs = λ i s t at is. let alike = twins.logs i t s is at in record { base = sym alike.base; bytes = sym alike.bytes };
   }
 
   -- the directory's entries
@@ -55,6 +63,27 @@ module _ (g : Geometry) (v w : State) (twins : AreTwins g v w) where
   -- the same steps are enabled
   pub enabled_once : (step : Step) (a b : Bool) → IsEnabledByRule g v step a → IsEnabledByRule g w step b → a ≡ b
   enabled_once step a b one other = one.1 ∙ ((λ k. applies (victims_are g v w twins step k) step (twins.machine k)) ∙ sym other.1)
+
+  -- the same words of the undo logs
+  words_are : (a i : ℕ) (o p : Option Seat) → slice_get v.seats i ≡ o → slice_get w.seats i ≡ p → option_map (logged_word a) o ≡ option_map (logged_word a) p
+  words_are a i None None at is = refl
+  words_are a i None (Some t) at is =
+      let count : length v.seats ≡ length w.seats = ap (λ (m : Machine). m.setting.count) twins.machine in
+      absurd (omega (arith, none_past v.seats i at, slice_get_within w.seats i t is, count))
+  words_are a i (Some s) None at is =
+      let count : length v.seats ≡ length w.seats = ap (λ (m : Machine). m.setting.count) twins.machine in
+      absurd (omega (arith, none_past w.seats i is, slice_get_within v.seats i s at, count))
+  words_are a i (Some s) (Some t) at is =
+      let alike = twins.logs i s t at is in
+      λ k. Some (word_at (alike.bytes k) (a - alike.base k))
+
+  pub log_word_is : (a : ℕ) → log_word v a ≡ log_word w a
+  log_word_is a =
+      let setting : setting_of v ≡ setting_of w = ap (λ (m : Machine). m.setting) twins.machine in
+      let i : ℕ = hart_of_log (setting_of v) a in
+      let words : option_map (logged_word a) (slice_get v.seats i) ≡ option_map (logged_word a) (slice_get w.seats (hart_of_log (setting_of w) a)) =
+      words_are a i (slice_get v.seats i) (slice_get w.seats i) refl refl ∙ ap (λ (s : Setting). option_map (logged_word a) (slice_get w.seats (hart_of_log s a))) setting in
+      λ k. cond (is_in_logs (setting k) a) (words k) None
 
   -- bytes: the messages of both lie below the keys of either
   below : LiesBelow (length v.flights) (shown g.sets w).net

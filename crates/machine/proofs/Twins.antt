@@ -1,10 +1,11 @@
 -- A step has one outcome: it leads from twins to twins.
-use Rattle.std.proofs.Common.{◌≡◌, ◌<◌, ◌%◌, ◌∙◌, ℕ, true≢false, Option, Some, None, List, [], ◌∷◌, length, map, inl, inr, arith, refl, sym, ap, subst}
+use Rattle.std.proofs.Common.{◌≡◌, ◌<◌, ◌+◌, ◌-◌, ◌*◌, ◌%◌, ◌∙◌, ℕ, true≢false, Option, Some, None, List, [], ◌∷◌, length, map, inl, inr, arith, refl, sym, ap, subst}
 use Rattle.std.specs.Prelude.{slice_get, is_some, IsSome}
 use Rattle.std.specs.Option.{option_map, option_map_or, option_and_then}
 use Rattle.std.proofs.Math.Path.{fun_ext}
 use Rattle.std.proofs.lemmas.Bool.{cases_lt}
 use Rattle.std.proofs.lemmas.Option.{same_Some, slice_get_within}
+use Rattle.words.specs.Limits.{log_bytes}
 use Rattle.words.specs.declared.entry.Entry.{Entry}
 use Rattle.words.specs.declared.entry.Step.{Step}
 use Rattle.words.specs.declared.entry.Step.TheVariants.{Core, Evict, Deliver}
@@ -20,11 +21,15 @@ use Rattle.protocol.specs.Machine.{Machine, Change, change_of}
 use Rattle.protocol.proofs.Settings.{setting_stays}
 use Rattle.directory.specs.Entries.{shown_entry}
 use Rattle.directory.proofs.OneKept.{one_kept}
+use Rattle.undo_log.specs.Value.{Log}
+use Rattle.undo_log.specs.Log.{empty_log}
 use Rattle.cache.specs.Ways.{victim_in}
 use Rattle.cache.specs.Sets.{IsSound, ways_at, victim_at}
 use Rattle.hart.specs.Places.{IsLaidOut, AreLaidAlike}
 use Rattle.hart.specs.Rows.{block_of, victim_of}
+use Rattle.hart.specs.Staying.{AreLoggedAlike}
 use Rattle.hart.specs.Shown.{shown_hart}
+use Rattle.hart.proofs.Bytes.{logged_alike_on}
 use Rattle.hart.proofs.Layouts.{laid_alike_on, laid_sound, laid_empty}
 use Rattle.machine.specs.Mail.{Mail, IsLowestFree, SendsOn, IsLeft, mail_of, number_after, without_numbers}
 use Rattle.machine.specs.Making.{MakesStep, change_by, victims}
@@ -132,13 +137,34 @@ module _ (g : Geometry) (v w : State) (twins : AreTwins g v w) where
     as_many : length u.seats ≡ length v.seats
     as_many = ap (λ s. s.count) (setting_stays g (shown g.sets v) (shown g.sets u) step d (steps_of g v step d u one))
 
-    caches_are : (i : ℕ) (s t : Seat) → slice_get u.seats i ≡ Some s → slice_get x.seats i ≡ Some t → AreLaidAlike g.sets s.hart.cache t.hart.cache
-    caches_are i s t at is =
+    -- what was there before of a seat
+    was : (i : ℕ) (s : Seat) → slice_get u.seats i ≡ Some s → (p : Seat) × (slice_get v.seats i ≡ Some p) × ((q : Seat) × (slice_get w.seats i ≡ Some q))
+    was i s at =
         let below : i < length u.seats = slice_get_within u.seats i s at in
         let p = seat_there v.seats i (omega (arith, below, as_many)) in
-        let q = seat_there w.seats i (omega (arith, below, as_many, count)) in
-        laid_alike_on g.sets p.0.hart.cache q.0.hart.cache s.hart.cache t.hart.cache (twins.caches i p.0 q.0 p.1 q.1) (one.ways i p.0 s p.1 at) (other.ways i q.0 t q.1 is)
-        (λ c. ap (λ (h : Hart). h.lines c) (sym (hart_is g.sets i u.seats s at) ∙ (ap (λ (m : Machine). m.harts i) machine_is ∙ hart_is g.sets i x.seats t is)))
+        (p.0, p.1, seat_there w.seats i (omega (arith, below, as_many, count)))
+
+    -- two seats of twins are one hart of the protocol
+    one_hart : (a b : State) → shown g.sets a ≡ shown g.sets b → (i : ℕ) (s t : Seat) → slice_get a.seats i ≡ Some s → slice_get b.seats i ≡ Some t
+        → shown_hart g.sets s.output s.hart ≡ shown_hart g.sets t.output t.hart
+    one_hart a b is i s t at at_too = sym (hart_is g.sets i a.seats s at) ∙ (ap (λ (m : Machine). m.harts i) is ∙ hart_is g.sets i b.seats t at_too)
+
+    caches_are : (i : ℕ) (s t : Seat) → slice_get u.seats i ≡ Some s → slice_get x.seats i ≡ Some t → AreLaidAlike g.sets s.hart.cache t.hart.cache
+    caches_are i s t at is =
+        let b = was i s at in
+        let p : Seat = b.0 in
+        let q : Seat = b.2.0 in
+        laid_alike_on g.sets p.hart.cache q.hart.cache s.hart.cache t.hart.cache (twins.caches i p q b.1 b.2.1) (one.ways i p s b.1 at) (other.ways i q t b.2.1 is)
+        (λ c. ap (λ (h : Hart). h.lines c) (one_hart u x machine_is i s t at is))
+
+    logs_are : (i : ℕ) (s t : Seat) → slice_get u.seats i ≡ Some s → slice_get x.seats i ≡ Some t → AreLoggedAlike s.hart.tx.log t.hart.tx.log
+    logs_are i s t at is =
+        let b = was i s at in
+        let p : Seat = b.0 in
+        let q : Seat = b.2.0 in
+        logged_alike_on p.hart.tx q.hart.tx s.hart.tx t.hart.tx (twins.logs i p q b.1 b.2.1) (one.logs i p s b.1 at) (other.logs i q t b.2.1 is)
+        (ap (λ (h : Hart). h.tx) (one_hart v w twins.machine i p q b.1 b.2.1))
+        (ap (λ (h : Hart). h.tx) (one_hart u x machine_is i s t at is))
 
     pub twins_on : AreTwins g u x
     twins_on = record {
@@ -147,6 +173,7 @@ module _ (g : Geometry) (v w : State) (twins : AreTwins g v w) where
       sent = sent_is.1;
       kept = one_kept u.directory x.directory (ap (λ (m : Machine). m.entries) machine_is) one.kept other.kept;
       caches = caches_are;
+      logs = logs_are;
     }
 
 -- machines of which no step was made
@@ -160,6 +187,9 @@ twins_first g v w same one other = record {
     laid = subst (IsLaidOut g.sets) (sym (one.caches i s at)) (laid_empty g.sets g.sets g.ways);
     ways = λ set. ap (λ cache. ways_at cache set) (one.caches i s at ∙ sym (other.caches i t is));
   };
+  logs = λ i s t at is.
+      let log : s.hart.tx.log ≡ t.hart.tx.log = one.logs i s at ∙ (ap (λ (m : Machine). empty_log (m.setting.size - log_bytes * (i + 1))) same ∙ sym (other.logs i t is)) in
+      record { base = ap (λ (l : Log). l.base) log; bytes = ap (λ (l : Log). l.bytes) log };
 }
 
 -- a machine whose caches keep what caches keep is its own twin
@@ -173,4 +203,7 @@ own_twin g v sound = record {
     laid = laid_sound g.sets g.ways s.hart.cache (sound i s at);
     ways = λ set. ap (λ (x : Seat). ways_at x.hart.cache set) (same_Some s t (sym at ∙ is));
   };
+  logs = λ i s t at is.
+      let seat : s ≡ t = same_Some s t (sym at ∙ is) in
+      record { base = ap (λ (x : Seat). x.hart.tx.log.base) seat; bytes = ap (λ (x : Seat). x.hart.tx.log.bytes) seat };
 }

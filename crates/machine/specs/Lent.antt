@@ -4,8 +4,9 @@ use Rattle.std.specs.Option.{option_map, option_map_or}
 use Rattle.words.specs.declared.entry.Entry.{Entry}
 use Rattle.table.specs.Program.{Segment}
 use Rattle.hart.specs.declared.reply.Local.TheVariants.{Retired}
-use Rattle.hart.specs.Parts.{Parts, StaysPut}
+use Rattle.hart.specs.Parts.{Parts}
 use Rattle.hart.specs.Places.{KeepsWays}
+use Rattle.hart.specs.Staying.{StaysPut}
 use Rattle.hart.specs.Rows.{setting_of}
 use Rattle.hart.specs.Locals.{FollowsAlone}
 use Rattle.machine.specs.States.{State}

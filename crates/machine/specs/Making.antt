@@ -1,5 +1,5 @@
--- A step of the machine: one of the protocol, in which the cache's rules say which line makes way and where lines stand, each message that is sent has the next number, and the
--- directory keeps just the entries in use.
+-- A step of the machine: one of the protocol, in which the cache's rules say which line makes way and where lines stand, the bytes of undo logs change by their records, each message
+-- that is sent has the next number, and the directory keeps just the entries in use.
 use Rattle.std.specs.Prelude.{ℕ, ◌≡◌, Option, Some, None, slice_get}
 use Rattle.std.specs.Option.{option_and_then}
 use Rattle.words.specs.declared.entry.Entry.{Entry}
@@ -10,6 +10,7 @@ use Rattle.protocol.specs.Machine.{Change, MayNameIn, change_of}
 use Rattle.directory.specs.Blocks.{KeepsUsed}
 use Rattle.hart.specs.Rows.{victim_of}
 use Rattle.hart.specs.Places.{KeepsWays}
+use Rattle.hart.specs.Staying.{KeepsLog}
 use Rattle.machine.specs.Mail.{Mail, SendsOn, IsLeft, in_flight, mail_of}
 use Rattle.machine.specs.States.{Seat, State, shown}
 
@@ -35,9 +36,14 @@ pub record BringsAbout (sets : ℕ) (v : State) (c : Change) (e : Option Entry) 
 abbrev pub AllKeepWays : ℕ → State → State → Type 0
 AllKeepWays sets v w = (i : ℕ) (old new : Seat) → slice_get v.seats i ≡ Some old → slice_get w.seats i ≡ Some new → KeepsWays sets old.hart.cache new.hart.cache
 
+-- and each hart's undo log keeps its bytes but for those of records that come
+abbrev pub AllKeepLogs : State → State → Type 0
+AllKeepLogs v w = (i : ℕ) (old new : Seat) → slice_get v.seats i ≡ Some old → slice_get w.seats i ≡ Some new → KeepsLog old.hart.tx new.hart.tx
+
 -- a step is made, and gives this entry, or none
 pub record MakesStep (g : Geometry) (v : State) (step : Step) (e : Option Entry) (w : State) : Type 0 where
   pub may : MayNameIn g (shown g.sets v) step (victims g.sets v step)
   pub made : BringsAbout g.sets v (change_by g.sets v step) e w
   pub ways : AllKeepWays g.sets v w
+  pub logs : AllKeepLogs v w
   pub kept : KeepsUsed w.directory

@@ -1,5 +1,6 @@
-ghost use Rattle.std.specs.Prelude.{◌≡◌, ◌<◌, ◌≤◌, ◌+◌, ◌*◌, ◌^◌, ℕ, Some, None, Err, IfOk, MatchResult, cond, nat_lt, length, replicate, vec_len, slice_get};
-ghost use Rattle.words.specs.Limits.{block_bytes, most_harts};
+ghost use Rattle.std.specs.Prelude.{◌≡◌, ◌<◌, ◌≤◌, ◌+◌, ◌-◌, ◌*◌, ◌^◌, ℕ, Some, None, Err, IfOk, MatchResult, cond, nat_lt, length, replicate, vec_len, slice_get};
+ghost use Rattle.words.specs.Limits.{block_bytes, log_bytes, most_harts};
+ghost use Rattle.undo_log.specs.Log.{empty_log};
 ghost use Rattle.flat.specs.State.{Setting};
 ghost use Rattle.flat.specs.Boots.{boot_fault, booted};
 ghost use Rattle.flat.specs.declared.boot_fault.BootFault.{BootFault};
@@ -68,6 +69,7 @@ impl<const SETS: usize, const WAYS: usize> Seat<SETS, WAYS> {
         ensures start { (s : Setting) → s.size ≡ size → s.count ≡ harts → shown_hart SETS result.output result.hart ≡ (start s entry).harts i }
         ensures seated { (s : Setting) → s.size ≡ size → s.count ≡ harts → IsSeated s i result.hart }
         ensures cache { result.hart.cache ≡ replicate SETS (replicate WAYS None) }
+        ensures log { result.hart.tx.log ≡ empty_log (size - log_bytes * (i + 1)) }
     {
         Seat {
             hart: Hart::new(HartId::new(i as u8), harts, size, entry),
@@ -96,6 +98,7 @@ impl<const SETS: usize, const WAYS: usize> Machine<SETS, WAYS> {
         ensures harts { IfOk result (λ v. (s : Setting) (j : ℕ) → s.size ≡ size → s.count ≡ harts → hart_at SETS v.items j ≡ (start s entry).harts j) }
         ensures seated { IfOk result (λ v. (s : Setting) (j : ℕ) (x : SeatValue) → s.size ≡ size → s.count ≡ harts → slice_get v.items j ≡ Some x → IsSeated s j x.hart) }
         ensures caches { IfOk result (λ v. (j : ℕ) (x : SeatValue) → slice_get v.items j ≡ Some x → x.hart.cache ≡ replicate SETS (replicate WAYS None)) }
+        ensures logs { IfOk result (λ v. (j : ℕ) (x : SeatValue) → slice_get v.items j ≡ Some x → x.hart.tx.log ≡ empty_log (size - log_bytes * (j + 1))) }
     {
         let mut seats = Vec::with_capacity(alloc, harts)?;
         for i in 0..harts {

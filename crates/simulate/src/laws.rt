@@ -95,8 +95,7 @@ pub fn reports_are_one()
         (other ≡ status) × ((texts : Texts) × TakeAll before after texts × TakeAll earlier later texts) }
 {}
 
-/// Two sessions of one request, one file and one input tell one text and ask for as many lines, where both come to their end with status 0, no memory is wanting, and no
-/// line asks for a word of the undo logs.
+/// Two sessions of one request, one file and one input tell one text and ask for as many lines, where both come to their end with status 0 and no memory is wanting.
 pub fn sessions_by_hand_are_one<I: LineInput>()
     ensures { (g : Geometry) (bytes : I → Option (List ℕ)) (setup : Setup) (file prompt lines : List ℕ) (i j k l : I)
         (told_before told_after asked_before asked_after told_earlier told_later asked_earlier asked_later : SinkState) →

@@ -5,6 +5,7 @@ use Rattle.cache.specs.Line.{put_into}
 use Rattle.cache.specs.Sets.{line_at}
 use Rattle.hart.specs.Parts.{Parts}
 use Rattle.hart.specs.Shown.{shown_line, shown_hart, lines_of}
+use Rattle.hart.proofs.Bytes.{untouched}
 use Rattle.hart.proofs.Views.{parts}
 use Rattle.hart.proofs.Stores.{stores-line, loads-line, absent-before}
 use Rattle.hart.specs.Places.{KeepsWays}
@@ -36,7 +37,7 @@ returns-clause-stays g c = record {
   index = ap (λ (p : Parts). p.index) c.self.view_is;
   harts = ap (λ (p : Parts). p.harts) c.self.view_is;
   size = ap (λ (p : Parts). p.size) c.self.view_is;
-  log = ap (λ (p : Parts). p.tx.log.base) c.self.view_is;
+  log = untouched c.args.self.now.tx c.self.inside.tx (ap (λ (p : Parts). p.tx) c.self.view_is);
 }
 
 -- a load

@@ -53,6 +53,23 @@ returns-in-Some-clause-steps g c =
     subst (λ m. MakesStep (geometry g.row.SETS g.row.WAYS) m (Core c.args.id) c.in-Some.made.entry (after g c)) c.self.view_is
     (subst (λ n. MakesStep (geometry g.row.SETS g.row.WAYS) (before g c) (Core n) c.in-Some.made.entry (after g c)) c.index-i.ensures.value (makes g c).0)
 
+-- Memory ran out, and the seat is what it was
+
+pub invariant_of-self-in_err-core_step : goal.invariant_of-self-in_err-core_step
+invariant_of-self-in_err-core_step g c =
+    let v : State = record { program = c.self.inside.program; seats = c.self.inside.seats.items; directory = c.self.inside.directory; flights = c.self.inside.net.slots; sent = c.self.inside.net.next; stamps = c.self.inside.stamps } in
+    let w : State = record v { seats = slice_set v.seats c.index-i.result c.core_step.new.self; flights = c.reserve.new.self.slots; sent = c.reserve.new.self.next } in
+    let acts : Acts c.index-i.result v w c.index_mut.result.now c.core_step.new.self = record {
+      number = omega (arith, c.len.ensures, c.if-i-len.false);
+      before = c.index_mut.ensures.value;
+      after = refl;
+      program = refl;
+      directory = refl;
+      stays = c.core_step.ensures.stays;
+    } in
+    let rests : w ≡ v = rests_still c.index-i.result v w c.index_mut.result.now c.core_step.new.self acts c.in_err-core_step.ensures.err c.reserve.ensures.same c.reserve.ensures.number refl in
+    subst (IsSound g.row.SETS g.row.WAYS) (sym rests) c.self.invariant
+
 -- No step is enabled
 
 abbrev still : (g : Over) (c : goal.In-None g) → State

@@ -1,5 +1,6 @@
-use Rattle.std.proofs.Common.{◌*◌, length, refl, sym, ap, subst, ◌∙◌}
-use Rattle.words.specs.Limits.{block_bytes}
+use Rattle.std.proofs.Common.{◌+◌, ◌-◌, ◌*◌, length, refl, sym, ap, subst, ◌∙◌}
+use Rattle.words.specs.Limits.{block_bytes, log_bytes}
+use Rattle.undo_log.specs.Log.{empty_log}
 use Rattle.table.specs.Program.{image_at}
 use Rattle.flat.specs.State.{Setting}
 use Rattle.flat.specs.Boots.{booted}
@@ -62,3 +63,14 @@ returns-clause-start g c = begins g.row.SETS c.args.program c.args.harts c.args.
 
 pub returns-clause-belongs : goal.returns-clause-belongs
 returns-clause-belongs g c = belongs g c.before
+
+pub returns-clause-unused : goal.returns-clause-unused
+returns-clause-unused g c =
+    let b : Begins g.row.SETS c.before.args.program c.before.args.harts c.before.args.size (made g c.before) = is_first g c.before in
+    record {
+      sent = c.before.new-3.ensures.first;
+      flights = c.before.new-3.ensures.empty;
+      kept = c.before.new-2.ensures.entries;
+      caches = c.before.in_ok-seats.ensures.caches;
+      logs = λ j x at. c.before.in_ok-seats.ensures.logs j x at ∙ ap (λ n. empty_log (n - log_bytes * (j + 1))) (sym b.blocks);
+    }

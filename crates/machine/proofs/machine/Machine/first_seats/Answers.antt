@@ -15,7 +15,7 @@ loop-i-preserved g c =
     let before : List Seat = c.loop-i.seats.items in
     let x : Seat = c.first.result in
     let one : IsFirst g.row.SETS g.row.WAYS c.args.size c.args.harts c.args.entry (length before) x =
-    subst (λ n. IsFirst g.row.SETS g.row.WAYS c.args.size c.args.harts c.args.entry n x) (sym c.loop-i.invariant.0) (record { hart = c.first.ensures.start; seated = c.first.ensures.seated; cache = c.first.ensures.cache }) in (
+    subst (λ n. IsFirst g.row.SETS g.row.WAYS c.args.size c.args.harts c.args.entry n x) (sym c.loop-i.invariant.0) (record { hart = c.first.ensures.start; seated = c.first.ensures.seated; cache = c.first.ensures.cache; log = c.first.ensures.log }) in (
       ap length c.in_ok-push.ensures.items ∙ length-append before (x ∷ []) ∙ ap (λ n. n + 1) c.loop-i.invariant.0,
       subst (AreFirst g.row.SETS g.row.WAYS c.args.size c.args.harts c.args.entry) (sym c.in_ok-push.ensures.items) (first_more g.row.SETS g.row.WAYS c.args.size c.args.harts c.args.entry before x c.loop-i.invariant.1 one),
     )
@@ -35,3 +35,6 @@ returns-clause-seated g c = λ s j x size count at. (c.loop-i.invariant.1 j x at
 
 pub returns-clause-caches : goal.returns-clause-caches
 returns-clause-caches g c = λ j x at. (c.loop-i.invariant.1 j x at).cache
+
+pub returns-clause-logs : goal.returns-clause-logs
+returns-clause-logs g c = λ j x at. (c.loop-i.invariant.1 j x at).log
