@@ -8,6 +8,7 @@ mod Naming
 pub mod Making
 pub mod Going
 mod Ready
+mod Evicting
 pub mod Seeing
 pub mod PlainTurns
 pub mod Lengths

@@ -50,13 +50,16 @@ impl Chance {
         }
     }
 
-    /// A number below a bound, or 0 if that is 0.
+    /// A number below a bound, or 0 if that is 0. Nothing is drawn where there is one such number at most.
     #[inline(always)]
     fn below(&mut self, bound: usize) -> usize
         ensures { 0 < bound → result < bound }
     {
+        if bound <= 1 {
+            return 0;
+        }
         let word = self.generator.next_word() as usize;
-        if bound == 0 { 0 } else { word % bound }
+        word % bound
     }
 
     /// A hart whose core has a step to make.
@@ -69,7 +72,28 @@ impl Chance {
         ensures none { IfNone result ((i : ℕ) → i < (setting_of machine.now).count → IsEnabled (geometry SETS WAYS) (shown SETS machine.now) (Core i) false) }
     {
         machine.keeps();
-        for _try in 0..TRIES {
+        let harts = machine.harts();
+        let hart = HartId::new((self.below(harts) % HARTS) as u8);
+        if is_ready(machine, hart) {
+            return Some(hart);
+        }
+        if harts == 1 {
+            return None;
+        }
+        self.draw_hart_again(machine)
+    }
+
+    /// The same, behind a hart that was drawn and has none.
+    #[inline(never)]
+    fn draw_hart_again<const SETS: usize, const WAYS: usize>(
+        &mut self,
+        machine: &Machine<SETS, WAYS>,
+    ) -> Option<HartId>
+        ensures some { IfSome result (λ hart. IsAble (geometry SETS WAYS) machine.now (Core hart)) }
+        ensures none { IfNone result ((i : ℕ) → i < (setting_of machine.now).count → IsEnabled (geometry SETS WAYS) (shown SETS machine.now) (Core i) false) }
+    {
+        machine.keeps();
+        for _try in 1..TRIES {
             let hart = HartId::new((self.below(machine.harts()) % HARTS) as u8);
             if is_ready(machine, hart) {
                 return Some(hart);
@@ -159,62 +183,74 @@ impl Chance {
         }
     }
 
-    /// A core's step, or a message's arrival, which are drawn by their weights. If nothing of what is drawn is enabled, it is the other.
+    /// The same, in a function of its own, where it is rare.
+    #[inline(never)]
+    fn draw_last_arrival<const SETS: usize, const WAYS: usize>(
+        &mut self,
+        machine: &Machine<SETS, WAYS>,
+    ) -> Option<Picked>
+        ensures some { IfSome result (λ p. IsPicked (geometry SETS WAYS) machine.now p.choice p.step) }
+        ensures none { IfNone result ((key : ℕ) → IsEnabled (geometry SETS WAYS) (shown SETS machine.now) (Deliver key) false) }
+    {
+        self.draw_arrival(machine)
+    }
+
+    /// A core's step, in a function of its own, where it is rare.
+    #[inline(never)]
+    fn draw_last_core<const SETS: usize, const WAYS: usize>(
+        &mut self,
+        machine: &Machine<SETS, WAYS>,
+    ) -> Option<Picked>
+        ensures some { IfSome result (λ p. IsPicked (geometry SETS WAYS) machine.now p.choice p.step) }
+        ensures none { IfNone result ((i : ℕ) → i < (setting_of machine.now).count → IsEnabled (geometry SETS WAYS) (shown SETS machine.now) (Core i) false) }
+    {
+        self.draw_core(machine)
+    }
+
+    /// A core's step, or a message's arrival: the first, if a number is below the weight of cores. If nothing of that is enabled, it is the other.
     #[inline(always)]
     fn draw_step<const SETS: usize, const WAYS: usize>(
+        &mut self,
+        machine: &Machine<SETS, WAYS>,
+        number: usize,
+    ) -> Option<Picked>
+        ensures some { IfSome result (λ p. IsPicked (geometry SETS WAYS) machine.now p.choice p.step) }
+        ensures none { IfNone result (IsAtRest (geometry SETS WAYS) machine.now) }
+    {
+        if number < self.mix.cores as usize || machine.in_flight() == 0 {
+            match self.draw_core(machine) {
+                Some(picked) => Some(picked),
+                None => self.draw_last_arrival(machine),
+            }
+        } else {
+            match self.draw_arrival(machine) {
+                Some(picked) => Some(picked),
+                None => self.draw_last_core(machine),
+            }
+        }
+    }
+
+    /// An eviction, where a line can be given up, unless it is at rest. It goes through the blocks in use from one on that is drawn, and through the harts
+    /// from one on. Where no line can be given up, it is a core's step or an arrival.
+    #[inline(never)]
+    fn draw_eviction<const SETS: usize, const WAYS: usize>(
         &mut self,
         machine: &Machine<SETS, WAYS>,
     ) -> Option<Picked>
         ensures some { IfSome result (λ p. IsPicked (geometry SETS WAYS) machine.now p.choice p.step) }
         ensures none { IfNone result (IsAtRest (geometry SETS WAYS) machine.now) }
     {
-        let (cores, arrivals) = (self.mix.cores as usize, self.mix.arrivals as usize);
-        if self.below(cores + arrivals) < cores {
-            match self.draw_core(machine) {
-                Some(picked) => Some(picked),
-                None => self.draw_arrival(machine),
-            }
-        } else {
-            match self.draw_arrival(machine) {
-                Some(picked) => Some(picked),
-                None => self.draw_core(machine),
-            }
-        }
-    }
-
-    /// An eviction, where one is drawn by its weight, and a line can be given up.
-    #[inline(always)]
-    fn draw_eviction<const SETS: usize, const WAYS: usize>(
-        &mut self,
-        machine: &Machine<SETS, WAYS>,
-    ) -> Option<Picked>
-        ensures { IfSome result (λ p. IsPicked (geometry SETS WAYS) machine.now p.choice p.step) }
-    {
-        let evictions = self.mix.evictions as usize;
-        if evictions == 0 {
-            return None;
-        }
-        let others = self.mix.cores as usize + self.mix.arrivals as usize;
-        if self.below(evictions + others) >= evictions {
-            return None;
-        }
-        self.draw_line(machine)
-    }
-
-    /// An eviction, where a line can be given up. It goes through the blocks in use from one on that is drawn, and through the harts from one on.
-    #[inline(never)]
-    fn draw_line<const SETS: usize, const WAYS: usize>(
-        &mut self,
-        machine: &Machine<SETS, WAYS>,
-    ) -> Option<Picked>
-        ensures { IfSome result (λ p. IsPicked (geometry SETS WAYS) machine.now p.choice p.step) }
-    {
+        let number = self.below(self.mix.cores as usize + self.mix.arrivals as usize);
+        let step = self.draw_step(machine, number)?;
         let first = self.below(machine.used());
         let hart = self.below(machine.harts());
-        find_eviction(machine, first, hart)
+        match find_eviction(machine, first, hart) {
+            Some(eviction) => Some(eviction),
+            None => Some(step),
+        }
     }
 
-    /// What comes next. `None` where no core has a step to make, and no message can arrive.
+    /// What comes next, by the weights. `None` where no core has a step to make, and no message can arrive.
     #[inline(always)]
     fn draw<const SETS: usize, const WAYS: usize>(
         &mut self,
@@ -223,11 +259,16 @@ impl Chance {
         ensures some { IfSome result (λ p. IsPicked (geometry SETS WAYS) machine.now p.choice p.step) }
         ensures none { IfNone result (IsAtRest (geometry SETS WAYS) machine.now) }
     {
-        let step = self.draw_step(machine)?;
-        match self.draw_eviction(machine) {
-            Some(eviction) => Some(eviction),
-            None => Some(step),
+        let evictions = self.mix.evictions as usize;
+        if evictions == 0 && machine.in_flight() == 0 {
+            return self.draw_step(machine, 0);
         }
+        let others = self.mix.cores as usize + self.mix.arrivals as usize;
+        let number = self.below(evictions + others);
+        if number < evictions {
+            return self.draw_eviction(machine);
+        }
+        self.draw_step(machine, number - evictions)
     }
 }
 
@@ -239,6 +280,7 @@ impl<const SETS: usize, const WAYS: usize> Chooser<SETS, WAYS> for Chance {
         false
     }
 
+    #[inline(always)]
     fn next(
         &mut self,
         machine: &Machine<SETS, WAYS>,
@@ -295,6 +337,7 @@ impl<const SETS: usize, const WAYS: usize> Chooser<SETS, WAYS> for KeptChance {
         false
     }
 
+    #[inline(always)]
     fn next(
         &mut self,
         machine: &Machine<SETS, WAYS>,

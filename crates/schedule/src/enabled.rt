@@ -186,7 +186,7 @@ fn eviction_of<const SETS: usize, const WAYS: usize>(
     None
 }
 
-/// An eviction of one block by one hart that is enabled.
+/// An eviction of one block by one hart that is enabled: of a shared line always, and of an owned one where no Put of the hart is out.
 fn eviction_by<const SETS: usize, const WAYS: usize>(
     machine: &Machine<SETS, WAYS>,
     block: BlockNo,
@@ -196,8 +196,11 @@ fn eviction_by<const SETS: usize, const WAYS: usize>(
 {
     machine.keeps();
     let _few = id.index();
-    let _line = machine.line(id, block)?;
-    if !machine.is_enabled(Step::Evict(id, block)) {
+    let hart = machine.hart(id)?;
+    let line = machine.line(id, block)?;
+    let is_owned = line.state.is_owned();
+    let has_put = hart.put().is_some();
+    if is_owned && has_put {
         return None;
     }
     Some(Picked {
