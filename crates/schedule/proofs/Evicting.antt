@@ -1,5 +1,5 @@
 -- Which lines a hart can give up, found without a try on a copy of the hart.
-use Rattle.std.proofs.Common.{◌≡◌, ◌<◌, ◌∙◌, ℕ, Bool, true, false, Option, Some, None, refl, sym, ap, arith}
+use Rattle.std.proofs.Common.{◌≡◌, ◌∙◌, ℕ, Bool, true, false, Option, Some, None, refl, sym, ap, arith}
 use Rattle.std.specs.Prelude.{◌&&◌, is_some, nat_lt}
 use Rattle.std.specs.Option.{option_map}
 use Rattle.std.proofs.lemmas.Bool.Decides.{nat_tests}
@@ -8,9 +8,8 @@ use Rattle.words.specs.declared.message.LineState.{LineState}
 use Rattle.words.specs.declared.message.LineState.TheVariants.{Shared, Exclusive, Modified}
 use Rattle.words.specs.LineStates.{is_owned}
 use Rattle.hart.specs.Parts.{Parts}
-use Rattle.hart.specs.Shown.{shown_hart}
 use Rattle.protocol.specs.Lines.{Line}
-use Rattle.protocol.specs.Hart.{Hart, PutOut}
+use Rattle.protocol.specs.Hart.{Hart}
 use Rattle.protocol.specs.Caches.{Geometry}
 use Rattle.protocol.specs.Evict.{evict_by, evict_line, evict_row}
 use Rattle.conflict.specs.Requests.{shown_put}

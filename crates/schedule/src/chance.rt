@@ -1,5 +1,5 @@
 //! Steps that are chosen by chance, by a seed.
-ghost use Rattle.std.specs.Prelude.{◌≡◌, ◌<◌, [], ℕ, Some, None, false, true, IfSome, IfNone};
+ghost use Rattle.std.specs.Prelude.{◌≡◌, ◌<◌, [], ℕ, Some, None, false, true, IfOk, IfSome, IfNone};
 ghost use Rattle.words.specs.declared.entry.Step.TheVariants.{Core, Deliver};
 ghost use Rattle.machine.specs.States.{geometry, setting_of, shown};
 ghost use Rattle.machine.specs.Watch.{IsEnabled};
@@ -30,6 +30,13 @@ pub struct Mix {
     pub cores: u32,
     pub arrivals: u32,
     pub evictions: u32,
+}
+
+/// What was drawn, where it isn't a core's step that can be made.
+#[derive(Clone, Copy)]
+enum Other {
+    Arrival,
+    Eviction,
 }
 
 /// Chooses steps by chance, each among those that are enabled: of the harts whose cores have a step to make, of the messages in flight that aren't held,
@@ -183,55 +190,43 @@ impl Chance {
         }
     }
 
-    /// The same, in a function of its own, where it is rare.
-    #[inline(never)]
-    fn draw_last_arrival<const SETS: usize, const WAYS: usize>(
-        &mut self,
-        machine: &Machine<SETS, WAYS>,
-    ) -> Option<Picked>
-        ensures some { IfSome result (λ p. IsPicked (geometry SETS WAYS) machine.now p.choice p.step) }
-        ensures none { IfNone result ((key : ℕ) → IsEnabled (geometry SETS WAYS) (shown SETS machine.now) (Deliver key) false) }
-    {
-        self.draw_arrival(machine)
-    }
-
-    /// A core's step, in a function of its own, where it is rare.
-    #[inline(never)]
-    fn draw_last_core<const SETS: usize, const WAYS: usize>(
-        &mut self,
-        machine: &Machine<SETS, WAYS>,
-    ) -> Option<Picked>
-        ensures some { IfSome result (λ p. IsPicked (geometry SETS WAYS) machine.now p.choice p.step) }
-        ensures none { IfNone result ((i : ℕ) → i < (setting_of machine.now).count → IsEnabled (geometry SETS WAYS) (shown SETS machine.now) (Core i) false) }
-    {
-        self.draw_core(machine)
-    }
-
-    /// A core's step, or a message's arrival: the first, if a number is below the weight of cores. If nothing of that is enabled, it is the other.
+    /// A message's arrival. If none can arrive, it is a core's step.
     #[inline(always)]
-    fn draw_step<const SETS: usize, const WAYS: usize>(
+    fn draw_arrival_or_core<const SETS: usize, const WAYS: usize>(
         &mut self,
         machine: &Machine<SETS, WAYS>,
-        number: usize,
     ) -> Option<Picked>
         ensures some { IfSome result (λ p. IsPicked (geometry SETS WAYS) machine.now p.choice p.step) }
         ensures none { IfNone result (IsAtRest (geometry SETS WAYS) machine.now) }
     {
-        if number < self.mix.cores as usize || machine.in_flight() == 0 {
-            match self.draw_core(machine) {
-                Some(picked) => Some(picked),
-                None => self.draw_last_arrival(machine),
-            }
-        } else {
-            match self.draw_arrival(machine) {
-                Some(picked) => Some(picked),
-                None => self.draw_last_core(machine),
-            }
+        match self.draw_arrival(machine) {
+            Some(picked) => Some(picked),
+            None => self.draw_core(machine),
         }
     }
 
-    /// An eviction, where a line can be given up, unless it is at rest. It goes through the blocks in use from one on that is drawn, and through the harts
-    /// from one on. Where no line can be given up, it is a core's step or an arrival.
+    /// A core's step, or a message's arrival, which are drawn by their weights. If nothing of what is drawn is enabled, it is the other.
+    #[inline(always)]
+    fn draw_step<const SETS: usize, const WAYS: usize>(
+        &mut self,
+        machine: &Machine<SETS, WAYS>,
+    ) -> Option<Picked>
+        ensures some { IfSome result (λ p. IsPicked (geometry SETS WAYS) machine.now p.choice p.step) }
+        ensures none { IfNone result (IsAtRest (geometry SETS WAYS) machine.now) }
+    {
+        let (cores, arrivals) = (self.mix.cores as usize, self.mix.arrivals as usize);
+        if self.below(cores + arrivals) < cores {
+            match self.draw_core(machine) {
+                Some(picked) => Some(picked),
+                None => self.draw_arrival(machine),
+            }
+        } else {
+            self.draw_arrival_or_core(machine)
+        }
+    }
+
+    /// An eviction, where a line can be given up, unless the machine is at rest. It goes through the blocks in use from one on that is drawn, and through
+    /// the harts from one on. Where no line can be given up, it is a core's step or an arrival.
     #[inline(never)]
     fn draw_eviction<const SETS: usize, const WAYS: usize>(
         &mut self,
@@ -240,8 +235,7 @@ impl Chance {
         ensures some { IfSome result (λ p. IsPicked (geometry SETS WAYS) machine.now p.choice p.step) }
         ensures none { IfNone result (IsAtRest (geometry SETS WAYS) machine.now) }
     {
-        let number = self.below(self.mix.cores as usize + self.mix.arrivals as usize);
-        let step = self.draw_step(machine, number)?;
+        let step = self.draw_step(machine)?;
         let first = self.below(machine.used());
         let hart = self.below(machine.harts());
         match find_eviction(machine, first, hart) {
@@ -250,25 +244,45 @@ impl Chance {
         }
     }
 
-    /// What comes next, by the weights. `None` where no core has a step to make, and no message can arrive.
+    /// Draws by the weights. Where it is a core's step, and a hart has one to make, it answers that hart. Else it answers what [`Chance::draw_other`] goes on by.
     #[inline(always)]
     fn draw<const SETS: usize, const WAYS: usize>(
         &mut self,
         machine: &Machine<SETS, WAYS>,
+    ) -> Result<HartId, Other>
+        ensures { IfOk result (λ hart. IsAble (geometry SETS WAYS) machine.now (Core hart)) }
+    {
+        let (cores, evictions) = (self.mix.cores as usize, self.mix.evictions as usize);
+        let none_in_flight = machine.in_flight() == 0;
+        if evictions > 0 || !none_in_flight {
+            let number = self.below(evictions + cores + self.mix.arrivals as usize);
+            if number < evictions {
+                return Err(Other::Eviction);
+            }
+            if number >= evictions + cores && !none_in_flight {
+                return Err(Other::Arrival);
+            }
+        }
+        match self.draw_hart(machine) {
+            Some(hart) => Ok(hart),
+            None => Err(Other::Arrival),
+        }
+    }
+
+    /// What comes next, where it isn't the core's step that was drawn at once. `None` where no core has a step to make, and no message can arrive.
+    #[inline(never)]
+    fn draw_other<const SETS: usize, const WAYS: usize>(
+        &mut self,
+        machine: &Machine<SETS, WAYS>,
+        other: Other,
     ) -> Option<Picked>
         ensures some { IfSome result (λ p. IsPicked (geometry SETS WAYS) machine.now p.choice p.step) }
         ensures none { IfNone result (IsAtRest (geometry SETS WAYS) machine.now) }
     {
-        let evictions = self.mix.evictions as usize;
-        if evictions == 0 && machine.in_flight() == 0 {
-            return self.draw_step(machine, 0);
+        match other {
+            Other::Eviction => self.draw_eviction(machine),
+            Other::Arrival => self.draw_arrival_or_core(machine),
         }
-        let others = self.mix.cores as usize + self.mix.arrivals as usize;
-        let number = self.below(evictions + others);
-        if number < evictions {
-            return self.draw_eviction(machine);
-        }
-        self.draw_step(machine, number - evictions)
     }
 }
 
@@ -287,8 +301,11 @@ impl<const SETS: usize, const WAYS: usize> Chooser<SETS, WAYS> for Chance {
         _last: Turned,
     ) -> Result<Option<Step>, AllocError> {
         match self.draw(machine) {
-            Some(picked) => Ok(Some(picked.step)),
-            None => Ok(None),
+            Ok(hart) => Ok(Some(step_of(machine, hart).step)),
+            Err(other) => match self.draw_other(machine, other) {
+                Some(picked) => Ok(Some(picked.step)),
+                None => Ok(None),
+            },
         }
     }
 }
@@ -344,7 +361,11 @@ impl<const SETS: usize, const WAYS: usize> Chooser<SETS, WAYS> for KeptChance {
         _last: Turned,
     ) -> Result<Option<Step>, AllocError> {
         self.history.make_room()?;
-        let Some(picked) = self.chance.draw(machine) else {
+        let drawn = match self.chance.draw(machine) {
+            Ok(hart) => Some(step_of(machine, hart)),
+            Err(other) => self.chance.draw_other(machine, other),
+        };
+        let Some(picked) = drawn else {
             return Ok(None);
         };
         self.history.note(picked.choice, 1);

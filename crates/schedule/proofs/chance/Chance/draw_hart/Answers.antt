@@ -1,4 +1,4 @@
-use Rattle.std.proofs.Common.{◌≡◌, ◌<◌, ℕ, false, subst, arith}
+use Rattle.std.proofs.Common.{◌≡◌, ℕ, false, subst, arith}
 use Rattle.words.specs.declared.entry.Step.TheVariants.{Core}
 use Rattle.machine.specs.States.{geometry, shown}
 use Rattle.machine.specs.Watch.{IsEnabled}
