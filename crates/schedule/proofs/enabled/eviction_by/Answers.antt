@@ -14,7 +14,7 @@ returns g c =
     let p = c.in_ok-hart.hart.now in
     let read : IsRead g.row.SETS c.args.machine.now c.args.id p = read_is g.row.SETS c.args.machine.now c.args.id p (sym c.in_ok-hart.ensures) in
     let free : (is_owned c.in_ok-line.line.state && is_some p.put) ≡ false = elim c.else-is_owned.branch [
-      else-is_owned-via-then-is_owned+else-has_put w ↦ second_off _ _ (ap is_some (sym c.put.ensures) ∙ sym c.is_some-has_put.ensures ∙ w.if-has_put.false)
+      | else-is_owned-via-then-is_owned+else-has_put w ↦ second_off _ _ (ap is_some (sym c.put.ensures) ∙ sym c.is_some-has_put.ensures ∙ w.if-has_put.false)
       | else-is_owned-via-else-is_owned w ↦ first_off _ _ (sym c.is_owned-is_owned.ensures ∙ w.if-is_owned.false)
     ] in
     record {
