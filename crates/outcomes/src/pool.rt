@@ -1,4 +1,4 @@
-ghost use Rattle.std.specs.Prelude.{◌≡◌, ◌<◌, ◌≤◌, ℕ, Some, List, IfOk, OnOk, length, slice_get};
+ghost use Rattle.std.specs.Prelude.{◌≡◌, ◌<◌, ◌≤◌, [], ℕ, Some, List, IfOk, OnOk, length, slice_get};
 ghost use Rattle.flat.specs.State.{Setting};
 
 use crate::change::{Change, Turn};
@@ -41,7 +41,11 @@ impl Pool {
     ghost use Rattle.outcomes.specs.Turns.{after, IsOf};
     ghost use Rattle.outcomes.specs.Pools.{flat_in, with_mem, IsWithin, Grows};
 
-    pub fn new(alloc: Global) -> Self {
+    /// A pool that has met nothing.
+    pub fn new(alloc: Global) -> Self
+        ensures harts { result.harts.keys ≡ [] }
+        ensures memories { result.memories.keys ≡ [] }
+    {
         Pool {
             harts: IndexSet::new(alloc),
             memories: IndexSet::new(alloc),
