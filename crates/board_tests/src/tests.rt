@@ -1,5 +1,6 @@
 mod calls;
 mod choices;
+mod claims;
 mod counters;
 mod faults;
 mod gates;

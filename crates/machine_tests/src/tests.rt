@@ -1,4 +1,5 @@
 mod checks;
+mod claims;
 mod moves;
 mod runs;
 mod schedules;

@@ -1,12 +1,14 @@
 mod agreement;
+mod claims;
 mod draws;
 mod encode;
 mod ends;
 mod limits;
 mod litmus;
+mod logs;
 mod memory;
 mod pictures;
 mod programs;
 mod searches;
 mod sources;
-mod stopping;
+mod stops;

@@ -1,4 +1,5 @@
 mod caches;
+mod claims;
 mod directories;
 mod harts;
 mod logs;

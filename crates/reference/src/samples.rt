@@ -54,24 +54,3 @@ fn bytes_of(alloc: Global, words: &[u32]) -> Result<Vec<u8>, AllocError>
     }
     Ok(bytes)
 }
-
-#[cfg(test)]
-mod tests {
-    use super::*;
-    use crate::texts::EXIT;
-    use std::test::Fail;
-
-    #[test]
-    fn a_program_of_three_words(rt: HostRuntime) -> Result<(), Fail> {
-        let sample = program(rt.alloc(), &EXIT)?;
-        assert_eq!(rt; sample.entry(), Addr::new(0x1000));
-        assert_eq!(rt; sample.text().word(Addr::new(0x1008)), Some(0x0000_0073));
-        assert_eq!(rt; sample.text().word(Addr::new(0x100c)), None);
-        assert_eq!(rt; elf_file(rt.alloc(), &EXIT)?.len(), 96);
-        assert_eq!(rt;
-            program(rt.alloc(), &[])?.text().word(Addr::new(0x1000)),
-            Some(0)
-        );
-        Ok(())
-    }
-}

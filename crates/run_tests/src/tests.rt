@@ -1,5 +1,6 @@
 mod booted;
 mod chances;
+mod claims;
 mod cut;
 mod cut_looks;
 mod faults;

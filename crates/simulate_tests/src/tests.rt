@@ -1,5 +1,6 @@
 mod calls;
 mod checks;
+mod claims;
 mod counting;
 mod debugging;
 mod drawing;

@@ -1,4 +1,5 @@
 mod assembling;
+mod claims;
 mod faults;
 mod formats;
 mod instructions;
@@ -7,3 +8,4 @@ mod listings;
 mod memory;
 mod names;
 mod sample;
+mod sample_programs;

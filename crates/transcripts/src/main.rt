@@ -10,8 +10,10 @@ use answers::Telling;
 use lists::play;
 use std::io;
 
-static LISTS: [&str; 15] = [
+static LISTS: [&str; 17] = [
     "running",
+    "searches",
+    "threads",
     "sources",
     "schedules",
     "counting",

@@ -1,6 +1,7 @@
 //! The calls that workers make of a board and of their gate, in order.
 
 use super::play::{TEN, booted, zero};
+use crate::tests::claims::{equal, equal_items};
 use board::{Board, Desk, End, Gate, Lease, Refusal, serve, work};
 use loader::Program;
 use reference::program;
@@ -119,9 +120,9 @@ fn check_calls(
 ) {
     let desk = desk(rt, program);
     let end = work(rt, &desk, zero(), &Free { desk: &desk, most }, turns);
-    assert_eq!(rt; end, Ok(ends));
+    equal(rt, &end, &Ok(ends));
     let noted = desk.into_inner().calls.into_inner();
-    assert_eq!(rt; noted.as_slice(), calls);
+    equal_items(rt, &noted, calls);
 }
 
 #[test]

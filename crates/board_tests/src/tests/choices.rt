@@ -1,12 +1,13 @@
 //! Harts in threads over a board that keeps choices or nothing, and its choices, played again.
 
 use super::gates::Runs;
-use super::play::{SIZE, WAITS};
+use super::play::{SIZE, WAITS, begun_again, check_same};
+use crate::tests::claims::{equal, equal_items, holds};
 use board::{Board, Code, End, Finished, Lease, Refusal, Unkept, Untraced, serve};
 use machine::{Machine, Silent};
 use reference::program;
 use schedule::{Choice, History, Turns, put_history, read};
-use std::alloc::{AllocError, Global};
+use std::alloc::AllocError;
 use std::process::Abort;
 use std::str;
 use std::sync::Mutex;
@@ -35,14 +36,8 @@ fn choices_of(rt: &(impl Abort + AllocGlobal), history: &History) -> Result<Vec<
         bytes: Vec::new(rt.alloc()),
         failed: 0,
     };
-    assert!(rt; put_history(&mut sink, history).is_ok());
+    holds(rt, put_history(&mut sink, history).is_ok());
     Ok(read(rt.alloc(), str::from_utf8(&sink.bytes)?)?)
-}
-
-/// A machine that the program of a board begins in, as the board did.
-fn begun_again(alloc: Global, end: &Finished<'_, 2, 1, History>) -> Result<Machine<2, 1>, Fail> {
-    let program = end.program.copy(alloc)?;
-    Ok(Machine::boot(alloc, program, end.harts, end.size)?)
 }
 
 /// Makes the steps that are chosen.
@@ -51,25 +46,13 @@ fn play(machine: &mut Machine<2, 1>, choices: &[Choice]) -> Result<(), AllocErro
     schedule::play(machine, choices, steps, &mut Turns, &mut Silent)
 }
 
-/// That two machines have the same registers and memory.
-fn check_same(rt: &impl Abort, machine: &Machine<2, 1>, other: &Machine<2, 1>) {
-    for number in 0..8 {
-        let hart = HartId::new(number);
-        assert_eq!(rt; machine.regs(hart), other.regs(hart));
-    }
-    for word in 0..2048u32 {
-        let addr = Addr::new(0x1000 + 4 * word);
-        assert_eq!(rt; machine.peek(addr), other.peek(addr));
-    }
-}
-
 /// That the lines of what was noted, played from the start, lead to the same registers and memory.
 fn check_again(
     rt: &(impl Abort + AllocGlobal),
     end: &Finished<'_, 2, 1, History>,
 ) -> Result<(), Fail> {
     let choices = choices_of(rt, &end.journal)?;
-    let mut machine = begun_again(rt.alloc(), end)?;
+    let mut machine: Machine<2, 1> = begun_again(rt, end.program, end.harts, end.size);
     play(&mut machine, &choices)?;
     check_same(rt, &machine, &end.machine);
     Ok(())
@@ -83,9 +66,9 @@ fn history_of_threads_plays_again(rt: HostRuntime) -> Result<(), Fail> {
     let board: Kept = Board::boot_with(rt.alloc(), code, 4, SIZE, History::new(rt.alloc()))?;
     let desk = Mutex::new(board);
     let ends = serve::<Kept, Runs, HostRuntime>(&rt, &desk, 4, &WHOLE, TURNS).expect(&rt, "memory");
-    assert_eq!(rt; ends.as_slice(), [End::Stopped; 4].as_slice());
+    equal_items(&rt, &ends, &[End::Stopped; 4]);
     let end = desk.into_inner().finish();
-    assert_eq!(rt; end.machine.peek(Addr::new(0x2000)), Some(4));
+    equal(&rt, &end.machine.peek(Addr::new(0x2000)), &Some(4));
     check_again(&rt, &end)
 }
 
@@ -97,10 +80,11 @@ fn threads_run_where_nothing_is_kept(rt: HostRuntime) -> Result<(), Fail> {
     let ends = serve::<Plain, Runs, HostRuntime>(&rt, &desk, 2, &WHOLE, TURNS).expect(
         &rt, "memory",
     );
-    assert_eq!(rt; ends.as_slice(), [End::Stopped; 2].as_slice());
-    assert_eq!(rt;
-        desk.into_inner().machine().peek(Addr::new(0x2000)),
-        Some(2)
+    equal_items(&rt, &ends, &[End::Stopped; 2]);
+    equal(
+        &rt,
+        &desk.into_inner().machine().peek(Addr::new(0x2000)),
+        &Some(2),
     );
     Ok(())
 }
@@ -112,17 +96,17 @@ fn check_settled<'p>(
     first: &mut Counted<'p>,
     late: &Counted<'p>,
 ) {
-    assert_eq!(rt; first.run(3), 3);
-    assert!(rt; board.settle(first).is_ok());
-    assert_eq!(rt; board.settle(late), Err(Refusal::Stale));
+    equal(rt, &first.run(3), &3);
+    holds(rt, board.settle(first).is_ok());
+    equal(rt, &board.settle(late), &Err(Refusal::Stale));
 }
 
 /// That a lease is lent again where its hart runs, and stays as it is where there is none.
 fn check_lent_again<'p>(rt: &impl Abort, board: &Kept<'p>, lease: &mut Counted<'p>) {
-    assert!(rt; !board.lend_again(HartId::new(1), lease));
-    assert_eq!(rt; lease.len(), 3);
-    assert!(rt; board.lend_again(HartId::new(0), lease));
-    assert!(rt; lease.is_empty());
+    holds(rt, !board.lend_again(HartId::new(1), lease));
+    equal(rt, &lease.len(), &3);
+    holds(rt, board.lend_again(HartId::new(0), lease));
+    holds(rt, lease.is_empty());
 }
 
 /// Lends hart 0 twice, and settles both leases.
@@ -139,8 +123,8 @@ fn a_stale_lease_is_refused(rt: HostRuntime) -> Result<(), Fail> {
     let program = program(rt.alloc(), &WAITS)?;
     let code = Code::new(&program);
     let mut board: Kept = Board::boot_with(rt.alloc(), code, 1, SIZE, History::new(rt.alloc()))?;
-    assert!(rt; board.lend(HartId::new(1)).is_none());
+    holds(&rt, board.lend(HartId::new(1)).is_none());
     check_leases(&rt, &mut board);
-    assert_eq!(rt; board.visit(HartId::new(0)), Ok(true));
+    equal(&rt, &board.visit(HartId::new(0)), &Ok(true));
     check_again(&rt, &board.finish())
 }

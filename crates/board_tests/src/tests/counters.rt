@@ -4,6 +4,7 @@ ghost use Rattle.std.specs.Prelude.{◌≤◌, ◌<◌, ◌*◌, ◌^◌};
 
 use super::gates::Runs;
 use super::play::{SIZE, WAITS, check_again, peek, place};
+use crate::tests::claims::{equal, holds};
 use board::{Board, End, Finished, serve};
 use loader::Program;
 use reference::{COUNTS, program};
@@ -58,7 +59,7 @@ fn check_count<
     let (end, stopped) = served::<SETS, WAYS, R>(rt, &program, harts, turns);
     check_again(rt, &end);
     if stopped {
-        assert_eq!(rt; peek(&end.machine, place()), Some(count));
+        equal(rt, &peek(&end.machine, place()), &Some(count));
     }
     Ok(stopped)
 }
@@ -66,11 +67,23 @@ fn check_count<
 #[test]
 fn each_number_of_harts_counts(rt: HostRuntime) -> Result<(), Fail> {
     let most = 100_000;
-    assert!(rt; check_count::<2, 1, HostRuntime>(&rt, &COUNTS, 2, most, 200)?);
-    assert!(rt; check_count::<16, 4, HostRuntime>(&rt, &COUNTS, 2, most, 200)?);
+    holds(
+        &rt,
+        check_count::<2, 1, HostRuntime>(&rt, &COUNTS, 2, most, 200)?,
+    );
+    holds(
+        &rt,
+        check_count::<16, 4, HostRuntime>(&rt, &COUNTS, 2, most, 200)?,
+    );
     for harts in 2..9u32 {
-        assert!(rt; check_count::<2, 1, HostRuntime>(&rt, &WAITS, harts, most, harts)?);
-        assert!(rt; check_count::<16, 4, HostRuntime>(&rt, &WAITS, harts, most, harts)?);
+        holds(
+            &rt,
+            check_count::<2, 1, HostRuntime>(&rt, &WAITS, harts, most, harts)?,
+        );
+        holds(
+            &rt,
+            check_count::<16, 4, HostRuntime>(&rt, &WAITS, harts, most, harts)?,
+        );
     }
     Ok(())
 }

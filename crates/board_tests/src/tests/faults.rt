@@ -1,5 +1,6 @@
 //! The text of each refusal of a lease.
 
+use crate::tests::claims::equal_text;
 use board::Refusal;
 use std::alloc::AllocError;
 
@@ -9,7 +10,7 @@ fn refusals_have_their_texts(rt: HostRuntime) -> Result<(), AllocError> {
         (Refusal::Stale, "the lease is stale"),
         (Refusal::NoMemory, "no memory"),
     ] {
-        assert_eq!(rt; fault.to_string(rt.alloc())?.as_str(), text);
+        equal_text(&rt, fault.to_string(rt.alloc())?.as_str(), text);
     }
     Ok(())
 }

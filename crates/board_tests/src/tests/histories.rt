@@ -1,4 +1,5 @@
 //! Histories of a few choices, as text, and read again.
+use crate::tests::claims::{equal, holds};
 use reference::Breaking;
 use schedule::{
     Choice, History, Name, ScheduleFault, Sort, put_history, read, written_choices_are_read,
@@ -66,7 +67,10 @@ fn put(alloc: Global, history: &History) -> Taken {
 fn history_is_a_schedule(rt: HostRuntime) -> Result<(), Fail> {
     written_choices_are_read();
     let sink = put(rt.alloc(), &noted(rt.alloc())?);
-    assert!(rt; sink.failed > 0 || sink.bytes.as_slice() == TEXT.as_bytes());
+    holds(
+        &rt,
+        sink.failed > 0 || sink.bytes.as_slice() == TEXT.as_bytes(),
+    );
     Ok(())
 }
 
@@ -75,9 +79,12 @@ fn schedule_is_a_history(rt: HostRuntime) -> Result<(), Fail> {
     match noted_from_text(rt.alloc()) {
         Ok(history) => {
             let sink = put(rt.alloc(), &history);
-            assert!(rt; sink.failed > 0 || sink.bytes.as_slice() == TEXT.as_bytes());
+            holds(
+                &rt,
+                sink.failed > 0 || sink.bytes.as_slice() == TEXT.as_bytes(),
+            );
         }
-        Err(fault) => assert_eq!(rt; fault, ScheduleFault::NoMemory),
+        Err(fault) => equal(&rt, &fault, &ScheduleFault::NoMemory),
     }
     Ok(())
 }
@@ -86,7 +93,7 @@ fn schedule_is_a_history(rt: HostRuntime) -> Result<(), Fail> {
 fn failed_put_is_told(rt: HostRuntime) -> Result<(), Fail> {
     let history = noted(rt.alloc())?;
     let mut sink = Breaking::new(rt.alloc(), 3);
-    assert!(rt; put_history(&mut sink, &history).is_err());
-    assert_eq!(rt; sink.failed, 1);
+    holds(&rt, put_history(&mut sink, &history).is_err());
+    equal(&rt, &sink.failed, &1);
     Ok(())
 }

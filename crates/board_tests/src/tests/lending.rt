@@ -1,6 +1,7 @@
 //! Harts that are lent again, in place of a lease that isn't needed any more.
 
 use super::play::{Small, TEN, booted, check_again, make, one, zero};
+use crate::tests::claims::{equal, holds};
 use board::Lease;
 use reference::program;
 use std::process::Abort;
@@ -16,17 +17,17 @@ fn core_steps<'p>(rt: &impl Abort, board: &mut Small<'p>, steps: u32) {
 
 /// Asserts that a lease of hart 0 with three steps doesn't become one of a hart that doesn't run, and settles.
 fn check_stays<'p>(rt: &impl Abort, board: &mut Small<'p>, lease: &mut Lease<'p, 2, 1>) {
-    assert_eq!(rt; lease.run(3), 3);
+    equal(rt, &lease.run(3), &3);
     for id in [one(), HartId::new(2)] {
-        assert!(rt; !board.lend_again(id, lease));
+        holds(rt, !board.lend_again(id, lease));
         check_lease(rt, lease, zero(), 3);
     }
-    assert!(rt; board.settle(lease).is_ok());
+    holds(rt, board.settle(lease).is_ok());
 }
 
 fn check_lease(rt: &impl Abort, lease: &Lease<'_, 2, 1>, hart: HartId, steps: usize) {
-    assert_eq!(rt; (lease.hart(), lease.len()), (hart, steps));
-    assert_eq!(rt; lease.is_empty(), steps == 0);
+    equal(rt, &(lease.hart(), lease.len()), &(hart, steps));
+    equal(rt, &lease.is_empty(), &(steps == 0));
 }
 
 #[test]
@@ -36,18 +37,18 @@ fn a_lease_stays_where_the_hart_does_not_run(rt: HostRuntime) -> Result<(), Fail
     core_steps(&rt, &mut board, 13);
     let mut lease = board.lend(zero()).expect(&rt, "hart 0 runs");
     check_stays(&rt, &mut board, &mut lease);
-    assert_eq!(rt; board.history().len(), 16);
+    equal(&rt, &board.history().len(), &16);
     check_again(&rt, &board.finish());
     Ok(())
 }
 
 /// Asserts that a lease of hart 0 with three steps becomes one of hart 1 with none, which runs to its end and settles.
 fn check_serves_again<'p>(rt: &impl Abort, board: &mut Small<'p>, lease: &mut Lease<'p, 2, 1>) {
-    assert_eq!(rt; lease.run(3), 3);
-    assert!(rt; board.lend_again(one(), lease));
+    equal(rt, &lease.run(3), &3);
+    holds(rt, board.lend_again(one(), lease));
     check_lease(rt, lease, one(), 0);
-    assert_eq!(rt; lease.run(64), 12);
-    assert!(rt; board.settle(lease).is_ok());
+    equal(rt, &lease.run(64), &12);
+    holds(rt, board.settle(lease).is_ok());
 }
 
 #[test]
@@ -56,7 +57,7 @@ fn a_lease_serves_again(rt: HostRuntime) -> Result<(), Fail> {
     let mut board = booted(&rt, &program, 2);
     let mut lease = board.lend(zero()).expect(&rt, "hart 0 runs");
     check_serves_again(&rt, &mut board, &mut lease);
-    assert_eq!(rt; board.history().len(), 12);
+    equal(&rt, &board.history().len(), &12);
     check_again(&rt, &board.finish());
     Ok(())
 }

@@ -4,6 +4,7 @@ ghost use Rattle.std.specs.Prelude.{◌≤◌, ◌<◌};
 
 use super::gates::Runs;
 use super::play::{SIZE, check_again, peek, place, zero};
+use crate::tests::claims::{equal, holds};
 use board::{Board, Code, End, Finished, Lease, Refusal, Replay, work};
 use linked_list_allocator::LocalHeap;
 use loader::Program;
@@ -46,7 +47,7 @@ fn settle<'p, 'h>(
     let was_refused = board.settle(lease) == Err(Refusal::NoMemory);
     if was_refused {
         *rest = None;
-        assert!(rt; board.settle(lease).is_ok());
+        holds(rt, board.settle(lease).is_ok());
     }
     was_refused
 }
@@ -56,7 +57,7 @@ fn turn<'p, 'h>(rt: &impl Abort, board: &mut Small<'p, 'h>, rest: &mut Rest<'h>)
     let was_refused = board.turn(Step::Core(zero())).is_err();
     if was_refused {
         *rest = None;
-        assert!(rt; board.turn(Step::Core(zero())).is_ok());
+        holds(rt, board.turn(Step::Core(zero())).is_ok());
     }
     was_refused
 }
@@ -66,7 +67,7 @@ fn visit<'p, 'h>(rt: &impl Abort, board: &mut Small<'p, 'h>, rest: &mut Rest<'h>
     let was_refused = board.visit(zero()).is_err();
     if was_refused {
         *rest = None;
-        assert!(rt; board.visit(zero()).is_ok());
+        holds(rt, board.visit(zero()).is_ok());
     }
     was_refused
 }
@@ -91,7 +92,7 @@ fn play<'p, 'h>(
 
 /// Asserts that the word is written, and that the history makes the board again.
 fn check_end(rt: &(impl Abort + AllocGlobal), end: &Finished<'_, 2, 1, Replay<&LocalHeap>>) {
-    assert_eq!(rt; peek(&end.machine, place()), Some(7));
+    equal(rt, &peek(&end.machine, place()), &Some(7));
     check_again(rt, end);
 }
 
@@ -137,7 +138,7 @@ fn nothing_is_lost_where_memory_is_refused(rt: HostRuntime) -> Result<(), Fail> 
         turn: true,
         visit: true,
     };
-    assert_eq!(rt; refused, all);
+    equal(&rt, &refused, &all);
     Ok(())
 }
 
@@ -153,7 +154,7 @@ fn work_twice<'h>(
     if first.is_ok() {
         return false;
     }
-    assert_eq!(rt; work(rt, desk, zero(), &gate, 40), Ok(End::Stopped));
+    equal(rt, &work(rt, desk, zero(), &gate, 40), &Ok(End::Stopped));
     true
 }
 
@@ -185,6 +186,6 @@ fn a_worker_ends_where_memory_is_refused(rt: HostRuntime) -> Result<(), Fail> {
             refused = refused.saturating_add(1);
         }
     }
-    assert!(rt; refused > 2);
+    holds(&rt, refused > 2);
     Ok(())
 }

@@ -2,6 +2,7 @@
 
 ghost use Rattle.std.specs.Prelude.{◌≤◌, ◌<◌, ◌*◌, ◌^◌};
 
+use crate::tests::claims::{equal, equal_items, holds};
 use board::{Board, Finished, Replay};
 use loader::Program;
 use machine::Machine;
@@ -94,20 +95,22 @@ pub(crate) fn booted<'p>(
 
 /// Makes a step, whatever its entry.
 pub(crate) fn make<'p>(rt: &impl Abort, board: &mut Small<'p>, step: Step) {
-    assert!(rt; board.turn(step).is_ok());
+    holds(rt, board.turn(step).is_ok());
 }
 
-/// A machine that the program of a board begins in, as the board did.
-fn begun_again<const SETS: usize, const WAYS: usize, A: Allocator>(
+/// A machine that a program begins in.
+pub(crate) fn begun_again<const SETS: usize, const WAYS: usize>(
     rt: &(impl Abort + AllocGlobal),
-    end: &Finished<'_, SETS, WAYS, Replay<A>>,
+    program: &Program,
+    harts: u32,
+    size: u32,
 ) -> Machine<SETS, WAYS>
     requires sets { 0 < SETS }
     requires ways { 0 < WAYS }
     requires lines { SETS * WAYS < 2 ^ 32 }
 {
-    let program = end.program.copy(rt.alloc()).expect(rt, "memory");
-    Machine::boot(rt.alloc(), program, end.harts, end.size).expect(rt, "memory")
+    let program = program.copy(rt.alloc()).expect(rt, "memory");
+    Machine::boot(rt.alloc(), program, harts, size).expect(rt, "memory")
 }
 
 /// Asserts that the steps of a history can be made again, and give these entries.
@@ -122,15 +125,15 @@ fn check_entries<const SETS: usize, const WAYS: usize>(
     requires lines { SETS * WAYS < 2 ^ 32 }
 {
     let mut given = Vec::new(rt.alloc());
-    assert!(rt; machine.run(history, &mut given).is_ok());
-    assert_eq!(rt; given.as_slice(), entries);
+    holds(rt, machine.run(history, &mut given).is_ok());
+    equal_items(rt, &given, entries);
 }
 
 /// How many words from 0x1000 on are compared. No program here reaches beyond them.
 const WORDS: u32 = 2048;
 
 /// Asserts that two machines have the same registers and memory.
-fn check_same<const SETS: usize, const WAYS: usize>(
+pub(crate) fn check_same<const SETS: usize, const WAYS: usize>(
     rt: &impl Abort,
     machine: &Machine<SETS, WAYS>,
     other: &Machine<SETS, WAYS>,
@@ -141,11 +144,11 @@ fn check_same<const SETS: usize, const WAYS: usize>(
 {
     for number in 0..8 {
         let hart = HartId::new(number);
-        assert_eq!(rt; regs(machine, hart), regs(other, hart));
+        equal(rt, &regs(machine, hart), &regs(other, hart));
     }
     for word in 0..WORDS {
         let addr = Addr::new(0x1000 + 4 * word);
-        assert_eq!(rt; peek(machine, addr), peek(other, addr));
+        equal(rt, &peek(machine, addr), &peek(other, addr));
     }
 }
 
@@ -159,7 +162,7 @@ pub(crate) fn check_again<const SETS: usize, const WAYS: usize, A: Allocator>(
     requires lines { SETS * WAYS < 2 ^ 32 }
     requires few { SETS < 2 ^ 32 }
 {
-    let mut machine = begun_again(rt, end);
+    let mut machine = begun_again(rt, end.program, end.harts, end.size);
     check_entries(rt, &mut machine, &end.journal.history, &end.journal.entries);
     check_same(rt, &machine, &end.machine);
 }

@@ -2,6 +2,7 @@
 
 use super::gates::{Meeting, Runs};
 use super::play::{Small, TEN, booted, one, zero};
+use crate::tests::claims::{equal, equal_items};
 use board::{End, serve};
 use reference::program;
 use std::process::Abort;
@@ -16,7 +17,7 @@ fn two_leases_are_out_at_once(rt: HostRuntime) -> Result<(), Fail> {
     let ends = serve::<Small, Meeting, HostRuntime>(&rt, &desk, 2, &Meeting::new(), 2).expect(
         &rt, "memory",
     );
-    assert_eq!(rt; ends.as_slice(), [End::Stopped; 2].as_slice());
+    equal_items(&rt, &ends, &[End::Stopped; 2]);
     Ok(())
 }
 
@@ -31,7 +32,7 @@ fn is_retired_by(entry: &Entry, id: HartId) -> bool {
 /// Asserts how many words a hart has retired.
 fn check_retired(rt: &impl Abort, entries: &[Entry], hart: HartId, want: usize) {
     let retired = entries.iter().filter(|entry| is_retired_by(entry, hart));
-    assert_eq!(rt; retired.count(), want);
+    equal(rt, &retired.count(), &want);
 }
 
 #[test]
@@ -40,9 +41,9 @@ fn empty_leases_leave_all_to_the_visits(rt: HostRuntime) -> Result<(), Fail> {
     let desk = Mutex::new(booted(&rt, &program, 2));
     let gate = Runs { most: 0 };
     let ends = serve::<Small, Runs, HostRuntime>(&rt, &desk, 2, &gate, 5).expect(&rt, "memory");
-    assert_eq!(rt; ends.as_slice(), [End::Limit; 2].as_slice());
+    equal_items(&rt, &ends, &[End::Limit; 2]);
     let end = desk.into_inner().finish();
-    assert_eq!(rt; end.journal.history.len(), 10);
+    equal(&rt, &end.journal.history.len(), &10);
     check_retired(&rt, &end.journal.entries, zero(), 5);
     check_retired(&rt, &end.journal.entries, one(), 5);
     Ok(())

@@ -4,6 +4,7 @@ ghost use Rattle.std.specs.Prelude.{◌≤◌};
 
 use super::gates::Runs;
 use super::play::{SIZE, TEN, one, zero};
+use crate::tests::claims::{equal, holds};
 use board::{Code, Desk, Served, Unkept, serve};
 use loader::Program;
 use reference::program;
@@ -38,23 +39,23 @@ fn served<'p, R: Threads + Wait + Abort + AllocGlobal + Sync>(
 fn turns_are_counted(rt: HostRuntime) -> Result<(), Fail> {
     let program = program(rt.alloc(), &TEN)?;
     let running = served(&rt, &program, 2, 0, 5);
-    assert!(rt; running.is_done(5));
-    assert!(rt; !running.is_done(4));
-    assert!(rt; !running.is_done(6));
+    holds(&rt, running.is_done(5));
+    holds(&rt, !running.is_done(4));
+    holds(&rt, !running.is_done(6));
     let ended = served(&rt, &program, 2, 64, 9);
-    assert!(rt; ended.is_done(9));
-    assert!(rt; ended.is_done(1));
-    assert!(rt; !ended.is_done(0));
+    holds(&rt, ended.is_done(9));
+    holds(&rt, ended.is_done(1));
+    holds(&rt, !ended.is_done(0));
     Ok(())
 }
 
 #[test]
 fn a_hart_with_turns_left_is_seen(rt: HostRuntime) -> Result<(), Fail> {
     let program = program(rt.alloc(), &TEN)?;
-    assert!(rt; booted(&rt, &program).is_done(0));
-    assert!(rt; !booted(&rt, &program).is_done(1));
-    assert!(rt; !served(&rt, &program, 1, 0, 5).is_done(5));
-    assert!(rt; !served(&rt, &program, 1, 64, 5).is_done(5));
+    holds(&rt, booted(&rt, &program).is_done(0));
+    holds(&rt, !booted(&rt, &program).is_done(1));
+    holds(&rt, !served(&rt, &program, 1, 0, 5).is_done(5));
+    holds(&rt, !served(&rt, &program, 1, 64, 5).is_done(5));
     Ok(())
 }
 
@@ -62,16 +63,20 @@ fn a_hart_with_turns_left_is_seen(rt: HostRuntime) -> Result<(), Fail> {
 fn what_is_no_turn_is_seen(rt: HostRuntime) -> Result<(), Fail> {
     let program = program(rt.alloc(), &TEN)?;
     let mut visited = booted(&rt, &program);
-    assert_eq!(rt; visited.visit(zero()), Ok(true));
-    assert!(rt; !visited.is_done(0));
+    equal(&rt, &visited.visit(zero()), &Ok(true));
+    holds(&rt, !visited.is_done(0));
     let mut settled = booted(&rt, &program);
     let mut lease = settled.lend(zero()).expect(&rt, "hart 0 runs");
     lease.run(1);
-    assert!(rt; settled.settle(&lease).is_ok());
-    assert!(rt; !settled.is_done(0));
+    holds(&rt, settled.settle(&lease).is_ok());
+    holds(&rt, !settled.is_done(0));
     let mut turned = booted(&rt, &program);
     let mut others = turned.lend(one()).expect(&rt, "hart 1 runs");
-    assert_eq!(rt; turned.finish_turn(zero(), &mut others, true), Ok(true));
-    assert!(rt; !turned.is_done(1));
+    equal(
+        &rt,
+        &turned.finish_turn(zero(), &mut others, true),
+        &Ok(true),
+    );
+    holds(&rt, !turned.is_done(1));
     Ok(())
 }

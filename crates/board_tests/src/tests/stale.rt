@@ -1,6 +1,7 @@
 //! A lease whose hart has changed while it was out, and one of another program.
 
 use super::play::{Small, booted, check_again, make, one, zero};
+use crate::tests::claims::{equal, holds};
 use board::{Lease, Refusal, is_hart};
 use loader::Program;
 use reference::{COMMITS, program};
@@ -59,10 +60,10 @@ fn check_refusal<'p>(
     want: Option<Refusal>,
 ) {
     let made = board.history().len();
-    assert_eq!(rt; lease.run(64), 1);
-    assert_eq!(rt; refusal(board, lease), want);
+    equal(rt, &lease.run(64), &1);
+    equal(rt, &refusal(board, lease), &want);
     let more = if want.is_none() { 1 } else { 0 };
-    assert_eq!(rt; board.history().len(), made + more);
+    equal(rt, &board.history().len(), &(made + more));
 }
 
 /// Both harts hold the block to read it. Hart 0 is lent, and adds; hart 1 asks for the block to write it; then so many messages arrive, the first of
@@ -97,10 +98,10 @@ fn a_lease_is_stale_once_its_hart_has_changed(rt: HostRuntime) -> Result<(), Fai
 
 /// Asserts that a lease of the one board is stale for the other, on which nothing is made.
 fn check_strange<'p>(rt: &impl Abort, board: &Small<'p>, others: &mut Small<'p>) {
-    assert!(rt; are_alike(board, others));
+    holds(rt, are_alike(board, others));
     let lease = lent(rt, board);
-    assert_eq!(rt; refusal(others, &lease), Some(Refusal::Stale));
-    assert!(rt; others.history().is_empty());
+    equal(rt, &refusal(others, &lease), &Some(Refusal::Stale));
+    holds(rt, others.history().is_empty());
 }
 
 /// That a lease of the one program's board is stale for the other's.

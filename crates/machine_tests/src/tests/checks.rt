@@ -1,6 +1,7 @@
 //! What the tests ask of a plain machine and of its entries.
 
 use super::moves::{accepted, booted, one, pc, place, register, status, zero};
+use crate::tests::claims::{equal, equal_at, holds};
 use flat::Engine;
 use reference::Machine;
 use std::process::Abort;
@@ -9,17 +10,17 @@ use words::{Addr, Entry, HartId, Status};
 
 /// That there are so many of what is counted.
 pub(crate) fn check_count(rt: &impl Abort, found: usize, want: usize) {
-    assert_eq!(rt; found, want);
+    equal(rt, &found, &want);
 }
 
 /// That this is the entry with an index.
 pub(crate) fn check_entry(rt: &impl Abort, entries: &[Entry], index: usize, want: Entry) {
-    assert_eq!(rt; entries.get(index).copied(), Some(want));
+    equal(rt, &entries.get(index).copied(), &Some(want));
 }
 
 /// That a step retires a word.
 pub(crate) fn check_retired(rt: &impl Abort, entry: Option<Entry>) {
-    assert!(rt; matches!(entry, Some(Entry::Retire { .. })));
+    holds(rt, matches!(entry, Some(Entry::Retire { .. })));
 }
 
 /// That each entry tells of a word that was retired.
@@ -38,27 +39,28 @@ pub(crate) fn check_place(
     committed: u32,
     seen: [Option<u32>; 2],
 ) {
-    assert_eq!(rt; machine.raw(place()), Some(in_place));
-    assert_eq!(rt; machine.peek(place()), Some(committed));
-    assert_eq!(rt;
-        [machine.view(zero(), place()), machine.view(one(), place())],
-        seen
+    equal(rt, &machine.raw(place()), &Some(in_place));
+    equal(rt, &machine.peek(place()), &Some(committed));
+    equal(
+        rt,
+        &[machine.view(zero(), place()), machine.view(one(), place())],
+        &seen,
     );
 }
 
 /// That this word stands at 0x2000 once all running transactions are rolled back.
 pub(crate) fn check_committed(rt: &impl Abort, machine: &Machine, want: u32) {
-    assert_eq!(rt; machine.peek(place()), Some(want));
+    equal(rt, &machine.peek(place()), &Some(want));
 }
 
 /// Whether a hart runs, or how it ended.
 pub(crate) fn check_status(rt: &impl Abort, machine: &Machine, hart: HartId, want: Status) {
-    assert_eq!(rt; status(machine, hart), Some(want));
+    equal(rt, &status(machine, hart), &Some(want));
 }
 
 /// Where a hart stands.
 pub(crate) fn check_pc(rt: &impl Abort, machine: &Machine, hart: HartId, want: u32) {
-    assert_eq!(rt; pc(machine, hart), Some(Addr::new(want)));
+    equal(rt, &pc(machine, hart), &Some(Addr::new(want)));
 }
 
 /// That a hart's register holds this word.
@@ -69,7 +71,7 @@ pub(crate) fn check_register(
     index: usize,
     want: u32,
 ) {
-    assert_eq!(rt; register(machine, hart, index), Some(want), "x{index}");
+    equal_at(rt, &register(machine, hart, index), &Some(want), &index);
 }
 
 /// That the entries are those of a run of the program.

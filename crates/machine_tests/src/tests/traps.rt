@@ -2,6 +2,7 @@
 
 use super::checks::{check_count, check_entry, check_register, check_run, check_status};
 use super::moves::{booted, go, one, zero};
+use crate::tests::claims::{equal, equal_at};
 use flat::{BootFault, Engine};
 use reference::{COMMITS, Machine, program};
 use std::alloc::Global;
@@ -92,8 +93,8 @@ fn bytes_out(machine: &Machine, number: usize) -> Option<usize> {
 
 /// That a machine has so many harts and bytes of memory, and hart 0 has put out nothing.
 fn check_size(rt: &impl Abort, machine: &Machine, harts: usize, size: usize) {
-    assert_eq!(rt; (machine.harts(), machine.size()), (harts, size));
-    assert_eq!(rt; bytes_out(machine, 0), Some(0));
+    equal(rt, &(machine.harts(), machine.size()), &(harts, size));
+    equal(rt, &bytes_out(machine, 0), &Some(0));
 }
 
 #[test]
@@ -123,7 +124,7 @@ fn boot_refuses_in_order(rt: HostRuntime) -> Result<(), Fail> {
         (8, 65_536, BootFault::DoesNotFit),
     ] {
         let fault = boot_fault(rt.alloc(), harts, size)?;
-        assert_eq!(rt; fault, Some(want), "{harts} harts and {size} bytes");
+        equal_at(&rt, &fault, &Some(want), &(harts, size));
     }
     Ok(())
 }

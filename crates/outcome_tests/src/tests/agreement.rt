@@ -7,6 +7,7 @@ use super::programs::{random_data, random_program};
 use super::searches::{
     SIZE, count, picture_after, picture_at, pictures, searched_from, witness_of,
 };
+use crate::tests::claims::{equal_at, holds_at};
 use interleavings::{Ends, Order, Source, all_ends};
 use outcomes::Outcomes;
 use std::process::Abort;
@@ -18,14 +19,14 @@ const MOST: usize = 20_000;
 
 /// What was compared.
 #[derive(Clone, Copy, Debug, Default)]
-struct Tally {
+pub(crate) struct Tally {
     programs: usize,
     /// Those with more states than the limit.
     skipped: usize,
     /// Those with more than one end.
     forked: usize,
     ends: usize,
-    states: usize,
+    pub(crate) states: usize,
     /// In the runs to the ends: aborts for a conflict, as asked and for a cause, and stops for a cause.
     conflicts: usize,
     asked: usize,
@@ -73,11 +74,12 @@ fn check_ends(
 ) -> Result<(), Fail>
     requires { IsSearch outcomes.now }
 {
-    assert!(rt; outcomes.is_all, "{source:?}");
-    assert_eq!(rt; count(rt.alloc(), outcomes)?, ends.count, "{source:?}");
-    assert!(rt;
+    holds_at(rt, outcomes.is_all, &source);
+    equal_at(rt, &count(rt.alloc(), outcomes)?, &ends.count, &source);
+    holds_at(
+        rt,
         pictures(rt.alloc(), outcomes)? == ends.pictures,
-        "{source:?}"
+        &source,
     );
     Ok(())
 }
@@ -96,10 +98,7 @@ fn check_witnesses(
         let entries = witness_of(rt.alloc(), outcomes, *place)?.ok_or("no witness")?;
         let after = picture_after(rt.alloc(), source, harts, &entries)?;
         let wanted = picture_at(rt.alloc(), outcomes, *place)?;
-        assert!(rt;
-            after.is_some() && after == wanted,
-            "end {place} of {source:?}"
-        );
+        holds_at(rt, after.is_some() && after == wanted, &(place, source));
         for entry in &entries {
             tally.note(entry);
         }
@@ -109,7 +108,7 @@ fn check_witnesses(
 
 /// That a program has the ends that all interleavings lead to, that the search makes just the moves of the reduction, and that each end has a witness; if
 /// the program has few enough states.
-fn check_program(
+pub(crate) fn check_program(
     rt: &(impl Abort + AllocGlobal),
     source: &Source<'_>,
     harts: u32,
@@ -124,8 +123,8 @@ fn check_program(
     )?;
     let outcomes = searched_from(rt.alloc(), source, harts, MOST)?;
     check_ends(rt, source, &outcomes, &all)?;
-    assert_eq!(rt; outcomes.len(), reduced.states, "{source:?}");
-    assert!(rt; reduced.pictures == all.pictures, "{source:?}");
+    equal_at(rt, &outcomes.len(), &reduced.states, &source);
+    holds_at(rt, reduced.pictures == all.pictures, &source);
     check_witnesses(rt, source, harts, &outcomes, tally)?;
     tally.add(all.count, all.states);
     Ok(())
@@ -156,25 +155,25 @@ fn check_programs(
 #[test]
 fn programs_of_one_hart(rt: HostRuntime) -> Result<(), Fail> {
     let tally = check_programs(&rt, 1, 300, 10)?;
-    assert!(&rt; tally.programs > 280 && tally.stopped > 50, "{tally:?}");
-    assert!(&rt; tally.asked > 4 && tally.trapped > 12, "{tally:?}");
+    holds_at(&rt, tally.programs > 280 && tally.stopped > 50, &tally);
+    holds_at(&rt, tally.asked > 4 && tally.trapped > 12, &tally);
     Ok(())
 }
 
 #[test]
 fn programs_of_two_harts(rt: HostRuntime) -> Result<(), Fail> {
     let tally = check_programs(&rt, 2, 1_000, 10)?;
-    assert!(&rt; tally.programs > 950 && tally.stopped > 1_000, "{tally:?}");
-    assert!(&rt; tally.asked > 60 && tally.trapped > 150, "{tally:?}");
-    assert!(&rt; tally.forked > 250 && tally.conflicts > 700, "{tally:?}");
+    holds_at(&rt, tally.programs > 950 && tally.stopped > 1_000, &tally);
+    holds_at(&rt, tally.asked > 60 && tally.trapped > 150, &tally);
+    holds_at(&rt, tally.forked > 250 && tally.conflicts > 700, &tally);
     Ok(())
 }
 
 #[test]
 fn programs_of_three_harts(rt: HostRuntime) -> Result<(), Fail> {
     let tally = check_programs(&rt, 3, 1_000, 6)?;
-    assert!(&rt; tally.programs > 950 && tally.stopped > 3_000, "{tally:?}");
-    assert!(&rt; tally.asked > 30 && tally.trapped > 250, "{tally:?}");
-    assert!(&rt; tally.forked > 200 && tally.conflicts > 1_500, "{tally:?}");
+    holds_at(&rt, tally.programs > 950 && tally.stopped > 3_000, &tally);
+    holds_at(&rt, tally.asked > 30 && tally.trapped > 250, &tally);
+    holds_at(&rt, tally.forked > 200 && tally.conflicts > 1_500, &tally);
     Ok(())
 }

@@ -8,21 +8,9 @@ pub(crate) const T1: u32 = 6;
 
 pub(crate) const T2: u32 = 7;
 
-pub(crate) const S0: u32 = 8;
-
-pub(crate) const S1: u32 = 9;
-
 pub(crate) const A0: u32 = 10;
 
 pub(crate) const A7: u32 = 17;
-
-pub(crate) const T3: u32 = 28;
-
-pub(crate) const T4: u32 = 29;
-
-pub(crate) const T5: u32 = 30;
-
-pub(crate) const T6: u32 = 31;
 
 pub(crate) const ECALL: u32 = 0x0000_0073;
 
@@ -31,11 +19,6 @@ pub(crate) const EBREAK: u32 = 0x0010_0073;
 pub(crate) const TCOMMIT: u32 = 0x0000_100b;
 
 pub(crate) const TABORT: u32 = 0x0000_200b;
-
-/// How far back so many words are.
-pub(crate) fn back(words: u32) -> u32 {
-    0u32.wrapping_sub(words.wrapping_mul(4))
-}
 
 /// A word of three registers.
 fn r_word(opcode: u32, funct3: u32, funct7: u32, rd: u32, rs1: u32, rs2: u32) -> u32 {
@@ -82,26 +65,13 @@ pub(crate) fn load(number: u32, rd: u32, imm: u32, rs1: u32) -> u32 {
     i_word(0x03, number, rd, rs1, imm)
 }
 
-pub(crate) fn lw(rd: u32, imm: u32, rs1: u32) -> u32 {
-    load(2, rd, imm, rs1)
-}
-
 /// The stores by number: 0 SB, 1 SH, 2 SW.
 pub(crate) fn store(number: u32, rs2: u32, imm: u32, rs1: u32) -> u32 {
     0x23 | (number << 12) | (rs1 << 15) | (rs2 << 20) | ((imm & 0x1f) << 7) | ((imm >> 5) << 25)
 }
 
-pub(crate) fn sw(rs2: u32, imm: u32, rs1: u32) -> u32 {
-    store(2, rs2, imm, rs1)
-}
-
-/// The operations on an immediate by number: 0 ADDI, 2 SLTI, 3 SLTIU, 4 XORI, 6 ORI, 7 ANDI.
-pub(crate) fn op_imm(number: u32, rd: u32, rs1: u32, imm: u32) -> u32 {
-    i_word(0x13, number, rd, rs1, imm)
-}
-
 pub(crate) fn addi(rd: u32, rs1: u32, imm: u32) -> u32 {
-    op_imm(0, rd, rs1, imm)
+    i_word(0x13, 0, rd, rs1, imm)
 }
 
 /// Puts a number of 12 bits into a register.
@@ -112,14 +82,6 @@ pub(crate) fn li(rd: u32, imm: u32) -> u32 {
 /// The operations on two registers by number: 0 ADD, 1 SLL, 2 SLT, 3 SLTU, 4 XOR, 5 SRL, 6 OR, 7 AND.
 pub(crate) fn op(number: u32, rd: u32, rs1: u32, rs2: u32) -> u32 {
     r_word(0x33, number, 0, rd, rs1, rs2)
-}
-
-pub(crate) fn add(rd: u32, rs1: u32, rs2: u32) -> u32 {
-    op(0, rd, rs1, rs2)
-}
-
-pub(crate) fn mul(rd: u32, rs1: u32, rs2: u32) -> u32 {
-    r_word(0x33, 0, 1, rd, rs1, rs2)
 }
 
 /// The atomic operations by number: 0 AMOADD, 1 AMOSWAP, 4 AMOXOR, 8 AMOOR, 12 AMOAND, 16 AMOMIN, 20 AMOMAX, 24 AMOMINU, 28 AMOMAXU.

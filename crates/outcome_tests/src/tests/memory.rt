@@ -3,9 +3,9 @@
 ghost use Rattle.std.specs.Prelude.{IfSome};
 ghost use Rattle.outcomes.specs.Searches.{IsSearch};
 
-use super::encode::{A0, A7, ECALL, T0, TCOMMIT, ZERO, addi, li, lw, sw, tbegin};
 use super::searches::{SIZE, count, is_witnessed, searched};
 use super::sources::text_alone;
+use crate::tests::claims::{equal, holds_at};
 use flat::BootFault;
 use interleavings::{Order, all_ends};
 use outcomes::{Outcomes, Untold, begin};
@@ -14,23 +14,22 @@ use std::process::Abort;
 use std::test::Fail;
 
 /// Adds 1 to the word at 0 in a transaction, puts out a byte, and exits with 0; or exits with 1 after an abort.
-fn adds_once() -> [u32; 13] {
-    [
-        li(A7, 1),
-        tbegin(4 * 9),
-        lw(T0, 0, ZERO),
-        addi(T0, T0, 1),
-        sw(T0, 0, ZERO),
-        TCOMMIT,
-        ECALL,
-        li(A7, 93),
-        li(A0, 0),
-        ECALL,
-        li(A7, 93),
-        li(A0, 1),
-        ECALL,
-    ]
-}
+#[rattlefmt::skip]
+const ADDS_ONCE: [u32; 13] = [
+    0x0010_0893, // li a7, 1
+    0x0200_020b, // tbegin 36
+    0x0000_2283, // lw t0, 0(zero)
+    0x0012_8293, // addi t0, t0, 1
+    0x0050_2023, // sw t0, 0(zero)
+    0x0000_100b, // tcommit
+    0x0000_0073, // ecall
+    0x05d0_0893, // li a7, 93
+    0x0000_0513, // li a0, 0
+    0x0000_0073, // ecall
+    0x05d0_0893, // li a7, 93
+    0x0010_0513, // li a0, 1
+    0x0000_0073, // ecall
+];
 
 /// How many states the search of two such harts meets, and how many of them are ends.
 const STATES: usize = 165;
@@ -42,17 +41,17 @@ const ENDS: usize = 5;
 fn all_is_found_where_there_is_memory(rt: HostRuntime) -> Result<(), Fail> {
     let all = all_ends(
         rt.alloc(),
-        &text_alone(&adds_once()),
+        &text_alone(&ADDS_ONCE),
         2,
         SIZE,
         Order::LocalFirst,
         1_000,
     )?
     .ok_or("too many")?;
-    assert_eq!(&rt; (all.states, all.count), (STATES, ENDS));
-    let outcomes = searched(rt.alloc(), &adds_once(), 2, 1_000)?;
-    assert_eq!(&rt; (outcomes.is_all, outcomes.len()), (true, STATES));
-    assert_eq!(&rt; count(rt.alloc(), &outcomes)?, ENDS);
+    equal(&rt, &(all.states, all.count), &(STATES, ENDS));
+    let outcomes = searched(rt.alloc(), &ADDS_ONCE, 2, 1_000)?;
+    equal(&rt, &(outcomes.is_all, outcomes.len()), &(true, STATES));
+    equal(&rt, &count(rt.alloc(), &outcomes)?, &ENDS);
     Ok(())
 }
 
@@ -67,7 +66,7 @@ fn searched_or_none(rt: &(impl Abort + AllocGlobal), text: &[u32]) -> Option<Out
             Err(_) => None,
         },
         Err(fault) => {
-            assert_eq!(rt; fault, BootFault::NoMemory);
+            equal(rt, &fault, &BootFault::NoMemory);
             None
         }
     }
@@ -75,15 +74,15 @@ fn searched_or_none(rt: &(impl Abort + AllocGlobal), text: &[u32]) -> Option<Out
 
 /// That all was found.
 fn check_all(rt: &impl Abort, outcomes: &Outcomes) {
-    assert_eq!(rt; (outcomes.is_all, outcomes.len()), (true, STATES));
+    equal(rt, &(outcomes.is_all, outcomes.len()), &(true, STATES));
 }
 
 #[test]
 fn finds_all_or_wants_memory(rt: HostRuntime) {
-    if let Some(outcomes) = searched_or_none(&rt, &adds_once()) {
+    if let Some(outcomes) = searched_or_none(&rt, &ADDS_ONCE) {
         check_all(&rt, &outcomes);
         if let Ok(ends) = outcomes.ends(rt.alloc()) {
-            assert_eq!(&rt; ends.len(), ENDS);
+            equal(&rt, &ends.len(), &ENDS);
         }
     }
 }
@@ -95,18 +94,18 @@ fn check_witnesses(rt: &(impl Abort + AllocGlobal), text: &[u32], outcomes: &Out
     let Ok(ends) = outcomes.ends(rt.alloc()) else {
         return;
     };
-    assert_eq!(rt; ends.len(), ENDS);
+    equal(rt, &ends.len(), &ENDS);
     for place in &ends {
         match is_witnessed(rt.alloc(), &text_alone(text), 2, outcomes, *place) {
-            Ok(yes) => assert!(rt; yes, "{place}"),
-            Err(fault) => assert_eq!(rt; fault, BootFault::NoMemory),
+            Ok(yes) => holds_at(rt, yes, &place),
+            Err(fault) => equal(rt, &fault, &BootFault::NoMemory),
         }
     }
 }
 
 #[test]
 fn witnesses_all_or_wants_memory(rt: HostRuntime) {
-    let text = adds_once();
+    let text = ADDS_ONCE;
     if let Some(outcomes) = searched_or_none(&rt, &text) {
         check_all(&rt, &outcomes);
         check_witnesses(&rt, &text, &outcomes);

@@ -1,5 +1,6 @@
 //! Caches of two shapes: two sets of one line, and one set of two.
 
+use crate::tests::claims::{equal, holds, holds_at};
 use cache::{Cache, Line, Victim};
 use std::process::Abort;
 use std::test::Fail;
@@ -60,8 +61,8 @@ fn fill<const SETS: usize, const WAYS: usize>(
     overflowed: bool,
 ) {
     let block = BlockNo::new(number);
-    assert!(rt; cache.look(block).is_none());
-    assert!(rt; cache.room(block));
+    holds(rt, cache.look(block).is_none());
+    holds(rt, cache.room(block));
     cache.fill(block, COUNTED, state, overflowed);
 }
 
@@ -71,7 +72,7 @@ fn mark_read<const SETS: usize, const WAYS: usize>(
     number: u32,
 ) {
     let block = BlockNo::new(number);
-    assert!(rt; cache.look(block).is_some());
+    holds(rt, cache.look(block).is_some());
     cache.mark_read(block);
 }
 
@@ -82,11 +83,11 @@ fn mark_written<const SETS: usize, const WAYS: usize>(
 ) {
     let block = BlockNo::new(number);
     let found = cache.look(block);
-    assert!(rt; found.is_some());
+    holds(rt, found.is_some());
     if let Some(line) = found {
         match line.state {
             LineState::Modified => cache.mark_written(block),
-            _ => assert!(rt; false, "not modified"),
+            _ => holds_at(rt, false, &"not modified"),
         }
     }
 }
@@ -97,7 +98,7 @@ fn promote<const SETS: usize, const WAYS: usize>(
     number: u32,
 ) {
     let block = BlockNo::new(number);
-    assert!(rt; cache.look(block).is_some());
+    holds(rt, cache.look(block).is_some());
     cache.promote(block);
 }
 
@@ -108,9 +109,9 @@ fn downgrade<const SETS: usize, const WAYS: usize>(
 ) {
     let block = BlockNo::new(number);
     let found = cache.look(block);
-    assert!(rt; found.is_some());
+    holds(rt, found.is_some());
     if let Some(line) = found {
-        assert!(rt; !line.marks.written);
+        holds(rt, !line.marks.written);
         cache.downgrade(block);
     }
 }
@@ -122,13 +123,13 @@ fn store<const SETS: usize, const WAYS: usize>(
     width: Width,
     value: u32,
 ) {
-    assert!(rt; addr.value() % byte_count(width) == 0);
+    holds(rt, addr.value() % byte_count(width) == 0);
     let found = cache.look(addr.block());
-    assert!(rt; found.is_some());
+    holds(rt, found.is_some());
     if let Some(line) = found {
         match line.state {
             LineState::Modified => cache.write_bytes(addr, width, value),
-            _ => assert!(rt; false, "not modified"),
+            _ => holds_at(rt, false, &"not modified"),
         }
     }
 }
@@ -139,7 +140,7 @@ fn check_room<const SETS: usize, const WAYS: usize>(
     number: u32,
     want: bool,
 ) {
-    assert_eq!(rt; cache.room(BlockNo::new(number)), want);
+    equal(rt, &cache.room(BlockNo::new(number)), &want);
 }
 
 fn check_victim<const SETS: usize, const WAYS: usize>(
@@ -148,7 +149,7 @@ fn check_victim<const SETS: usize, const WAYS: usize>(
     number: u32,
     want: Victim,
 ) {
-    assert_eq!(rt; cache.victim(BlockNo::new(number)), want);
+    equal(rt, &cache.victim(BlockNo::new(number)), &want);
 }
 
 fn found<const SETS: usize, const WAYS: usize>(
@@ -159,7 +160,7 @@ fn found<const SETS: usize, const WAYS: usize>(
 }
 
 fn check_content(rt: &impl Abort, line: Option<Line>, want: Block) {
-    assert_eq!(rt; line.map(|line| line.content), Some(want));
+    equal(rt, &line.map(|line| line.content), &Some(want));
 }
 
 fn check_word<const SETS: usize, const WAYS: usize>(
@@ -168,7 +169,7 @@ fn check_word<const SETS: usize, const WAYS: usize>(
     addr: u32,
     want: Option<u32>,
 ) {
-    assert_eq!(rt; cache.read_word(Addr::new(addr)), want);
+    equal(rt, &cache.read_word(Addr::new(addr)), &want);
 }
 
 /// What is done by a row; whether it is one that does something.
@@ -200,7 +201,7 @@ fn see<const SETS: usize, const WAYS: usize>(
     match *row {
         Row::Room(number, want) => check_room(rt, cache, number, want),
         Row::MakesWay(number, want) => check_victim(rt, cache, number, want),
-        Row::Holds(number, want) => assert_eq!(rt; found(cache, number), want),
+        Row::Holds(number, want) => equal(rt, &found(cache, number), &want),
         Row::Content(number, want) => check_content(rt, found(cache, number), want),
         Row::Word(addr, want) => check_word(rt, cache, addr, want),
         _ => return false,
@@ -216,7 +217,7 @@ fn check<const SETS: usize, const WAYS: usize>(
 ) {
     for row in rows {
         let known = act(rt, cache, row) || see(rt, cache, row);
-        assert!(rt; known);
+        holds(rt, known);
     }
 }
 
@@ -351,7 +352,7 @@ fn a_word_is_read_where_it_was_stored(rt: HostRuntime) {
 
 /// Whether two caches are one in all that they keep.
 fn check_same(rt: &impl Abort, cache: &Cache<1, 2>, other: &Cache<1, 2>, want: bool) {
-    assert_eq!(rt; cache.same(other), want);
+    equal(rt, &cache.same(other), &want);
 }
 
 #[test]

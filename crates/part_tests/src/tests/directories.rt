@@ -1,5 +1,6 @@
 //! The directory alone: what arrives at it about one block, and what it sends.
 
+use crate::tests::claims::{equal, holds};
 use directory::{Busy, DirEntry, Directory, Owner, Received};
 use std::process::Abort;
 use std::test::Fail;
@@ -48,8 +49,8 @@ fn harts(rt: &impl Abort, numbers: &[usize]) -> HartSet {
 
 fn get(rt: &impl Abort, directory: &mut Directory, number: usize, kind: Kind) -> Received {
     let from = hart(rt, number);
-    assert!(rt; from.index() < directory.harts());
-    assert!(rt; 1 < directory.blocks());
+    holds(rt, from.index() < directory.harts());
+    holds(rt, 1 < directory.blocks());
     let message = Message::Get {
         from,
         block: BlockNo::new(1),
@@ -70,8 +71,8 @@ fn put(
     marked: bool,
 ) -> Received {
     let from = hart(rt, number);
-    assert!(rt; from.index() < directory.harts());
-    assert!(rt; 1 < directory.blocks());
+    holds(rt, from.index() < directory.harts());
+    holds(rt, 1 < directory.blocks());
     let message = Message::Put {
         from,
         block: BlockNo::new(1),
@@ -89,8 +90,8 @@ fn done(
     content: Option<Block>,
 ) -> Received {
     let from = hart(rt, number);
-    assert!(rt; from.index() < directory.harts());
-    assert!(rt; 1 < directory.blocks());
+    holds(rt, from.index() < directory.harts());
+    holds(rt, 1 < directory.blocks());
     let message = Message::Done {
         from,
         block: BlockNo::new(1),
@@ -142,10 +143,10 @@ fn check_forwards(
     requester: usize,
     expect: &[usize],
 ) {
-    assert_eq!(rt; count(received), Some(expect.len().saturating_add(1)));
+    equal(rt, &count(received), &Some(expect.len().saturating_add(1)));
     for (index, number) in expect.iter().enumerate() {
         let forward = forward(rt, *number, kind, requester);
-        assert_eq!(rt; sent(received, index.saturating_add(1)), Some(forward));
+        equal(rt, &sent(received, index.saturating_add(1)), &Some(forward));
     }
 }
 
@@ -164,7 +165,7 @@ fn check_grants(
         content,
         expect: harts(rt, expect),
     };
-    assert_eq!(rt; sent(received, 0), Some(grant));
+    equal(rt, &sent(received, 0), &Some(grant));
 }
 
 fn check_acknowledges(rt: &impl Abort, received: &Received, number: usize) {
@@ -172,18 +173,18 @@ fn check_acknowledges(rt: &impl Abort, received: &Received, number: usize) {
         to: hart(rt, number),
         block: BlockNo::new(1),
     };
-    assert_eq!(rt; count(received), Some(1));
-    assert_eq!(rt; sent(received, 0), Some(acknowledged));
+    equal(rt, &count(received), &Some(1));
+    equal(rt, &sent(received, 0), &Some(acknowledged));
 }
 
 fn check_count(rt: &impl Abort, received: &Received, want: Option<usize>) {
-    assert_eq!(rt; count(received), want);
+    equal(rt, &count(received), &want);
 }
 
 fn check_busy(rt: &impl Abort, directory: &Directory, number: usize, give: LineState) {
     let requester = hart(rt, number);
     let entry = directory.entry(BlockNo::new(1));
-    assert_eq!(rt; entry.busy, Some(Busy { requester, give }));
+    equal(rt, &entry.busy, &Some(Busy { requester, give }));
 }
 
 fn check_entry(rt: &impl Abort, directory: &Directory, owner: Owner, sharers: &[usize]) {
@@ -192,18 +193,18 @@ fn check_entry(rt: &impl Abort, directory: &Directory, owner: Owner, sharers: &[
         sharers: harts(rt, sharers),
         busy: None,
     };
-    assert_eq!(rt; directory.entry(BlockNo::new(1)), wanted);
-    assert_eq!(rt; directory.entry(BlockNo::new(0)), DirEntry::first());
+    equal(rt, &directory.entry(BlockNo::new(1)), &wanted);
+    equal(rt, &directory.entry(BlockNo::new(0)), &DirEntry::first());
 }
 
 fn check_memory(rt: &impl Abort, directory: &Directory, content: Block) {
-    assert!(rt; 2 < directory.blocks());
-    assert_eq!(rt; directory.memory(BlockNo::new(1)), content);
-    assert_eq!(rt; directory.memory(BlockNo::new(2)), ZEROS);
+    holds(rt, 2 < directory.blocks());
+    equal(rt, &directory.memory(BlockNo::new(1)), &content);
+    equal(rt, &directory.memory(BlockNo::new(2)), &ZEROS);
 }
 
 fn check_used(rt: &impl Abort, directory: &Directory, want: usize) {
-    assert_eq!(rt; directory.used(), want);
+    equal(rt, &directory.used(), &want);
 }
 
 fn check_row(rt: &impl Abort, directory: &mut Directory, row: &Row) {

@@ -1,5 +1,6 @@
 //! Undo logs: their records, and the bytes that these stand in. The calls say nothing of what they answer, so that no test's proof has to carry it.
 
+use crate::tests::claims::{equal, equal_at, equal_text, holds};
 use std::process::Abort;
 use std::test::Fail;
 use undo_log::{LogFull, Record, UndoLog};
@@ -23,8 +24,12 @@ fn check_appended(
     first: u32,
     want: Result<(), LogFull>,
 ) {
-    assert!(rt; number < 4096);
-    assert_eq!(rt; log.append(BlockNo::new(number), &block_of(first)), want);
+    holds(rt, number < 4096);
+    equal(
+        rt,
+        &log.append(BlockNo::new(number), &block_of(first)),
+        &want,
+    );
 }
 
 /// A log with two records of one block, whose first words are 0 and 7.
@@ -37,35 +42,40 @@ fn stored_twice(rt: &impl Abort) -> UndoLog {
 
 /// How many records there are, of the 113 that fill a log.
 fn check_len(rt: &impl Abort, log: &UndoLog, want: usize) {
-    assert_eq!(rt; log.len(), want);
-    assert_eq!(rt; (log.is_empty(), log.is_full()), (want == 0, want == 113));
+    equal(rt, &log.len(), &want);
+    equal(
+        rt,
+        &(log.is_empty(), log.is_full()),
+        &(want == 0, want == 113),
+    );
 }
 
 /// The first word of what a block goes back to, which begins with 9 now.
 fn check_restored(rt: &impl Abort, log: &UndoLog, number: u32, want: u32) {
-    assert_eq!(rt;
-        log.restored(BlockNo::new(number), block_of(9)),
-        block_of(want)
+    equal(
+        rt,
+        &log.restored(BlockNo::new(number), block_of(9)),
+        &block_of(want),
     );
 }
 
 fn check_held(rt: &impl Abort, log: &UndoLog, number: u32, want: bool) {
-    assert_eq!(rt; log.holds(BlockNo::new(number)), want);
+    equal(rt, &log.holds(BlockNo::new(number)), &want);
 }
 
 /// The newest record is that of block 256, whose content began with a word before. It is taken off.
 fn check_popped(rt: &impl Abort, log: &mut UndoLog, first: u32) {
-    assert!(rt; log.len() > 0);
+    holds(rt, log.len() > 0);
     let record = Record {
         block: BlockNo::new(256),
         before: block_of(first),
     };
-    assert_eq!(rt; log.newest(), record);
+    equal(rt, &log.newest(), &record);
     log.pop();
 }
 
 fn check_word(rt: &impl Abort, log: &UndoLog, addr: u32, want: Option<u32>) {
-    assert_eq!(rt; log.word(Addr::new(addr)), want, "at {addr}");
+    equal_at(rt, &log.word(Addr::new(addr)), &want, &addr);
 }
 
 fn check_words(rt: &impl Abort, log: &UndoLog, words: &[(u32, Option<u32>)]) {
@@ -75,7 +85,7 @@ fn check_words(rt: &impl Abort, log: &UndoLog, words: &[(u32, Option<u32>)]) {
 }
 
 fn check_same(rt: &impl Abort, log: &UndoLog, other: &UndoLog, want: bool) {
-    assert_eq!(rt; log.same(other), want);
+    equal(rt, &log.same(other), &want);
 }
 
 fn reset(log: &mut UndoLog) {
@@ -159,9 +169,10 @@ fn other_bytes_are_another_log(rt: HostRuntime) -> Result<(), Fail> {
     check_same(&rt, &log, &fresh, false);
     fresh = log;
     check_same(&rt, &log, &fresh, true);
-    assert_eq!(rt;
+    equal_text(
+        &rt,
         LogFull.to_string(rt.alloc())?.as_str(),
-        "the undo log is full"
+        "the undo log is full",
     );
     Ok(())
 }

@@ -1,5 +1,6 @@
 //! Messages in flight, by key and by age. The calls say nothing of what they answer, so that no test's proof has to carry it.
 
+use crate::tests::claims::{equal, holds};
 use network::Net;
 use std::process::Abort;
 use words::{BlockNo, HartId, Message};
@@ -21,14 +22,14 @@ fn block_of(message: &Message) -> u32 {
 
 /// A message is sent, for which there is room: its key.
 fn send(rt: &impl Abort, net: &mut Net, block: u32) -> usize {
-    assert!(rt; net.room() > 0);
+    holds(rt, net.room() > 0);
     net.send(ack(block))
 }
 
 /// A network, and the keys of its three messages, which are told by 1, 2 and 3.
 fn with_three(rt: &(impl Abort + AllocGlobal)) -> (Net, [usize; 3]) {
     let mut net = Net::new(rt.alloc());
-    assert_eq!(rt; net.room(), 0);
+    equal(rt, &net.room(), &0);
     net.reserve(3).expect(rt, "memory");
     let first = send(rt, &mut net, 1);
     let second = send(rt, &mut net, 2);
@@ -37,7 +38,7 @@ fn with_three(rt: &(impl Abort + AllocGlobal)) -> (Net, [usize; 3]) {
 }
 
 fn check_message(rt: &impl Abort, net: &Net, key: usize, want: Option<Message>) {
-    assert_eq!(rt; net.get(key), want);
+    equal(rt, &net.get(key), &want);
 }
 
 fn oldest(net: &Net) -> Option<usize> {
@@ -45,7 +46,7 @@ fn oldest(net: &Net) -> Option<usize> {
 }
 
 fn check_oldest(rt: &impl Abort, net: &Net, want: usize) {
-    assert_eq!(rt; oldest(net), Some(want));
+    equal(rt, &oldest(net), &Some(want));
 }
 
 /// The key of the oldest message that is told by a number above this one.
@@ -54,12 +55,12 @@ fn oldest_above(net: &Net, least: u32) -> Option<usize> {
 }
 
 fn check_oldest_above(rt: &impl Abort, net: &Net, least: u32, want: Option<usize>) {
-    assert_eq!(rt; oldest_above(net, least), want);
+    equal(rt, &oldest_above(net, least), &want);
 }
 
 /// That this message is the one under a key, and is taken out.
 fn check_taken(rt: &impl Abort, net: &mut Net, key: usize, want: Option<Message>) {
-    assert_eq!(rt; net.take(key), want);
+    equal(rt, &net.take(key), &want);
 }
 
 fn next_after(net: &Net, key: Option<usize>) -> Option<usize> {
@@ -67,11 +68,11 @@ fn next_after(net: &Net, key: Option<usize>) -> Option<usize> {
 }
 
 fn check_next(rt: &impl Abort, net: &Net, key: Option<usize>, want: Option<usize>) {
-    assert_eq!(rt; next_after(net, key), want);
+    equal(rt, &next_after(net, key), &want);
 }
 
 fn check_key(rt: &impl Abort, key: usize, want: usize) {
-    assert_eq!(rt; key, want);
+    equal(rt, &key, &want);
 }
 
 #[test]
@@ -93,7 +94,7 @@ fn messages_keep_their_order(rt: HostRuntime) {
 
 /// That so much room isn't given.
 fn check_refused(rt: &impl Abort, net: &mut Net, count: usize) {
-    assert!(rt; net.reserve(count).is_err());
+    holds(rt, net.reserve(count).is_err());
 }
 
 #[test]

@@ -1,5 +1,6 @@
 //! A transaction through its depths, its commits and its aborts.
 
+use crate::tests::claims::{equal, equal_text, holds};
 use std::process::Abort;
 use std::test::Fail;
 use transaction::{Restart, Tx, TxFault};
@@ -23,46 +24,47 @@ fn check_begin(
     count: u64,
     want: Result<bool, TxFault>,
 ) {
-    assert!(rt; tx.aborting().is_none());
-    assert_eq!(rt; tx.begin(regs, Addr::new(pc), stamp(count)), want);
+    holds(rt, tx.aborting().is_none());
+    equal(rt, &tx.begin(regs, Addr::new(pc), stamp(count)), &want);
 }
 
 /// A transaction that began with `REGS`, the abort pc 0x1014 and the stamp of count 5.
 fn begun(rt: &impl Abort) -> Tx {
     let mut tx = Tx::new(Addr::new(0xff000));
     check_begin(rt, &mut tx, &REGS, 0x1014, 5, Ok(true));
-    assert!(rt; tx.aborting().is_none());
+    holds(rt, tx.aborting().is_none());
     tx
 }
 
 /// The stamp of the transaction.
 fn check_stamp(rt: &impl Abort, tx: &Tx, count: u64) {
-    assert_eq!(rt; tx.stamp(), Some(stamp(count)));
+    equal(rt, &tx.stamp(), &Some(stamp(count)));
 }
 
 /// The stamp of the transaction, and that which is kept for the next.
 fn check_stamps(rt: &impl Abort, tx: &Tx, running: Option<u64>, kept: Option<u64>) {
-    assert_eq!(rt; tx.stamp(), running.map(stamp));
-    assert_eq!(rt; tx.kept_stamp(), kept.map(stamp));
+    equal(rt, &tx.stamp(), &running.map(stamp));
+    equal(rt, &tx.kept_stamp(), &kept.map(stamp));
 }
 
 /// A record is appended, whose content is ones.
 fn append(rt: &impl Abort, tx: &mut Tx) {
-    assert_eq!(rt; tx.append_record(BlockNo::new(256), &[1; 8]), Ok(()));
+    equal(rt, &tx.append_record(BlockNo::new(256), &[1; 8]), &Ok(()));
 }
 
 /// Asserts the depth, both flags and how many records the log has.
 fn check_state(rt: &impl Abort, tx: &Tx, depth: u8, flags: bool, records: usize) {
-    assert_eq!(rt;
-        (tx.depth(), tx.overflow(), tx.cycle()),
-        (depth, flags, flags)
+    equal(
+        rt,
+        &(tx.depth(), tx.overflow(), tx.cycle()),
+        &(depth, flags, flags),
     );
-    assert_eq!(rt; tx.log().len(), records);
+    equal(rt, &tx.log().len(), &records);
 }
 
 fn check_commit(rt: &impl Abort, tx: &mut Tx) {
-    assert!(rt; tx.aborting().is_none());
-    assert_eq!(rt; tx.commit(), Ok(()));
+    holds(rt, tx.aborting().is_none());
+    equal(rt, &tx.commit(), &Ok(()));
 }
 
 /// A transaction in a transaction, with a record and both flags.
@@ -79,11 +81,12 @@ fn nested(rt: &impl Abort) -> Tx {
 fn an_inner_begin_keeps_what_the_outermost_took(rt: HostRuntime) {
     let tx = nested(&rt);
     check_state(&rt, &tx, 2, true, 1);
-    assert_eq!(rt;
-        (tx.stamp(), tx.abort_pc()),
-        (Some(stamp(5)), Addr::new(0x1014))
+    equal(
+        &rt,
+        &(tx.stamp(), tx.abort_pc()),
+        &(Some(stamp(5)), Addr::new(0x1014)),
     );
-    assert_eq!(rt; tx.checkpoint()[31], 7);
+    equal(&rt, &tx.checkpoint()[31], &7);
 }
 
 #[test]
@@ -101,10 +104,14 @@ fn outside_nothing_commits_and_nothing_aborts(rt: HostRuntime) {
     let mut tx = begun(&rt);
     check_commit(&rt, &mut tx);
     let before = tx;
-    assert!(rt; tx.aborting().is_none());
-    assert_eq!(rt; tx.commit(), Err(TxFault::Outside));
-    assert_eq!(rt; tx.start_abort(AbortCause::Asked), Err(TxFault::Outside));
-    assert!(rt; tx.same(&before) && tx.aborting().is_none());
+    holds(&rt, tx.aborting().is_none());
+    equal(&rt, &tx.commit(), &Err(TxFault::Outside));
+    equal(
+        &rt,
+        &tx.start_abort(AbortCause::Asked),
+        &Err(TxFault::Outside),
+    );
+    holds(&rt, tx.same(&before) && tx.aborting().is_none());
 }
 
 #[test]
@@ -116,13 +123,13 @@ fn a_commit_leaves_no_stamp_for_the_next(rt: HostRuntime) {
 }
 
 fn start_abort(rt: &impl Abort, tx: &mut Tx, cause: AbortCause) {
-    assert!(rt; tx.aborting().is_none());
-    assert_eq!(rt; tx.start_abort(cause), Ok(()));
+    holds(rt, tx.aborting().is_none());
+    equal(rt, &tx.start_abort(cause), &Ok(()));
 }
 
 /// The one record is taken.
 fn pop(rt: &impl Abort, tx: &mut Tx) {
-    assert!(rt; !tx.log().is_empty());
+    holds(rt, !tx.log().is_empty());
     tx.pop_record();
 }
 
@@ -138,7 +145,7 @@ fn undone(rt: &impl Abort, cause: AbortCause) -> Tx {
 
 /// The abort of a transaction ends, whose records are all taken.
 fn end_abort(rt: &impl Abort, tx: &mut Tx) -> Restart {
-    assert!(rt; tx.log().is_empty() && tx.aborting().is_some());
+    holds(rt, tx.log().is_empty() && tx.aborting().is_some());
     tx.end_abort()
 }
 
@@ -146,12 +153,13 @@ fn end_abort(rt: &impl Abort, tx: &mut Tx) -> Restart {
 fn an_abort_restarts_at_the_checkpoint(rt: HostRuntime) {
     let cause = AbortCause::Trapped(Cause::Illegal, Addr::new(0x1008));
     let mut tx = undone(&rt, cause);
-    assert_eq!(rt; tx.aborting(), Some(cause));
-    assert!(rt; tx.log().is_empty() && tx.aborting().is_some());
+    equal(&rt, &tx.aborting(), &Some(cause));
+    holds(&rt, tx.log().is_empty() && tx.aborting().is_some());
     let restart = tx.end_abort();
-    assert_eq!(rt;
-        (restart.regs[31], restart.pc, restart.cause),
-        (7, Addr::new(0x1014), cause)
+    equal(
+        &rt,
+        &(restart.regs[31], restart.pc, restart.cause),
+        &(7, Addr::new(0x1014), cause),
     );
     check_state(&rt, &tx, 0, false, 0);
 }
@@ -172,7 +180,7 @@ fn nests_255_deep(rt: HostRuntime) {
         check_begin(&rt, &mut tx, &REGS, 0, 0, Ok(depth == 0));
     }
     check_begin(&rt, &mut tx, &REGS, 0, 0, Err(TxFault::TooDeep));
-    assert_eq!(rt; tx.depth(), 255);
+    equal(&rt, &tx.depth(), &255);
 }
 
 #[test]
@@ -180,16 +188,19 @@ fn gives_way_to_an_earlier_one(rt: HostRuntime) {
     let mut tx = begun(&rt);
     tx.note_refusal(Some(stamp(6)));
     tx.note_refusal(None);
-    assert!(rt; !tx.cycle() && !tx.must_abort(true));
+    holds(&rt, !tx.cycle() && !tx.must_abort(true));
     tx.note_refusal(Some(stamp(4)));
-    assert!(rt; tx.cycle() && tx.must_abort(true) && !tx.must_abort(false));
+    holds(
+        &rt,
+        tx.cycle() && tx.must_abort(true) && !tx.must_abort(false),
+    );
 }
 
 #[test]
 fn faults_have_texts(rt: HostRuntime) -> Result<(), Fail> {
     let deep = TxFault::TooDeep.to_string(rt.alloc())?;
     let outside = TxFault::Outside.to_string(rt.alloc())?;
-    assert_eq!(rt; deep.as_str(), "1 TooDeep");
-    assert_eq!(rt; outside.as_str(), "2 Outside");
+    equal_text(&rt, deep.as_str(), "1 TooDeep");
+    equal_text(&rt, outside.as_str(), "2 Outside");
     Ok(())
 }

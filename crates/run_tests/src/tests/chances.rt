@@ -1,6 +1,7 @@
 //! Steps by chance: a run played again by its history, the same seed twice, and other seeds.
 
 use super::booted::booted_in;
+use crate::tests::claims::{equal, holds};
 use machine::{Machine, Silent};
 use reference::COUNTS;
 use schedule::{Chance, Choice, KeptChance, Mix, Turns, play, put_history, read};
@@ -33,7 +34,7 @@ fn played(rt: &(impl Abort + AllocGlobal), seed: u64) -> Result<(Vec<u8>, Machin
         bytes: Vec::new(rt.alloc()),
         failed: 0,
     };
-    assert!(rt; put_history(&mut sink, chance.history()).is_ok());
+    holds(rt, put_history(&mut sink, chance.history()).is_ok());
     Ok((sink.bytes, machine))
 }
 
@@ -41,11 +42,11 @@ fn played(rt: &(impl Abort + AllocGlobal), seed: u64) -> Result<(Vec<u8>, Machin
 fn check_same(rt: &impl Abort, machine: &Machine<2, 1>, other: &Machine<2, 1>) {
     for number in 0..2 {
         let hart = HartId::new(number);
-        assert_eq!(rt; machine.regs(hart), other.regs(hart));
+        equal(rt, &machine.regs(hart), &other.regs(hart));
     }
     for word in 0..2048u32 {
         let addr = Addr::new(0x1000 + 4 * word);
-        assert_eq!(rt; machine.peek(addr), other.peek(addr));
+        equal(rt, &machine.peek(addr), &other.peek(addr));
     }
 }
 
@@ -66,10 +67,10 @@ fn a_history_is_played_again(rt: HostRuntime) -> Result<(), Fail> {
 fn a_seed_says_all(rt: HostRuntime) -> Result<(), Fail> {
     let (first, machine) = played(&rt, 5)?;
     let (again, other) = played(&rt, 5)?;
-    assert!(rt; first == again);
+    holds(&rt, first == again);
     check_same(&rt, &machine, &other);
     let (another, _) = played(&rt, 6)?;
-    assert!(rt; first != another);
+    holds(&rt, first != another);
     Ok(())
 }
 
@@ -79,8 +80,8 @@ fn a_run_by_chance_ends(rt: HostRuntime) -> Result<(), Fail> {
         let mut machine = begun(&rt)?;
         let mut chance = Chance::new(seed, MIX);
         play(&mut machine, &[], STEPS, &mut chance, &mut Silent)?;
-        assert!(rt; !machine.runs());
-        assert_eq!(rt; machine.peek(Addr::new(0x2000)), Some(200));
+        holds(&rt, !machine.runs());
+        equal(&rt, &machine.peek(Addr::new(0x2000)), &Some(200));
     }
     Ok(())
 }

@@ -1,5 +1,6 @@
 //! Each command with a put that fails, and with memory that runs out.
 use super::booted::{LOADS_AND_STORES, booted_in};
+use crate::tests::claims::{equal, equal_at, holds, holds_at};
 use debugger::commands::{Command, DebugFault, command_of};
 use debugger::{Flow, Session};
 use disassembler::Symbols;
@@ -26,7 +27,7 @@ fn do_command(
     if answer != Err(DebugFault::NoMemory) {
         return answer;
     }
-    assert!(rt; sink.bytes.is_empty());
+    holds(rt, sink.bytes.is_empty());
     session.command(names, command, sink)
 }
 
@@ -44,8 +45,8 @@ fn check_done(
         failed: 0,
     };
     let answer = do_command(rt, &Symbols::none(alloc), session, command, &mut sink);
-    assert_eq!(rt; answer, Ok(Flow::Go), "at {line}");
-    assert_eq!(rt; sink.bytes.as_slice(), told.as_bytes(), "at {line}");
+    equal_at(rt, &answer, &Ok(Flow::Go), &line);
+    equal_at(rt, &sink.bytes.as_slice(), &told.as_bytes(), &line);
     Ok(())
 }
 
@@ -62,9 +63,10 @@ fn go(
     if answer == Err(DebugFault::NoMemory) {
         Err("memory ran out")?;
     }
-    assert!(rt;
+    holds_at(
+        rt,
         answer == Ok(Flow::Go) || answer == Err(DebugFault::Limit),
-        "at {line}"
+        &line,
     );
     Ok(())
 }
@@ -87,8 +89,8 @@ fn check_sink(rt: &impl Abort, sink: &Breaking, cut: bool, told: &str, line: &st
     let bytes = sink.bytes.as_slice();
     let has_begun = told.as_bytes().starts_with(bytes);
     let is_whole = bytes.len() == told.len();
-    assert!(rt; has_begun && is_whole != cut, "at {line}");
-    assert_eq!(rt; sink.failed, u64::from(cut), "at {line}");
+    holds_at(rt, has_begun && is_whole != cut, &line);
+    equal_at(rt, &sink.failed, &u64::from(cut), &line);
 }
 
 /// Whether a put failed, the last of so many that the sink takes: then the fault is told, and a beginning was taken.
@@ -104,7 +106,7 @@ fn is_cut(
     let mut sink = Breaking::new(alloc, left);
     let answer = session.command(&Symbols::none(alloc), command, &mut sink);
     let cut = answer == Err(DebugFault::Device);
-    assert!(rt; cut || answer == Ok(Flow::Go), "at {line}");
+    holds_at(rt, cut || answer == Ok(Flow::Go), &line);
     check_sink(rt, &sink, cut, told, line);
     Ok(cut)
 }
@@ -155,9 +157,9 @@ fn check_cuts(rt: &(impl Abort + AllocGlobal), case: &Case<'_>) -> Result<(), Fa
     let mut whole = false;
     for left in 0..20 {
         whole = !is_cut_by(rt, case, left)?;
-        assert!(rt; left > 0 || !whole, "at {line}");
+        holds_at(rt, left > 0 || !whole, &line);
     }
-    assert!(rt; whole, "at {line}");
+    holds_at(rt, whole, &line);
     Ok(())
 }
 
@@ -305,13 +307,15 @@ fn what_tells_nothing_meets_no_fault(rt: HostRuntime) -> Result<(), Fail> {
     let mut session: Session<16, 4> = Session::new(booted_in(rt.alloc(), &EXIT, 1, 131_072)?);
     let mut sink = Breaking::new(rt.alloc(), 0);
     let names = Symbols::none(rt.alloc());
-    assert_eq!(rt;
-        session.command(&names, Command::Quit, &mut sink),
-        Ok(Flow::Quit)
+    equal(
+        &rt,
+        &session.command(&names, Command::Quit, &mut sink),
+        &Ok(Flow::Quit),
     );
-    assert_eq!(rt;
-        session.command(&names, Command::Comment, &mut sink),
-        Ok(Flow::Go)
+    equal(
+        &rt,
+        &session.command(&names, Command::Comment, &mut sink),
+        &Ok(Flow::Go),
     );
     Ok(())
 }

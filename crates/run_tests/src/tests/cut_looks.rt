@@ -1,5 +1,6 @@
 //! Looks at programs on the coherent machine, with each put refused in turn.
 use super::booted::{STORES_ONCE, booted_in};
+use crate::tests::claims::{equal_at, holds_at};
 use debugger::commands::{DebugFault, Look, help, look};
 use disassembler::Symbols;
 use machine::Machine;
@@ -83,13 +84,13 @@ fn check_cut<const SETS: usize, const WAYS: usize>(
             let mut sink = Breaking::new(rt.alloc(), left);
             let answer = look(machine, &Symbols::none(rt.alloc()), *what, &mut sink);
             whole = answer == Ok(());
-            assert!(rt; whole || answer == Err(DebugFault::Device), "{shown}");
-            assert_eq!(rt; sink.failed == 0, whole, "{shown}");
-            assert!(rt; shown.as_bytes().starts_with(&sink.bytes), "{shown}");
-            assert_eq!(rt; sink.bytes.len() == shown.len(), whole, "{shown}");
-            assert!(rt; left > 0 || !whole, "{shown}");
+            holds_at(rt, whole || answer == Err(DebugFault::Device), &shown);
+            equal_at(rt, &(sink.failed == 0), &whole, &shown);
+            holds_at(rt, shown.as_bytes().starts_with(&sink.bytes), &shown);
+            equal_at(rt, &(sink.bytes.len() == shown.len()), &whole, &shown);
+            holds_at(rt, left > 0 || !whole, &shown);
         }
-        assert!(rt; whole, "{shown}");
+        holds_at(rt, whole, &shown);
     }
 }
 

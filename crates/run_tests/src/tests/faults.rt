@@ -1,5 +1,6 @@
 //! The text of each fault of a schedule, a run and a session.
 
+use crate::tests::claims::{equal, equal_text};
 use debugger::ConsoleFault;
 use debugger::commands::DebugFault;
 use schedule::{Halt, ScheduleFault, Unseen};
@@ -14,7 +15,7 @@ fn check_text<F: Display>(
     fault: &F,
     text: &str,
 ) -> Result<(), AllocError> {
-    assert_eq!(rt; fault.to_string(rt.alloc())?.as_str(), text);
+    equal_text(rt, fault.to_string(rt.alloc())?.as_str(), text);
     Ok(())
 }
 
@@ -29,7 +30,7 @@ fn faults_of_a_command_have_their_numbers(rt: HostRuntime) -> Result<(), AllocEr
         (DebugFault::from(AllocError), "6 NoMemory"),
         (DebugFault::from(SinkFault), "7 Device"),
     ] {
-        assert_eq!(rt; fault.text(), text);
+        equal(&rt, &fault.text(), &text);
         check_text(&rt, &fault, text)?;
     }
     Ok(())

@@ -1,6 +1,7 @@
 //! The page of a program that stores 7 to 0x2000 in a transaction, and exits: the store misses, and its hart asks the directory for the block.
 use super::booted::booted;
 use super::refusing::Refusing;
+use crate::tests::claims::{equal, equal_at, holds, holds_at};
 use disassembler::Symbols;
 use machine::Silent;
 use pages::put_page;
@@ -70,12 +71,12 @@ fn each_moment_has_a_line(rt: HostRuntime) {
     match paged(&rt, &COMMITS, 9, &mut sink) {
         Ok(()) => {
             let text = str::from_utf8(&sink.bytes).expect(&rt, "text");
-            assert!(rt; text.contains(LINES), "{text}");
-            assert!(rt; text.starts_with("<!DOCTYPE html>\n"));
-            assert!(rt; text.ends_with("</script>\n</body>\n</html>\n"));
+            holds_at(&rt, text.contains(LINES), &text);
+            holds(&rt, text.starts_with("<!DOCTYPE html>\n"));
+            holds(&rt, text.ends_with("</script>\n</body>\n</html>\n"));
         }
-        Err(Halt::NoMemory) => assert_eq!(rt; sink.failed, 0),
-        Err(Halt::Untold) => assert_eq!(rt; sink.failed, 1),
+        Err(Halt::NoMemory) => equal(&rt, &sink.failed, &0),
+        Err(Halt::Untold) => equal(&rt, &sink.failed, &1),
     }
 }
 
@@ -86,8 +87,8 @@ fn each_put_that_is_refused_is_told(rt: HostRuntime) {
         let mut sink = Refusing { left, failed: 0 };
         let put = paged(&rt, &COMMITS, 9, &mut sink);
         if put != Err(Halt::NoMemory) {
-            assert_eq!(rt; put, Err(Halt::Untold), "after {left}");
-            assert_eq!(rt; sink.failed, 1);
+            equal_at(&rt, &put, &Err(Halt::Untold), &left);
+            equal(&rt, &sink.failed, &1);
         }
     }
     let mut sink = Refusing {
@@ -95,6 +96,6 @@ fn each_put_that_is_refused_is_told(rt: HostRuntime) {
         failed: 0,
     };
     if paged(&rt, &COMMITS, 9, &mut sink) != Err(Halt::NoMemory) {
-        assert_eq!(rt; sink.failed, 0);
+        equal(&rt, &sink.failed, &0);
     }
 }

@@ -1,6 +1,7 @@
 //! Pictures of programs that store 7 to 0x2000 in a transaction: the store misses, and its hart asks the directory for the block.
 use super::booted::booted;
 use super::refusing::Refusing;
+use crate::tests::claims::{equal, equal_at, holds_at};
 use reference::{ABORTS, COMMITS};
 use schedule::{Halt, Turns};
 use std::alloc::Global;
@@ -58,9 +59,13 @@ fn taken(alloc: Global) -> Taken {
 fn each_step_is_a_row(rt: HostRuntime) {
     let mut sink = taken(rt.alloc());
     match drawn(&rt, &COMMITS, 1000, &mut sink) {
-        Ok(()) => assert_eq!(rt; str::from_utf8(&sink.bytes).expect(&rt, "text"), PICTURE),
-        Err(Halt::NoMemory) => assert_eq!(rt; sink.bytes.len(), 0),
-        Err(Halt::Untold) => assert_eq!(rt; sink.failed, 1),
+        Ok(()) => equal(
+            &rt,
+            &str::from_utf8(&sink.bytes).expect(&rt, "text"),
+            &PICTURE,
+        ),
+        Err(Halt::NoMemory) => equal(&rt, &sink.bytes.len(), &0),
+        Err(Halt::Untold) => equal(&rt, &sink.failed, &1),
     }
 }
 
@@ -74,7 +79,7 @@ fn a_bar_ends_with_its_transaction(rt: HostRuntime) {
         let mut sink = taken(rt.alloc());
         if drawn(&rt, &ABORTS, steps, &mut sink) == Ok(()) {
             let text = str::from_utf8(&sink.bytes).expect(&rt, "text");
-            assert!(rt; text.contains(bar), "{steps}");
+            holds_at(&rt, text.contains(bar), &steps);
         }
     }
 }
@@ -92,8 +97,8 @@ fn each_put_that_is_refused_is_told(rt: HostRuntime) {
             Ok(())
         };
         if put != Err(Halt::NoMemory) {
-            assert_eq!(rt; put, want, "after {left}");
-            assert_eq!(rt; sink.failed, u64::from(left < pieces));
+            equal_at(&rt, &put, &want, &left);
+            equal(&rt, &sink.failed, &u64::from(left < pieces));
         }
     }
 }

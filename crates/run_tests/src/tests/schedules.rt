@@ -1,5 +1,6 @@
 //! Lines with what they spell, and the steps of a machine.
 use super::booted::booted;
+use crate::tests::claims::{equal, equal_at, equal_items, holds, holds_at};
 use machine::{Machine, Silent};
 use reference::COMMITS;
 use schedule::{Choice, Name, ScheduleFault, Sort, Turns, choice, name_of, play, read};
@@ -49,7 +50,7 @@ fn lines_are_taken(rt: HostRuntime) {
         ("deliver nack 07 0x02000", named(Sort::Nack, 7, 256)),
     ];
     for (line, want) in cases {
-        assert_eq!(rt; choice(line), want, "at {line}");
+        equal_at(&rt, &choice(line), &want, &line);
     }
 }
 
@@ -62,7 +63,7 @@ const REFUSED: &str =
 #[test]
 fn lines_are_refused(rt: HostRuntime) {
     for line in REFUSED.split('|') {
-        assert!(rt; choice(line).is_none(), "at {line}");
+        holds_at(&rt, choice(line).is_none(), &line);
     }
 }
 
@@ -72,14 +73,14 @@ fn texts_are_read(rt: HostRuntime) {
     let ack = named(Sort::Ack, 0, 1).expect(&rt, "a choice");
     let want = [Choice::Core(hart(1)), Choice::Turn, ack];
     match read(rt.alloc(), text) {
-        Ok(choices) => assert_eq!(rt; choices.as_slice(), want.as_slice()),
-        Err(fault) => assert_eq!(rt; fault, ScheduleFault::NoMemory),
+        Ok(choices) => equal_items(&rt, &choices, &want),
+        Err(fault) => equal(&rt, &fault, &ScheduleFault::NoMemory),
     }
     for (text, line) in [("turns", 1), ("turn\n\n#\n core 0\n?", 4), ("turn\r\n", 1)] {
         match read(rt.alloc(), text) {
-            Ok(_) => assert!(rt; false),
+            Ok(_) => holds(&rt, false),
             Err(ScheduleFault::NoMemory) => {}
-            Err(fault) => assert_eq!(rt; fault, ScheduleFault::Line(line)),
+            Err(fault) => equal(&rt, &fault, &ScheduleFault::Line(line)),
         }
     }
 }
@@ -99,15 +100,17 @@ fn answers_are_named_for_their_senders(rt: HostRuntime) {
         requester: hart(2),
         stamp: None,
     };
-    assert_eq!(rt;
-        Some(Choice::Deliver(name_of(&ack))),
-        named(Sort::Ack, 1, 3)
+    equal(
+        &rt,
+        &Some(Choice::Deliver(name_of(&ack))),
+        &named(Sort::Ack, 1, 3),
     );
-    assert_eq!(rt;
-        Some(Choice::Deliver(name_of(&forward))),
-        named(Sort::Forward, 1, 3)
+    equal(
+        &rt,
+        &Some(Choice::Deliver(name_of(&forward))),
+        &named(Sort::Forward, 1, 3),
     );
-    assert_eq!(rt; Sort::PutAck.name(), "putack");
+    equal(&rt, &Sort::PutAck.name(), &"putack");
 }
 
 /// Goes on by these choices and turns, so many steps.
@@ -126,17 +129,17 @@ fn step_after(rt: &(impl Abort + AllocGlobal), steps: u32, choice: Choice) -> Op
 #[test]
 fn a_message_is_found_by_its_name(rt: HostRuntime) {
     let get = named(Sort::Get, 0, 256).expect(&rt, "a choice");
-    assert_eq!(rt; step_after(&rt, 0, get), None);
+    equal(&rt, &step_after(&rt, 0, get), &None);
     let found = step_after(&rt, 4, get);
-    assert!(rt; matches!(found, Some(Step::Deliver(_))));
-    assert_eq!(rt; step_after(&rt, 4, Choice::Turn), found);
+    holds(&rt, matches!(found, Some(Step::Deliver(_))));
+    equal(&rt, &step_after(&rt, 4, Choice::Turn), &found);
     for (sort, number, block) in [
         (Sort::Put, 0, 256),
         (Sort::Get, 1, 256),
         (Sort::Get, 0, 257),
     ] {
         let other = named(sort, number, block).expect(&rt, "a choice");
-        assert_eq!(rt; step_after(&rt, 4, other), None);
+        equal(&rt, &step_after(&rt, 4, other), &None);
     }
 }
 
@@ -165,6 +168,6 @@ fn choices_and_turns_are_followed(rt: HostRuntime) {
         (&choices[..], 14, Status::Exited(0)),
         (&[], 100, Status::Exited(0)),
     ] {
-        assert_eq!(rt; followed(&rt, choices, steps), (status, Some(7)));
+        equal(&rt, &followed(&rt, choices, steps), &(status, Some(7)));
     }
 }

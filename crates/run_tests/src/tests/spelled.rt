@@ -1,4 +1,5 @@
 //! Lines with what they spell.
+use crate::tests::claims::equal_at;
 use debugger::commands::{Command, Look, command_of};
 use disassembler::Symbols;
 use schedule::Sort;
@@ -38,10 +39,11 @@ static COMMANDS: [(&str, Command); 29] = [
 
 /// That a line spells this command.
 fn check_read(rt: &(impl Abort + AllocGlobal), line: &str, want: Command) {
-    assert_eq!(rt;
-        command_of(&Symbols::none(rt.alloc()), line),
-        Some(want),
-        "at {line}"
+    equal_at(
+        rt,
+        &command_of(&Symbols::none(rt.alloc()), line),
+        &Some(want),
+        &line,
     );
 }
 

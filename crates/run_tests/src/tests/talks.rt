@@ -1,4 +1,5 @@
 //! Lines that are typed, with what the user is told and how often they are asked for.
+use crate::tests::claims::{equal, equal_items};
 use debugger::commands::{Command, DebugFault};
 use debugger::{ConsoleFault, Debugged, Typed, play};
 use disassembler::Symbols;
@@ -93,9 +94,9 @@ fn check(rt: &(impl Abort + AllocGlobal), typed: &[u8], asked: &[u8], told: &str
         &mut prompts,
         &mut out,
     );
-    assert_eq!(rt; end, Ok(()));
-    assert_eq!(rt; prompts.bytes.as_slice(), asked);
-    assert_eq!(rt; out.bytes.as_slice(), told.as_bytes());
+    equal(rt, &end, &Ok(()));
+    equal_items(rt, &prompts.bytes, asked);
+    equal_items(rt, &out.bytes, told.as_bytes());
 }
 
 #[test]
@@ -147,7 +148,7 @@ fn check_unwritten(rt: &(impl Abort + AllocGlobal), typed: &str, closed: &mut Cl
         &mut taken(rt.alloc()),
         closed,
     );
-    assert_eq!(rt; end, Err(ConsoleFault::Unwritten));
+    equal(rt, &end, &Err(ConsoleFault::Unwritten));
 }
 
 #[test]
@@ -172,8 +173,8 @@ fn check_unreadable(rt: &(impl Abort + AllocGlobal), out: &mut Taken) {
         &mut taken(rt.alloc()),
         out,
     );
-    assert_eq!(rt; end, Err(ConsoleFault::Unreadable));
-    assert_eq!(rt; out.bytes.as_slice(), b"stepped\n".as_slice());
+    equal(rt, &end, &Err(ConsoleFault::Unreadable));
+    equal_items(rt, &out.bytes, b"stepped\n");
 }
 
 #[test]
@@ -195,8 +196,8 @@ fn check_unprompted(rt: &(impl Abort + AllocGlobal), closed: &mut Closed, out: &
         closed,
         out,
     );
-    assert_eq!(rt; end, Err(ConsoleFault::Unwritten));
-    assert_eq!(rt; out.bytes.as_slice(), b"stepped\n".as_slice());
+    equal(rt, &end, &Err(ConsoleFault::Unwritten));
+    equal_items(rt, &out.bytes, b"stepped\n");
 }
 
 #[test]

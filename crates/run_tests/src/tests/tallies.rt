@@ -1,5 +1,6 @@
 //! What programs of a few words count as.
 use super::booted::booted;
+use crate::tests::claims::equal;
 use machine::Silent;
 use reference::{ABORTS, COMMITS};
 use schedule::Turns;
@@ -15,7 +16,7 @@ fn counted(rt: &(impl Abort + AllocGlobal), text: &[u32], harts: u32) -> Tally {
 /// That each of the two harts has this count.
 fn check_both(rt: &impl Abort, tally: &Tally, kind: Kind, want: u64) {
     for hart in [HartId::new(0), HartId::new(1)] {
-        assert_eq!(rt; tally.harts.count(hart, kind), want);
+        equal(rt, &tally.harts.count(hart, kind), &want);
     }
 }
 
@@ -26,7 +27,11 @@ fn a_commit_is_counted(rt: HostRuntime) {
     check_both(&rt, &tally, Kind::Asked, 0);
     check_both(&rt, &tally, Kind::Spilled, 0);
     let given = tally.harts.count(HartId::new(0), Kind::Refused);
-    assert_eq!(rt; tally.harts.count(HartId::new(1), Kind::WasRefused), given);
+    equal(
+        &rt,
+        &tally.harts.count(HartId::new(1), Kind::WasRefused),
+        &given,
+    );
 }
 
 #[test]

@@ -1,6 +1,7 @@
 //! The timeline of a program that stores 7 to 0x2000 in a transaction, and exits: the store misses, and its hart asks the directory for the block.
 use super::booted::booted;
 use super::refusing::Refusing;
+use crate::tests::claims::{equal, equal_at, holds};
 use json::{Scratch, is_valid};
 use machine::Silent;
 use reference::{ABORTS, COMMITS};
@@ -62,13 +63,14 @@ fn each_step_has_its_events(rt: HostRuntime) {
     let mut chart = taken(rt.alloc());
     match shown(&rt, &COMMITS, 1, &mut chart) {
         Ok(()) => {
-            assert_eq!(rt;
-                str::from_utf8(&chart.sink.bytes).expect(&rt, "text"),
-                TIMELINE
+            equal(
+                &rt,
+                &str::from_utf8(&chart.sink.bytes).expect(&rt, "text"),
+                &TIMELINE,
             );
         }
         Err(Halt::NoMemory) => {}
-        Err(Halt::Untold) => assert_eq!(rt; chart.sink.failed, 1),
+        Err(Halt::Untold) => equal(&rt, &chart.sink.failed, &1),
     }
 }
 
@@ -76,7 +78,7 @@ fn each_step_has_its_events(rt: HostRuntime) {
 fn check_json(rt: &(impl Abort + AllocGlobal), bytes: &[u8]) {
     let text = str::from_utf8(bytes).expect(rt, "text");
     let mut scratch = Scratch::new(rt.alloc());
-    assert!(rt; is_valid(text, &mut scratch).expect(rt, "memory"));
+    holds(rt, is_valid(text, &mut scratch).expect(rt, "memory"));
 }
 
 #[test]
@@ -102,8 +104,8 @@ fn each_put_that_is_refused_is_told(rt: HostRuntime) {
             Ok(())
         };
         if put != Err(Halt::NoMemory) {
-            assert_eq!(rt; put, want, "after {left}");
-            assert_eq!(rt; chart.sink.failed, u64::from(left < pieces));
+            equal_at(&rt, &put, &want, &left);
+            equal(&rt, &chart.sink.failed, &u64::from(left < pieces));
         }
     }
 }

@@ -1,6 +1,7 @@
 //! The trace of a program that stores 7 to 0x2000 in a transaction, and exits.
 use super::booted::booted;
 use super::refusing::Refusing;
+use crate::tests::claims::{equal, equal_at, equal_items};
 use disassembler::Symbols;
 use machine::Silent;
 use reference::COMMITS;
@@ -46,9 +47,9 @@ fn each_entry_has_its_line(rt: HostRuntime) {
             failed: 0,
         };
         match traced(&rt, chosen, &mut sink) {
-            Ok(()) => assert_eq!(rt; &sink.bytes[..], TRACE.as_bytes()),
+            Ok(()) => equal_items(&rt, &sink.bytes[..], TRACE.as_bytes()),
             Err(Halt::NoMemory) => {}
-            Err(Halt::Untold) => assert_eq!(rt; sink.failed, 1),
+            Err(Halt::Untold) => equal(&rt, &sink.failed, &1),
         }
     }
 }
@@ -61,8 +62,8 @@ fn each_put_that_is_refused_is_told(rt: HostRuntime) {
         // Each of the eight lines is one put.
         let want = if left < 8 { Err(Halt::Untold) } else { Ok(()) };
         if put != Err(Halt::NoMemory) {
-            assert_eq!(rt; put, want, "after {left}");
-            assert_eq!(rt; sink.failed, u64::from(left < 8));
+            equal_at(&rt, &put, &want, &left);
+            equal(&rt, &sink.failed, &u64::from(left < 8));
         }
     }
 }

@@ -2,6 +2,7 @@
 ghost use Rattle.std.specs.Prelude.{⊤};
 
 use super::booted::booted;
+use crate::tests::claims::{equal, equal_items};
 use machine::{Machine, Silent};
 use network::Flight;
 use reference::COMMITS;
@@ -89,9 +90,9 @@ fn each_retired_word_is_noted(rt: HostRuntime) {
     for chosen in [0, 3] {
         let run = watch_run(&rt, chosen, 100, 100);
         if run.ended != Err(Halt::NoMemory) {
-            assert_eq!(rt; run.ended, Ok(()));
-            assert_eq!(rt; &run.retired[..], COMMITS.as_slice());
-            assert_eq!(rt; run.word, Some(7));
+            equal(&rt, &run.ended, &Ok(()));
+            equal_items(&rt, &run.retired[..], &COMMITS);
+            equal(&rt, &run.word, &Some(7));
         }
     }
 }
@@ -101,9 +102,9 @@ fn the_step_of_a_missed_entry_is_made(rt: HostRuntime) {
     for chosen in [0, 3] {
         let run = watch_run(&rt, chosen, 100, 2);
         if run.ended != Err(Halt::NoMemory) {
-            assert_eq!(rt; run.ended, Err(Halt::Untold));
-            assert_eq!(rt; &run.retired[..], &COMMITS[..2]);
-            assert_eq!(rt; run.pc, Addr::new(0x100c));
+            equal(&rt, &run.ended, &Err(Halt::Untold));
+            equal_items(&rt, &run.retired[..], &COMMITS[..2]);
+            equal(&rt, &run.pc, &Addr::new(0x100c));
         }
     }
 }
@@ -111,6 +112,6 @@ fn the_step_of_a_missed_entry_is_made(rt: HostRuntime) {
 #[test]
 fn so_many_steps_are_made(rt: HostRuntime) {
     let run = watch_run(&rt, 0, 2, 100);
-    assert_eq!(rt; run.ended, Ok(()));
-    assert_eq!(rt; &run.retired[..], &COMMITS[..2]);
+    equal(&rt, &run.ended, &Ok(()));
+    equal_items(&rt, &run.retired[..], &COMMITS[..2]);
 }

@@ -1,6 +1,7 @@
 //! What has to come of command lines.
 use super::calls::{Sheets, Told, carried, request_of};
 use super::paper::Paper;
+use crate::tests::claims::{equal, equal_at, equal_items, holds};
 use command_line::Request;
 use std::process::Abort;
 use std::sync::Wait;
@@ -8,9 +9,9 @@ use std::thread::Threads;
 
 /// That a request ended with this status, and put these texts whole.
 pub(crate) fn check_told(rt: &impl Abort, told: &Told, status: u8, out: &str, error: &str) {
-    assert_eq!(rt; told.status, status, "{out}{error}");
-    assert_eq!(rt; told.out.bytes.as_slice(), out.as_bytes());
-    assert_eq!(rt; told.error.bytes.as_slice(), error.as_bytes());
+    equal_at(rt, &told.status, &status, &(out, error));
+    equal_items(rt, &told.out.bytes, out.as_bytes());
+    equal_items(rt, &told.error.bytes, error.as_bytes());
 }
 
 /// That the words, carried out on a file, end with this status and these texts. It answers what became of them.
@@ -39,16 +40,16 @@ struct Cuts {
 /// That a request's output is whole, or its last put failed, and only that is told; and that it begins with what it was before.
 fn check_cut(rt: &impl Abort, cuts: &mut Cuts, told: &Told) {
     let out = told.out.bytes.as_slice();
-    assert!(rt; out.starts_with(&cuts.text));
+    holds(rt, out.starts_with(&cuts.text));
     if told.status == 0 {
-        assert!(rt; !cuts.whole || out == cuts.text.as_slice());
+        holds(rt, !cuts.whole || out == cuts.text.as_slice());
         cuts.whole = true;
-        assert_eq!(rt; (told.out.failed, told.error.bytes.len()), (0, 0));
+        equal(rt, &(told.out.failed, told.error.bytes.len()), &(0, 0));
     } else {
-        assert!(rt; !cuts.whole);
-        assert_eq!(rt; (told.status, told.out.failed), (3, 1));
+        holds(rt, !cuts.whole);
+        equal(rt, &(told.status, told.out.failed), &(3, 1));
         let error = b"logtm: cannot write standard output\n".as_slice();
-        assert_eq!(rt; told.error.bytes.as_slice(), error);
+        equal_items(rt, &told.error.bytes, error);
     }
     cuts.text.clear();
     cuts.text.extend_from_slice(out).expect(rt, "memory");
@@ -70,7 +71,7 @@ pub(crate) fn check_each_put(
         let told = carried(rt, &request, file, &[], Sheets::cut(rt.alloc(), left));
         check_cut(rt, &mut cuts, &told);
     }
-    assert!(rt; cuts.whole);
+    holds(rt, cuts.whole);
     let Cuts { text, whole: _ } = cuts;
     text
 }
@@ -101,12 +102,12 @@ pub(crate) fn check_view_cut(
     let view = viewed.view.as_bytes();
     if left >= viewed.puts {
         check_told(rt, &told, viewed.status, viewed.report, "");
-        assert_eq!(rt; told.page.bytes.as_slice(), view);
-        assert_eq!(rt; told.page.failed, 0);
+        equal_items(rt, &told.page.bytes, view);
+        equal(rt, &told.page.failed, &0);
     } else {
         check_told(rt, &told, 3, "", viewed.unmade);
-        assert!(rt; view.starts_with(&told.page.bytes));
-        assert_eq!(rt; told.page.failed, 1);
+        holds(rt, view.starts_with(&told.page.bytes));
+        equal(rt, &told.page.failed, &1);
     }
 }
 

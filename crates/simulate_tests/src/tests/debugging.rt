@@ -2,6 +2,7 @@
 use super::calls::{Sheets, file_of, input_of, played, request_of};
 use super::checks::check_told;
 use super::paper::Paper;
+use crate::tests::claims::{equal, holds};
 use command_line::Request;
 use reference::COMMITS;
 use std::process::Abort;
@@ -34,13 +35,13 @@ fn check_cut(
     let mut sheets = Sheets::cut(rt.alloc(), puts);
     sheets.error = Paper::new(rt.alloc(), prompts);
     let told = played(rt, request, file, &mut input, "? ", sheets);
-    assert!(rt; TOLD.as_bytes().starts_with(&told.out.bytes));
+    holds(rt, TOLD.as_bytes().starts_with(&told.out.bytes));
     if told.status == 0 {
         check_told(rt, &told, 0, TOLD, "? ? ? ? ? ");
-        assert_eq!(rt; (told.out.failed, told.error.failed), (0, 0));
+        equal(rt, &(told.out.failed, told.error.failed), &(0, 0));
     } else {
-        assert_eq!(rt; told.status, 3);
-        assert!(rt; told.out.failed > 0 || told.error.failed > 0);
+        equal(rt, &told.status, &3);
+        holds(rt, told.out.failed > 0 || told.error.failed > 0);
     }
     told.status
 }
@@ -53,14 +54,14 @@ fn each_put_of_a_session_is_refused(rt: HostRuntime) -> Result<(), Fail> {
     for puts in 0..60 {
         let status = check_cut(&rt, &request, &file, puts, 100);
         // Once the puts are enough, more of them are too.
-        assert!(rt; !whole || status == 0);
+        holds(&rt, !whole || status == 0);
         whole = status == 0;
     }
-    assert!(rt; whole);
+    holds(&rt, whole);
     for prompts in 0..5 {
-        assert_eq!(rt; check_cut(&rt, &request, &file, 100, prompts), 3);
+        equal(&rt, &check_cut(&rt, &request, &file, 100, prompts), &3);
     }
-    assert_eq!(rt; check_cut(&rt, &request, &file, 100, 5), 0);
+    equal(&rt, &check_cut(&rt, &request, &file, 100, 5), &0);
     Ok(())
 }
 
@@ -110,7 +111,7 @@ fn check_refused(
     let told = played(rt, &request, file, &mut input, "? ", sheets);
     check_told(rt, &told, 4, "", text);
     let first = input.bytes.next().expect(rt, "a byte");
-    assert_eq!(rt; first.ok(), Some(b's'));
+    equal(rt, &first.ok(), &Some(b's'));
 }
 
 #[test]

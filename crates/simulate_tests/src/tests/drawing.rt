@@ -2,6 +2,7 @@
 use super::calls::{Sheets, file_of};
 use super::checks::{Viewed, check, check_each_view_put};
 use super::paper::Paper;
+use crate::tests::claims::equal;
 use reference::COMMITS;
 use std::process::Abort;
 use std::sync::Wait;
@@ -51,7 +52,7 @@ fn check_cut(
 ) {
     let sheets = Sheets::with_page(rt.alloc(), page);
     let told = check(rt, words, file, sheets, 3, "", unmade);
-    assert_eq!(rt; told.page.failed, 1);
+    equal(rt, &told.page.failed, &1);
 }
 
 #[test]

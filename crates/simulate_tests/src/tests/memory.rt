@@ -5,6 +5,7 @@ use super::paper::Paper;
 use super::running::{LISTING, PRINTS, REPORT};
 use super::searching::PRINTED;
 use super::threads::{COUNTED, COUNTER, TWO};
+use crate::tests::claims::{equal, holds};
 use reference::EXIT;
 use std::process::Abort;
 use std::sync::Wait;
@@ -37,11 +38,11 @@ fn check(
     let told = told_or_none(rt, words, file)?;
     if told.status == 6 {
         check_told(rt, &told, 6, "", "logtm: no memory\n");
-        assert!(rt; told.image.is_none());
+        holds(rt, told.image.is_none());
         return None;
     }
     check_told(rt, &told, 0, out, "");
-    assert_eq!(rt; told.image.as_deref(), image);
+    equal(rt, &told.image.as_deref(), &image);
     Some(told)
 }
 
@@ -94,9 +95,9 @@ fn check_page(
 ) {
     let source = b"li a7, 93\nli a0, 0\necall\n";
     if let Some(told) = check(rt, words, source, "hart 0: exit 0\n", None) {
-        assert!(rt; told.page.bytes.starts_with(begins.as_bytes()));
-        assert!(rt; told.page.bytes.ends_with(ends.as_bytes()));
-        assert_eq!(rt; told.page.failed, 0);
+        holds(rt, told.page.bytes.starts_with(begins.as_bytes()));
+        holds(rt, told.page.bytes.ends_with(ends.as_bytes()));
+        equal(rt, &told.page.failed, &0);
     }
 }
 

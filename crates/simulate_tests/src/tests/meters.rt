@@ -4,6 +4,7 @@ ghost use Rattle.std.specs.Prelude.{⊤};
 use super::calls::{Sheets, request_of, run_told};
 use super::paper::Paper;
 use super::searching::BUFFERING;
+use crate::tests::claims::{equal, equal_at, equal_items, holds};
 use machine::Progress;
 use simulate::{Live, Meter};
 use std::io;
@@ -45,7 +46,7 @@ fn shown(rt: &(impl Abort + AllocGlobal), live: bool, times: &[u64], ended: bool
 #[test]
 fn a_line_comes_after_a_second(rt: HostRuntime) -> Result<(), Fail> {
     let none = shown(&rt, true, &[10, 500, 999], true);
-    assert_eq!(rt; none.bytes.as_slice(), b"".as_slice());
+    equal_items(&rt, &none.bytes, b"");
     // Sixteen times 65,536 steps are 1,048,576, in a second.
     let line = shown(
         &rt,
@@ -54,7 +55,7 @@ fn a_line_comes_after_a_second(rt: HostRuntime) -> Result<(), Fail> {
         false,
     );
     let expected = b"\r\x1b[K1.0 million steps, 1.0 million a second, harts that run: 2";
-    assert_eq!(rt; line.bytes.as_slice(), expected.as_slice());
+    equal_items(&rt, &line.bytes, expected);
     Ok(())
 }
 
@@ -63,14 +64,14 @@ fn a_line_stands_for_a_fifth_of_a_second(rt: HostRuntime) -> Result<(), Fail> {
     let two = shown(&rt, true, &[1000, 1100, 1199, 1200], true);
     let expected =
         b"\r\x1b[K0.0 million steps, 0.0 million a second, harts that run: 2\r\x1b[K0.2 million steps, 0.2 million a second, harts that run: 2\r\x1b[K";
-    assert_eq!(rt; two.bytes.as_slice(), expected.as_slice());
+    equal_items(&rt, &two.bytes, expected);
     Ok(())
 }
 
 #[test]
 fn nothing_is_shown_where_nobody_looks(rt: HostRuntime) -> Result<(), Fail> {
     let none = shown(&rt, false, &[1000, 2000, 3000], true);
-    assert_eq!(rt; none.bytes.as_slice(), b"".as_slice());
+    equal_items(&rt, &none.bytes, b"");
     Ok(())
 }
 
@@ -86,7 +87,7 @@ fn the_line_of_a_search(rt: HostRuntime) -> Result<(), Fail> {
     meter.end();
     let expected =
         b"\r\x1b[K4 thousand states, 4 thousand a second\r\x1b[K12345 thousand states, 6172 thousand a second\r\x1b[K";
-    assert_eq!(rt; meter.into_sink().bytes.as_slice(), expected.as_slice());
+    equal_items(&rt, meter.into_sink().bytes.as_slice(), expected);
     Ok(())
 }
 
@@ -127,8 +128,8 @@ fn told_of(rt: &(impl Abort + AllocGlobal + Threads + Wait + Sync), option: &str
     };
     let sheets = Sheets::endless(rt.alloc());
     let told = run_told(rt, &request, b"here: j here\n", &mut tellings, sheets);
-    assert_eq!(rt; told.status, 5);
-    assert!(rt; told.out.bytes.ends_with(b"hart 0: running\n"));
+    equal(rt, &told.status, &5);
+    holds(rt, told.out.bytes.ends_with(b"hart 0: running\n"));
     tellings
 }
 
@@ -137,9 +138,9 @@ fn told_of(rt: &(impl Abort + AllocGlobal + Threads + Wait + Sync), option: &str
 fn progress_is_told_unless_a_trace_is(rt: HostRuntime) {
     for option in ["--cache=normal", "--trace=t", "--timeline=t.json"] {
         let Tellings { goes_on, ended } = told_of(&rt, option);
-        assert_eq!(rt; (goes_on, ended), (1, 1), "{option}");
+        equal_at(&rt, &(goes_on, ended), &(1, 1), &option);
     }
-    assert_eq!(rt; told_of(&rt, "--trace=-").goes_on, 0);
+    equal(&rt, &told_of(&rt, "--trace=-").goes_on, &0);
 }
 
 // A search tells of itself at its first state, and this one has fewer states than it takes to tell again.
@@ -153,6 +154,6 @@ fn progress_of_a_search_is_told(rt: HostRuntime) {
     };
     let sheets = Sheets::endless(rt.alloc());
     let told = run_told(&rt, &request, BUFFERING.as_bytes(), &mut tellings, sheets);
-    assert_eq!(rt; told.status, 0);
-    assert_eq!(rt; (tellings.goes_on, tellings.ended), (1, 1));
+    equal(&rt, &told.status, &0);
+    equal(&rt, &(tellings.goes_on, tellings.ended), &(1, 1));
 }

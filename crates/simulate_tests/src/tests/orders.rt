@@ -1,4 +1,5 @@
 //! What the words of a command line ask for, and how they are refused.
+use crate::tests::claims::{equal, equal_at, holds, holds_at};
 use command_line::{
     Argument, Cache, OrderFault, Request, Run, Setup, Show, Stats, View, Way, parse,
 };
@@ -29,7 +30,7 @@ fn reads_numbers(rt: HostRuntime) {
         ("٣", None),
     ];
     for (text, value) in cases {
-        assert_eq!(rt; number(text), value, "at {text}");
+        equal_at(&rt, &number(text), &value, &text);
     }
 }
 
@@ -66,14 +67,15 @@ fn is_plain(run: &Run<'_>) -> bool {
 #[test]
 fn reads_a_run(rt: HostRuntime) {
     let run = run_of(rt.alloc(), &["logtm", "run", "first.elf"]).expect(&rt, "a run");
-    assert_eq!(rt; run.setup.file, "first.elf");
-    assert_eq!(rt;
-        (run.setup.harts, run.setup.memory, run.steps),
-        (1, 1_048_576, 10_000_000)
+    equal(&rt, &run.setup.file, &"first.elf");
+    equal(
+        &rt,
+        &(run.setup.harts, run.setup.memory, run.steps),
+        &(1, 1_048_576, 10_000_000),
     );
-    assert_eq!(rt; run.setup.cache, Cache::Normal);
-    assert!(rt; is_plain(&run));
-    assert_eq!(rt; run.words.len(), 0);
+    equal(&rt, &run.setup.cache, &Cache::Normal);
+    holds(&rt, is_plain(&run));
+    equal(&rt, &run.words.len(), &0);
 }
 
 static LONG: [&str; 13] = [
@@ -95,18 +97,19 @@ static LONG: [&str; 13] = [
 #[test]
 fn reads_options_and_words(rt: HostRuntime) {
     let run = run_of(rt.alloc(), LONG.as_slice()).expect(&rt, "a run");
-    assert_eq!(rt; run.setup.file, "first.elf");
-    assert_eq!(rt;
-        (run.setup.harts, run.setup.memory, run.steps),
-        (2, 2_141_133, 7)
+    equal(&rt, &run.setup.file, &"first.elf");
+    equal(
+        &rt,
+        &(run.setup.harts, run.setup.memory, run.steps),
+        &(2, 2_141_133, 7),
     );
-    assert_eq!(rt; run.setup.cache, Cache::Small);
-    assert!(rt; is_plain(&run));
+    equal(&rt, &run.setup.cache, &Cache::Small);
+    holds(&rt, is_plain(&run));
     let expected = [("0x2000", 8192), ("8196", 8196), ("0", 0)];
-    assert_eq!(rt; run.words.len(), expected.len());
+    equal(&rt, &run.words.len(), &expected.len());
     for (word, (text, addr)) in run.words.iter().zip(expected) {
-        assert_eq!(rt; word.text, text);
-        assert_eq!(rt; word.addr, addr);
+        equal(&rt, &word.text, &text);
+        equal(&rt, &word.addr, &addr);
     }
 }
 
@@ -120,8 +123,8 @@ fn reads_the_name_of_a_cache(rt: HostRuntime) {
     ];
     for (words, cache) in cases {
         let run = run_of(rt.alloc(), words).expect(&rt, "a run");
-        assert_eq!(rt; run.setup.cache, cache);
-        assert!(rt; is_plain(&run));
+        equal(&rt, &run.setup.cache, &cache);
+        holds(&rt, is_plain(&run));
     }
 }
 
@@ -144,7 +147,7 @@ fn reads_the_other_subcommands(rt: HostRuntime) {
         (&["logtm", "asm", "dis", "asm"], ("dis", "asm")),
     ];
     for (words, named) in cases {
-        assert_eq!(rt; paths(rt.alloc(), words), Some(named));
+        equal(&rt, &paths(rt.alloc(), words), &Some(named));
     }
 }
 
@@ -262,7 +265,7 @@ fn refuses_as_clap_does(rt: HostRuntime) {
     ];
     for (words, part) in cases {
         let text = refusal(rt.alloc(), words).expect(&rt, "a refusal");
-        assert!(rt; text.contains(part), "{text}");
+        holds_at(&rt, text.contains(part), &text);
     }
 }
 
@@ -277,7 +280,7 @@ fn bad_cache(alloc: Global, words: &'static [&'static str]) -> Option<&'static s
 #[test]
 fn a_blank_is_no_part_of_a_name(rt: HostRuntime) {
     let words = &["logtm", "run", "f", "--cache", "normal "];
-    assert_eq!(rt; bad_cache(rt.alloc(), words), Some("normal "));
+    equal(&rt, &bad_cache(rt.alloc(), words), &Some("normal "));
 }
 
 /// Whether the words give an order with so many words, or memory ran out.
@@ -372,9 +375,9 @@ fn reads_what_is_played_by_hand(rt: HostRuntime) {
     ];
     for (words, sizes, cache) in cases {
         let setup = setup_of(rt.alloc(), words).expect(&rt, "a setup");
-        assert_eq!(rt; setup.file, "f");
-        assert_eq!(rt; (setup.harts, setup.memory), sizes);
-        assert_eq!(rt; setup.cache, cache);
+        equal(&rt, &setup.file, &"f");
+        equal(&rt, &(setup.harts, setup.memory), &sizes);
+        equal(&rt, &setup.cache, &cache);
     }
 }
 
@@ -402,7 +405,7 @@ fn reads_where_a_trace_goes(rt: HostRuntime) {
         (&["logtm", "debug", "f"], None),
     ];
     for (words, path) in cases {
-        assert_eq!(rt; path_of(rt.alloc(), words, View::Trace), path);
+        equal(&rt, &path_of(rt.alloc(), words, View::Trace), &path);
     }
 }
 
@@ -430,7 +433,7 @@ fn reads_where_a_timeline_goes(rt: HostRuntime) {
         ),
     ];
     for (words, path) in cases {
-        assert_eq!(rt; path_of(rt.alloc(), words, View::Timeline), path);
+        equal(&rt, &path_of(rt.alloc(), words, View::Timeline), &path);
     }
 }
 
@@ -449,7 +452,7 @@ fn reads_where_a_picture_goes(rt: HostRuntime) {
         (&["logtm", "run", "f", "--trace=t.svg", "--steps=1"], None),
     ];
     for (words, path) in cases {
-        assert_eq!(rt; path_of(rt.alloc(), words, View::Picture), path);
+        equal(&rt, &path_of(rt.alloc(), words, View::Picture), &path);
     }
 }
 
@@ -468,7 +471,7 @@ fn reads_where_a_page_goes(rt: HostRuntime) {
         (&["logtm", "run", "f", "--trace=t.html", "--steps=1"], None),
     ];
     for (words, path) in cases {
-        assert_eq!(rt; path_of(rt.alloc(), words, View::Page), path);
+        equal(&rt, &path_of(rt.alloc(), words, View::Page), &path);
     }
 }
 
@@ -505,7 +508,7 @@ fn reads_a_schedule_and_a_form_of_counts(rt: HostRuntime) {
         (&["logtm", "run", "f", "--threads"], None),
     ];
     for (words, expected) in cases {
-        assert_eq!(rt; counted(rt.alloc(), words), expected);
+        equal(&rt, &counted(rt.alloc(), words), &expected);
     }
 }
 
@@ -535,7 +538,7 @@ fn reads_a_run_in_threads(rt: HostRuntime) {
         (&["logtm", "debug", "f"], None),
     ];
     for (words, path) in cases {
-        assert_eq!(rt; history(rt.alloc(), words), path);
+        equal(&rt, &history(rt.alloc(), words), &path);
     }
 }
 
@@ -596,22 +599,29 @@ fn reads_a_run_by_chance(rt: HostRuntime) {
         (&["logtm", "run", "f", "--threads"], None),
     ];
     for (words, expected) in cases {
-        assert_eq!(rt; chance(rt.alloc(), words), expected);
+        equal(&rt, &chance(rt.alloc(), words), &expected);
     }
 }
 
 // To be run with each allocation failing in turn.
 #[test]
 fn answers_nothing_else_without_memory(rt: HostRuntime) {
-    assert!(rt; gives(rt.alloc(), LONG.as_slice(), 3));
-    assert!(rt; fails(rt.alloc(), &["logtm", "run", "f", "1", "2", "z"], "z"));
-    assert!(rt; fails(rt.alloc(), &["logtm", "run", "--nope"], "'--nope'"));
-    assert!(rt;
+    holds(&rt, gives(rt.alloc(), LONG.as_slice(), 3));
+    holds(
+        &rt,
+        fails(rt.alloc(), &["logtm", "run", "f", "1", "2", "z"], "z"),
+    );
+    holds(
+        &rt,
+        fails(rt.alloc(), &["logtm", "run", "--nope"], "'--nope'"),
+    );
+    holds(
+        &rt,
         assembles(
             rt.alloc(),
             &["logtm", "asm", "a.s", "a.elf"],
             "a.s",
-            "a.elf"
-        )
+            "a.elf",
+        ),
     );
 }

@@ -2,6 +2,7 @@
 use super::calls::{Sheets, carried, file_of, request_of};
 use super::checks::{check_each_put, check_told};
 use super::paper::Paper;
+use crate::tests::claims::{equal, equal_items, holds};
 use command_line::Request;
 use reference::EXIT;
 use simulate::Fault;
@@ -35,7 +36,7 @@ fn a_failed_put_cuts_the_report(rt: HostRuntime) -> Result<(), Fail> {
     let file = file_of(rt.alloc(), &PRINTS)?;
     let words = ["logtm", "run", "f", "--harts=2", "0x1000"];
     let text = check_each_put(&rt, &words, &file, 100);
-    assert_eq!(rt; text.as_slice(), REPORT.as_bytes());
+    equal_items(&rt, &text, REPORT.as_bytes());
     Ok(())
 }
 
@@ -43,7 +44,7 @@ fn a_failed_put_cuts_the_report(rt: HostRuntime) -> Result<(), Fail> {
 fn a_failed_put_cuts_the_listing(rt: HostRuntime) -> Result<(), Fail> {
     let file = file_of(rt.alloc(), &EXIT)?;
     let text = check_each_put(&rt, &["logtm", "dis", "f"], &file, 100);
-    assert_eq!(rt; text.as_slice(), LISTING.as_bytes());
+    equal_items(&rt, &text, LISTING.as_bytes());
     Ok(())
 }
 
@@ -56,9 +57,12 @@ fn check_untold(
     let mut sheets = Sheets::endless(rt.alloc());
     sheets.error = Paper::new(rt.alloc(), left);
     let told = carried(rt, request, &[], &[], sheets);
-    assert_eq!(rt; (told.status, told.error.failed), (4, 1));
-    assert!(rt; b"logtm: load 1 Truncated\n".starts_with(&told.error.bytes));
-    assert_eq!(rt; told.out.bytes.len(), 0);
+    equal(rt, &(told.status, told.error.failed), &(4, 1));
+    holds(
+        rt,
+        b"logtm: load 1 Truncated\n".starts_with(&told.error.bytes),
+    );
+    equal(rt, &told.out.bytes.len(), &0);
 }
 
 #[test]
@@ -82,7 +86,7 @@ fn check_refused(
 ) {
     let told = carried(rt, request, file, schedule, Sheets::endless(rt.alloc()));
     check_told(rt, &told, status, "", text);
-    assert_eq!(rt; told.page.bytes.len(), 0);
+    equal(rt, &told.page.bytes.len(), &0);
 }
 
 #[test]
@@ -118,9 +122,10 @@ fn a_request_without_a_view_leaves_its_file(rt: HostRuntime) -> Result<(), Fail>
         let request = request_of(rt.alloc(), words).expect(&rt, "a request");
         let sheets = Sheets::with_page(rt.alloc(), Paper::stuck(rt.alloc()));
         let told = carried(&rt, &request, &file, &[], sheets);
-        assert_eq!(rt;
-            (told.status, told.page.bytes.len(), told.page.failed),
-            (0, 0, 0)
+        equal(
+            &rt,
+            &(told.status, told.page.bytes.len(), told.page.failed),
+            &(0, 0, 0),
         );
     }
     Ok(())
@@ -129,7 +134,7 @@ fn a_request_without_a_view_leaves_its_file(rt: HostRuntime) -> Result<(), Fail>
 #[test]
 fn an_exchanged_machine_is_told(rt: HostRuntime) {
     let mut error = Paper::endless(rt.alloc());
-    assert_eq!(rt; Fault::Exchanged.tell(&mut error), 7);
+    equal(&rt, &Fault::Exchanged.tell(&mut error), &7);
     let text = b"logtm: the threads gave back another machine\n";
-    assert_eq!(rt; error.bytes.as_slice(), text.as_slice());
+    equal_items(&rt, &error.bytes, text);
 }

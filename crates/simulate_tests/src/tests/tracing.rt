@@ -2,6 +2,7 @@
 use super::calls::{Sheets, carried, file_of, request_of};
 use super::checks::{Viewed, check, check_each_put, check_each_view_put};
 use super::paper::Paper;
+use crate::tests::claims::{equal, equal_items};
 use reference::COMMITS;
 use std::process::Abort;
 use std::test::Fail;
@@ -63,16 +64,16 @@ fn a_trace_that_is_not_written_out_is_told(rt: HostRuntime) -> Result<(), Fail> 
     let file = file_of(rt.alloc(), &COMMITS)?;
     let sheets = Sheets::with_page(rt.alloc(), Paper::stuck(rt.alloc()));
     let told = check(&rt, APART.as_slice(), &file, sheets, 3, "", UNMADE);
-    assert_eq!(rt; told.page.bytes.as_slice(), TRACE.as_bytes());
-    assert_eq!(rt; told.page.failed, 1);
+    equal_items(&rt, &told.page.bytes, TRACE.as_bytes());
+    equal(&rt, &told.page.failed, &1);
     Ok(())
 }
 
 /// That a text is the trace, and behind it this.
 fn check_both(rt: &impl Abort, text: &[u8], behind: &str) {
     let (trace, report) = text.split_at(TRACE.len().min(text.len()));
-    assert_eq!(rt; trace, TRACE.as_bytes());
-    assert_eq!(rt; report, behind.as_bytes());
+    equal_items(rt, trace, TRACE.as_bytes());
+    equal_items(rt, report, behind.as_bytes());
 }
 
 #[test]
@@ -91,8 +92,12 @@ fn a_report_is_cut_behind_its_trace(rt: HostRuntime) -> Result<(), Fail> {
     let mut sheets = Sheets::cut(rt.alloc(), 8);
     sheets.page = Paper::stuck(rt.alloc());
     let told = carried(&rt, &request, &file, &[], sheets);
-    assert_eq!(rt; (told.status, told.out.failed, told.page.failed), (3, 1, 0));
-    assert_eq!(rt; told.error.bytes.as_slice(), UNWRITTEN.as_bytes());
+    equal(
+        &rt,
+        &(told.status, told.out.failed, told.page.failed),
+        &(3, 1, 0),
+    );
+    equal_items(&rt, &told.error.bytes, UNWRITTEN.as_bytes());
     check_both(&rt, &told.out.bytes, "ha");
     Ok(())
 }

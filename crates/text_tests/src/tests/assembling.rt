@@ -1,5 +1,6 @@
 //! Sources and the segments and files that they make.
 
+use crate::tests::claims::{equal_items, equal_text, holds_at};
 use assembler::assemble;
 use loader::{Program, write_elf};
 use std::alloc::{AllocError, Global};
@@ -45,8 +46,8 @@ fn check(
     data: &[u8],
 ) -> Result<(), Fail> {
     let program = assemble(rt.alloc(), source).ok().ok_or("a program")?;
-    assert!(rt; has_parts(&program, data), "{source}");
-    assert_eq!(rt; words_of(rt.alloc(), &program)?.as_str(), words);
+    holds_at(rt, has_parts(&program, data), &source);
+    equal_text(rt, words_of(rt.alloc(), &program)?.as_str(), words);
     Ok(())
 }
 
@@ -64,7 +65,7 @@ const EXIT_FILE: [u8; 96] = [
 #[test]
 fn the_exit_program_is_its_file(rt: HostRuntime) -> Result<(), Fail> {
     let program = assemble(rt.alloc(), EXIT).ok().ok_or("a program")?;
-    assert_eq!(rt; write_elf(rt.alloc(), &program)?[..], EXIT_FILE[..]);
+    equal_items(&rt, &write_elf(rt.alloc(), &program)?[..], &EXIT_FILE[..]);
     Ok(())
 }
 

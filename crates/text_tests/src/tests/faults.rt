@@ -1,5 +1,6 @@
 //! The text of each fault of a source, a file and a boot, and of a put that failed.
 
+use crate::tests::claims::equal_text;
 use assembler::{AsmFault, SourceFault};
 use flat::BootFault;
 use loader::LoadFault;
@@ -14,7 +15,7 @@ fn check_text<F: Display>(
     fault: &F,
     text: &str,
 ) -> Result<(), AllocError> {
-    assert_eq!(rt; fault.to_string(rt.alloc())?.as_str(), text);
+    equal_text(rt, fault.to_string(rt.alloc())?.as_str(), text);
     Ok(())
 }
 

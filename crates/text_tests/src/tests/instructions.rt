@@ -1,5 +1,6 @@
 mod tables;
 
+use crate::tests::claims::{equal, equal_at, equal_text, holds_at};
 use std::alloc::{AllocError, Global};
 use std::fmt::Write;
 use std::process::Abort;
@@ -76,9 +77,9 @@ fn number(r: Reg) -> u32 {
 
 /// Asserts that an instruction is this word again, and that its row is found by its name.
 fn check_encodes(rt: &impl Abort, instr: Instr, word: u32) {
-    assert_eq!(rt; encode(instr), word);
+    equal(rt, &encode(instr), &word);
     let row = row(&instr);
-    assert_eq!(rt; row_named(row.name().as_bytes()), Some(row));
+    equal(rt, &row_named(row.name().as_bytes()), &Some(row));
 }
 
 #[test]
@@ -92,7 +93,7 @@ fn other_names_have_no_row(rt: HostRuntime) {
         b"lr.w",
         b".word",
     ] {
-        assert_eq!(rt; row_named(name), None);
+        equal(&rt, &row_named(name), &None);
     }
 }
 
@@ -106,17 +107,18 @@ fn words_are_the_assemblers(rt: HostRuntime) -> Result<(), Fail> {
             check_encodes(&rt, instr, word);
         }
     }
-    assert_eq!(rt; lines.as_str(), LINES);
+    equal_text(&rt, lines.as_str(), LINES);
     Ok(())
 }
 
 /// Asserts that a word is no instruction, and has no effect.
 fn check_illegal(rt: &impl Abort, word: u32) {
-    assert_eq!(rt; decode(word), None, "{word:08x}");
-    assert_eq!(rt;
-        effect_at(word, Addr::new(0x1000), &[0; 32]),
-        Err(Cause::Illegal),
-        "{word:08x}"
+    equal_at(rt, &decode(word), &None, &word);
+    equal_at(
+        rt,
+        &effect_at(word, Addr::new(0x1000), &[0; 32]),
+        &Err(Cause::Illegal),
+        &word,
     );
 }
 
@@ -130,7 +132,7 @@ fn other_words_are_illegal(rt: HostRuntime) {
 #[test]
 fn words_beside_the_illegal_ones_are_instructions(rt: HostRuntime) {
     for word in [0x8330_000f, 0x0000_100b, 0x0000_200b] {
-        assert!(rt; decode(word).is_some(), "{word:08x}");
+        holds_at(&rt, decode(word).is_some(), &word);
     }
 }
 
@@ -145,10 +147,11 @@ fn with_values(a: u32, b: u32) -> Regs {
 /// Asserts what a word at 0x1000 does over these values in x5 and x6.
 fn check_effect(rt: &impl Abort, word: u32, (a, b): (u32, u32), want: Result<Effect, Cause>) {
     let regs = with_values(a, b);
-    assert_eq!(rt;
-        effect_at(word, Addr::new(0x1000), &regs),
-        want,
-        "{word:08x} at {a:x} {b:x}"
+    equal_at(
+        rt,
+        &effect_at(word, Addr::new(0x1000), &regs),
+        &want,
+        &(word, a, b),
     );
 }
 
@@ -204,8 +207,8 @@ fn operates(op: AmoOp, b: u32) -> Act {
 
 /// Asserts the word that an atomic operation stores over an old one.
 fn check_atomic(rt: &impl Abort, op: AmoOp, (old, b): (u32, u32), new: u32) {
-    assert_eq!(rt; finish_amo(op, old, b), new, "{op:?} at {old:x} {b:x}");
-    assert_eq!(rt; finish_store(Store::Atomic(op, b), old), new);
+    equal_at(rt, &finish_amo(op, old, b), &new, &(op, old, b));
+    equal(rt, &finish_store(Store::Atomic(op, b), old), &new);
 }
 
 #[test]
@@ -236,8 +239,8 @@ fn add_in_order(aq: bool, rl: bool) -> Instr {
 
 /// Asserts that a word is the addition with these bits, and the addition this word.
 fn check_order(rt: &impl Abort, word: u32, aq: bool, rl: bool) {
-    assert_eq!(rt; decode(word), Some(add_in_order(aq, rl)));
-    assert_eq!(rt; encode(add_in_order(aq, rl)), word);
+    equal(rt, &decode(word), &Some(add_in_order(aq, rl)));
+    equal(rt, &encode(add_in_order(aq, rl)), &word);
 }
 
 #[test]
@@ -321,29 +324,34 @@ fn loads_end_with_the_bytes_at_their_address(rt: HostRuntime) {
     // The bytes 01 7f ff 80 by rising address.
     let word = 0x80ff_7f01;
     for &(width, signed, addr, want) in &LOADED {
-        assert_eq!(rt; finish_load(width, signed, word, Addr::new(addr)), want);
+        equal(
+            &rt,
+            &finish_load(width, signed, word, Addr::new(addr)),
+            &want,
+        );
     }
 }
 
 #[test]
 fn loads_and_stores_end(rt: HostRuntime) {
-    assert_eq!(rt; extend_load(true, Width::Half, 0x8000), 0xffff_8000);
-    assert_eq!(rt; finish_store(Store::Value(7), 9), 7);
-    assert_eq!(rt; byte_count(Width::Half), 2);
+    equal(&rt, &extend_load(true, Width::Half, 0x8000), &0xffff_8000);
+    equal(&rt, &finish_store(Store::Value(7), 9), &7);
+    equal(&rt, &byte_count(Width::Half), &2);
 }
 
 /// Asserts the words in x0 and x10.
 fn check_registers(rt: &impl Abort, regs: &Regs, zero: u32, a0: u32) {
-    assert_eq!(rt;
-        (register(regs, Reg::new(0)), register(regs, Reg::new(10))),
-        (zero, a0)
+    equal(
+        rt,
+        &(register(regs, Reg::new(0)), register(regs, Reg::new(10))),
+        &(zero, a0),
     );
 }
 
 #[test]
 fn x0_is_never_written(rt: HostRuntime) {
     let mut regs = [9; 32];
-    assert_eq!(rt; write_to(Reg::new(0), 5), None);
+    equal(&rt, &write_to(Reg::new(0), 5), &None);
     write_register(&mut regs, write_to(Reg::new(10), 5));
     check_registers(&rt, &regs, 0, 5);
     write_register(&mut regs, None);
@@ -354,9 +362,10 @@ fn x0_is_never_written(rt: HostRuntime) {
 fn an_instruction_has_its_effect(rt: HostRuntime) {
     let mut regs = [9; 32];
     regs[10] = 5;
-    assert_eq!(rt;
-        execute(Instr::Ecall, Addr::new(0x1000), &regs),
-        goes_on(None, Act::Call)
+    equal(
+        &rt,
+        &execute(Instr::Ecall, Addr::new(0x1000), &regs),
+        &goes_on(None, Act::Call),
     );
     one_row();
 }
@@ -379,11 +388,11 @@ fn segments(alloc: Global) -> Result<Vec<Segment>, AllocError> {
 }
 
 fn check_word(rt: &impl Abort, text: &Text, pc: u32, want: Option<u32>) {
-    assert_eq!(rt; text.word(Addr::new(pc)), want, "{pc:x}");
+    equal_at(rt, &text.word(Addr::new(pc)), &want, &pc);
 }
 
 fn check_touches(rt: &impl Abort, text: &Text, addr: u32, width: Width, want: bool) {
-    assert_eq!(rt; text.touches(Addr::new(addr), width), want, "{addr:x}");
+    equal_at(rt, &text.touches(Addr::new(addr), width), &want, &addr);
 }
 
 #[test]

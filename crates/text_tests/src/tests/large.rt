@@ -1,5 +1,6 @@
 //! Sources as large as they may be, and one line past it.
 
+use crate::tests::claims::{equal, equal_items, holds};
 use assembler::assemble;
 use std::alloc::{AllocError, Global};
 use std::process::Abort;
@@ -32,20 +33,20 @@ fn check_fault(
     name: &str,
 ) -> Result<(), Fail> {
     let fault = assemble(rt.alloc(), source).err().ok_or("a fault")?;
-    assert_eq!(rt; (fault.line, fault.fault.name()), (line, name));
+    equal(rt, &(fault.line, fault.fault.name()), &(line, name));
     Ok(())
 }
 
 #[test]
 fn a_mebibyte_is_assembled(rt: HostRuntime) -> Result<(), Fail> {
     let mut source = largest(rt.alloc())?;
-    assert_eq!(rt; source.len(), 1_048_576);
+    equal(&rt, &source.len(), &1_048_576);
     let program = assemble(rt.alloc(), source.as_str())
         .ok()
         .ok_or("a program")?;
     let text = program.segments().first().ok_or("a segment")?;
-    assert_eq!(rt; text.bytes.len(), 1_048_576);
-    assert_eq!(rt; text.bytes[1_048_572..], [0x13, 0, 0, 0][..]);
+    holds(&rt, text.bytes.len() == 1_048_576);
+    equal_items(&rt, &text.bytes[1_048_572..], &[0x13, 0, 0, 0][..]);
     // A word more is too much.
     source.push_str("nop")?;
     check_fault(&rt, source.as_str(), 4097, "TooLarge")
@@ -64,8 +65,8 @@ fn a_hundred_thousand_labels_are_found(rt: HostRuntime) -> Result<(), Fail> {
         .ok()
         .ok_or("a program")?;
     let text = program.segments().first().ok_or("a segment")?;
-    assert_eq!(rt; text.bytes.len(), 400_008);
+    holds(&rt, text.bytes.len() == 400_008);
     let jumps = [0x6f, 0xe0, 0x09, 0xd8, 0x6f, 0xf0, 0x9f, 0xff];
-    assert_eq!(rt; text.bytes[400_000..400_008], jumps[..]);
+    equal_items(&rt, &text.bytes[400_000..400_008], &jumps[..]);
     Ok(())
 }

@@ -1,5 +1,6 @@
 //! Listings that cannot be put.
 
+use crate::tests::claims::{equal_at, holds_at};
 use disassembler::{Symbols, listing, texts_differ};
 use loader::{Program, read_elf};
 use reference::{Breaking, EXIT, elf_file};
@@ -23,10 +24,10 @@ fn each_put_fails_in_turn(rt: HostRuntime) -> Result<(), Fail> {
     for left in 0..21 {
         let mut out = Breaking::new(rt.alloc(), left);
         let answer = listing(&program, &Symbols::none(rt.alloc()), &mut out);
-        assert!(rt; answer.is_err(), "{left}");
-        assert_eq!(rt; out.failed, 1, "{left}");
-        assert!(rt; EXIT_LISTING.as_bytes().starts_with(&out.bytes), "{left}");
-        assert!(rt; out.bytes.len() < EXIT_LISTING.len(), "{left}");
+        holds_at(&rt, answer.is_err(), &left);
+        equal_at(&rt, &out.failed, &1, &left);
+        holds_at(&rt, EXIT_LISTING.as_bytes().starts_with(&out.bytes), &left);
+        holds_at(&rt, out.bytes.len() < EXIT_LISTING.len(), &left);
     }
     Ok(())
 }

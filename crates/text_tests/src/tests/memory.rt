@@ -1,4 +1,5 @@
 //! For `rt try --test --fail-alloc N`: sources that are assembled, and ELF files that are read and written, where memory runs out.
+use crate::tests::claims::{equal, equal_items};
 use crate::tests::sample::SAMPLE;
 use assembler::{AsmFault, assemble};
 use loader::{LoadFault, read_elf, write_elf};
@@ -43,10 +44,10 @@ numbers: .word 1, 2, 3
 fn assembles_or_wants_memory(rt: HostRuntime) -> Result<(), Fail> {
     match assemble(rt.alloc(), MANY_LABELS) {
         Ok(program) => match program.segments() {
-            [text, data] => assert_eq!(rt; (text.bytes.len(), data.bytes.len()), (208, 112)),
-            others => assert_eq!(rt; others.len(), 2),
+            [text, data] => equal(&rt, &(text.bytes.len(), data.bytes.len()), &(208, 112)),
+            others => equal(&rt, &others.len(), &2),
         },
-        Err(fault) => assert_eq!(rt; fault.fault, AsmFault::NoMemory),
+        Err(fault) => equal(&rt, &fault.fault, &AsmFault::NoMemory),
     }
     Ok(())
 }
@@ -56,10 +57,10 @@ fn assembles_or_wants_memory(rt: HostRuntime) -> Result<(), Fail> {
 fn copies_a_file_or_wants_memory(rt: HostRuntime) -> Result<(), Fail> {
     match read_elf(rt.alloc(), &SAMPLE) {
         Ok(program) => match write_elf(rt.alloc(), &program) {
-            Ok(file) => assert_eq!(rt; file[..], SAMPLE[..]),
+            Ok(file) => equal_items(&rt, &file[..], &SAMPLE[..]),
             Err(AllocError) => {}
         },
-        Err(fault) => assert_eq!(rt; fault, LoadFault::NoMemory),
+        Err(fault) => equal(&rt, &fault, &LoadFault::NoMemory),
     }
     Ok(())
 }

@@ -1,4 +1,5 @@
 //! Symbol tables, whole and not: which names they give.
+use crate::tests::claims::{equal, equal_at, holds};
 use disassembler::{Symbols, nearest_symbol_is_found};
 use loader::read_elf;
 use std::alloc::{AllocError, Global};
@@ -122,7 +123,7 @@ fn check(
     let names = Symbols::read(rt.alloc(), bytes)?;
     for (address, label) in labels {
         let shown = names.label(Addr::new(*address));
-        assert_eq!(rt; shown.as_bytes(), label.as_bytes(), "at {address}");
+        equal_at(rt, &shown.as_bytes(), &label.as_bytes(), &address);
     }
     Ok(())
 }
@@ -133,7 +134,7 @@ const NO_NAMES: [(u32, &str); 3] = [(0x1000, ""), (0x1004, ""), (0x100c, "")];
 fn addresses_have_names(rt: HostRuntime) -> Result<(), Fail> {
     nearest_symbol_is_found();
     let bytes = file(rt.alloc(), WHOLE, &TWO, STRINGS)?;
-    assert!(rt; read_elf(rt.alloc(), &bytes).is_ok());
+    holds(&rt, read_elf(rt.alloc(), &bytes).is_ok());
     check(
         &rt,
         &bytes,
@@ -149,10 +150,10 @@ fn addresses_have_names(rt: HostRuntime) -> Result<(), Fail> {
         ],
     )?;
     let names = Symbols::read(rt.alloc(), &bytes)?;
-    assert_eq!(rt; names.address_of("one"), Some(0x1000));
-    assert_eq!(rt; names.address_of("two"), Some(0x1008));
+    equal(&rt, &names.address_of("one"), &Some(0x1000));
+    equal(&rt, &names.address_of("two"), &Some(0x1008));
     for other in ["", "on", "onee", "data", "ne", "$xrv32i"] {
-        assert_eq!(rt; names.address_of(other), None, "{other}");
+        equal_at(&rt, &names.address_of(other), &None, &other);
     }
     Ok(())
 }
@@ -193,7 +194,7 @@ fn of_two_at_one_address_the_later_is_shown(rt: HostRuntime) -> Result<(), Fail>
     )?;
     // Of two with one name the first is taken.
     let names = Symbols::read(rt.alloc(), &bytes)?;
-    assert_eq!(rt; names.address_of("one"), Some(0x1008));
+    equal(&rt, &names.address_of("one"), &Some(0x1008));
     Ok(())
 }
 
@@ -212,8 +213,8 @@ fn long_names_are_cut(rt: HostRuntime) -> Result<(), Fail> {
     let bytes = file(rt.alloc(), WHOLE, &[[0, 0x1000, 0, LABEL]], &text)?;
     let names = Symbols::read(rt.alloc(), &bytes)?;
     let shown = names.label(Addr::new(0x100c));
-    assert_eq!(rt; shown.as_bytes().len(), 2 + 64 + 4 + 1);
-    assert!(rt; shown.as_bytes().ends_with(b"aaa+0xc>"));
+    equal(&rt, &shown.as_bytes().len(), &(2 + 64 + 4 + 1));
+    holds(&rt, shown.as_bytes().ends_with(b"aaa+0xc>"));
     Ok(())
 }
 
@@ -254,7 +255,7 @@ fn tables_that_are_not_whole_have_no_names(rt: HostRuntime) -> Result<(), Fail> 
     ];
     for shape in shapes {
         let bytes = file(rt.alloc(), shape, &TWO, STRINGS)?;
-        assert!(rt; read_elf(rt.alloc(), &bytes).is_ok());
+        holds(&rt, read_elf(rt.alloc(), &bytes).is_ok());
         check(&rt, &bytes, &NO_NAMES)?;
     }
     // The last string has no end; or there is none.

@@ -1,4 +1,5 @@
 use super::machines::{peek, raw, regs, tx, view};
+use crate::tests::claims::{equal, equal_at, holds_at};
 use flat::Engine;
 use machine::Machine;
 use reference::Machine as Checker;
@@ -35,10 +36,11 @@ fn check_view<const SETS: usize, const WAYS: usize>(
     addr: Addr,
 ) {
     if !is_aborting(machine, hart) {
-        assert_eq!(rt;
-            view(machine, hart, addr),
-            checker.view(hart, addr),
-            "{addr:?}"
+        equal_at(
+            rt,
+            &view(machine, hart, addr),
+            &checker.view(hart, addr),
+            &addr,
         );
     }
 }
@@ -51,12 +53,12 @@ fn check_word<const SETS: usize, const WAYS: usize>(
     checker: &Checker,
     addr: Addr,
 ) {
-    assert_eq!(rt; peek(machine, addr), checker.peek(addr), "{addr:?}");
+    equal_at(rt, &peek(machine, addr), &checker.peek(addr), &addr);
     for number in 0..8 {
         check_view(rt, machine, checker, HartId::new(number), addr);
     }
     if none_aborts(machine) {
-        assert_eq!(rt; raw(machine, addr), checker.raw(addr), "{addr:?}");
+        equal_at(rt, &raw(machine, addr), &checker.raw(addr), &addr);
     }
 }
 
@@ -68,9 +70,9 @@ fn check_harts<const SETS: usize, const WAYS: usize>(
 ) {
     for number in 0..8 {
         let hart = HartId::new(number);
-        assert!(rt; regs(machine, hart) == checker.regs(hart), "hart {number}");
+        holds_at(rt, regs(machine, hart) == checker.regs(hart), &number);
         if hart.index() < machine.harts() && hart.index() < checker.harts() {
-            assert_eq!(rt; machine.output(hart), checker.output(hart));
+            equal(rt, &machine.output(hart), &checker.output(hart));
         }
     }
 }
@@ -82,8 +84,8 @@ pub(crate) fn check_alike<const SETS: usize, const WAYS: usize>(
     machine: &Machine<SETS, WAYS>,
     checker: &Checker,
 ) {
-    assert_eq!(rt; machine.harts(), checker.harts());
-    assert_eq!(rt; machine.size(), checker.size());
+    equal(rt, &machine.harts(), &checker.harts());
+    equal(rt, &machine.size(), &checker.size());
     check_harts(rt, machine, checker);
     for block in 0..400 {
         check_word(rt, machine, checker, Addr::new(32 * block));

@@ -4,6 +4,7 @@ use super::alike::check_alike;
 use super::machines::{SIZE, booted, make, next_turn, peek};
 use super::play::checked;
 use super::programs::{one, place, zero};
+use crate::tests::claims::{equal, holds, holds_at};
 use flat::BootFault;
 use loader::{Program, read_elf};
 use machine::Machine;
@@ -45,8 +46,8 @@ fn run_in_two(
     entries: &mut Vec<Entry>,
 ) {
     let (before, after) = steps.split_at(cut.min(steps.len()));
-    assert!(rt; machine.run(before, entries).is_ok());
-    assert!(rt; machine.run(after, entries).is_ok());
+    holds(rt, machine.run(before, entries).is_ok());
+    holds(rt, machine.run(after, entries).is_ok());
 }
 
 /// That the plain machine takes the entries, and then shows what the machine does.
@@ -70,7 +71,7 @@ fn check_cut(
     let mut machine = booted::<16, 4>(rt.alloc(), &COUNTS, 2, SIZE)?;
     let mut entries = Vec::new(rt.alloc());
     run_in_two(rt, &mut machine, steps, cut, &mut entries);
-    assert!(rt; entries.as_slice() == whole, "{cut}");
+    holds_at(rt, entries.as_slice() == whole, &cut);
     check_entries(rt, &machine, &entries)
 }
 
@@ -90,7 +91,7 @@ fn a_run_that_is_cut_goes_on(rt: HostRuntime) -> Result<(), Fail> {
     let mut steps = Vec::new(rt.alloc());
     let mut whole = Vec::new(rt.alloc());
     turns_of_two(&rt, &mut steps, &mut whole)?;
-    assert!(rt; whole.len() >= 1400);
+    holds(&rt, whole.len() >= 1400);
     for cut in [0, 1, 2, 3, 10, 1000, 2999, 20_000] {
         check_cut(&rt, &steps, cut, &whole)?;
     }
@@ -139,7 +140,7 @@ fn booted_or_none(rt: &(impl Abort + AllocGlobal)) -> Option<Machine<2, 1>> {
     match Machine::<2, 1>::boot(rt.alloc(), program, 1, 65_536) {
         Ok(machine) => Some(machine),
         Err(fault) => {
-            assert_eq!(rt; fault, BootFault::NoMemory);
+            equal(rt, &fault, &BootFault::NoMemory);
             None
         }
     }
@@ -157,8 +158,8 @@ fn twelve_turns(rt: &impl Abort, machine: &mut Machine<2, 1>) -> [Step; 12] {
 
 /// That no turn is left, and 7 stands at 0x2000.
 fn check_end(rt: &impl Abort, machine: &Machine<2, 1>) {
-    assert_eq!(rt; next_turn(machine, zero()), None);
-    assert_eq!(rt; peek(machine, place()), Some(7));
+    equal(rt, &next_turn(machine, zero()), &None);
+    equal(rt, &peek(machine, place()), &Some(7));
 }
 
 /// The twelve turns of the program, each tried again if memory ran out. `None` where there was none to begin with.
@@ -176,7 +177,7 @@ fn check_run(rt: &(impl Abort + AllocGlobal), machine: &mut Machine<2, 1>, steps
     let mut entries = Vec::new(rt.alloc());
     run_or_go_on(machine, steps, &mut entries).expect(rt, "memory");
     check_end(rt, machine);
-    assert_eq!(rt; entries.len(), 8);
+    equal(rt, &entries.len(), &8);
 }
 
 // For `rt try --test --fail-alloc N`: memory that runs out once changes nothing, whichever allocation is refused.

@@ -4,6 +4,7 @@ use super::alike::check_alike;
 use super::machines::{SIZE, booted};
 use super::play::{Schedule, checked, play};
 use super::programs::{SPILLS, STORES_113, STORES_114};
+use crate::tests::claims::{equal, equal_at, holds_at};
 use flat::Engine;
 use machine::Machine;
 use reference::{ABORTS, ADDS, COMMITS, COUNTS, Machine as Checker};
@@ -76,9 +77,9 @@ fn check_word(
 ) -> Result<(), Fail> {
     for schedule in schedules(blocks) {
         let normal = outcome::<16, 4>(rt, text, harts, schedule, 10_000)?;
-        assert_eq!(rt; normal, (true, Some(word)), "{schedule:?}");
+        equal_at(rt, &normal, &(true, Some(word)), &schedule);
         let small = outcome::<2, 1>(rt, text, harts, schedule, 10_000)?;
-        assert_eq!(rt; small, (true, Some(word)), "{schedule:?}");
+        equal_at(rt, &small, &(true, Some(word)), &schedule);
     }
     Ok(())
 }
@@ -95,9 +96,9 @@ fn check_word_at_an_end(
 ) -> Result<(), Fail> {
     for schedule in schedules(blocks) {
         let normal = outcome::<16, 4>(rt, text, harts, schedule, most)?;
-        assert!(rt; !normal.0 || normal.1 == Some(word), "{schedule:?}");
+        holds_at(rt, !normal.0 || normal.1 == Some(word), &schedule);
         let small = outcome::<2, 1>(rt, text, harts, schedule, most)?;
-        assert!(rt; !small.0 || small.1 == Some(word), "{schedule:?}");
+        holds_at(rt, !small.0 || small.1 == Some(word), &schedule);
     }
     Ok(())
 }
@@ -131,9 +132,9 @@ fn harts_count_in_transactions(rt: HostRuntime) -> Result<(), Fail> {
 #[test]
 fn two_harts_count_by_turns(rt: HostRuntime) -> Result<(), Fail> {
     let normal = outcome::<16, 4>(&rt, &COUNTS, 2, Schedule::Turns, 10_000)?;
-    assert_eq!(rt; normal, (true, Some(200)));
+    equal(&rt, &normal, &(true, Some(200)));
     let small = outcome::<2, 1>(&rt, &COUNTS, 2, Schedule::Turns, 10_000)?;
-    assert_eq!(rt; small, (true, Some(200)));
+    equal(&rt, &small, &(true, Some(200)));
     Ok(())
 }
 

@@ -3,6 +3,7 @@
 use super::moves::{
     ONES, Small, block, forward, grant, grant_but_for_one, one, own_stamp, step, step_at, zero,
 };
+use crate::tests::claims::{equal, equal_at, holds};
 use hart::Local;
 use std::process::Abort;
 use table::Text;
@@ -12,18 +13,18 @@ use words::{
 
 pub(crate) fn check_gives(rt: &impl Abort, hart: &mut Small, text: &Text, want: Entry) {
     let step = step(rt, hart, text);
-    assert_eq!(rt; (step.message, step.entry), (None, Some(want)));
+    equal(rt, &(step.message, step.entry), &(None, Some(want)));
 }
 
 pub(crate) fn check_steps_quietly(rt: &impl Abort, hart: &mut Small, text: &Text) {
     let step = step(rt, hart, text);
-    assert_eq!(rt; (step.message, step.entry), (None, None));
+    equal(rt, &(step.message, step.entry), &(None, None));
 }
 
 pub(crate) fn check_call(rt: &impl Abort, hart: &mut Small, text: &Text, want: Option<u8>) {
     let step = step(rt, hart, text);
-    assert!(rt; matches!(step.entry, Some(Entry::Retire { .. })));
-    assert_eq!(rt; step.output, want);
+    holds(rt, matches!(step.entry, Some(Entry::Retire { .. })));
+    equal(rt, &step.output, &want);
 }
 
 pub(crate) fn check_begins(
@@ -34,13 +35,13 @@ pub(crate) fn check_begins(
     stamped: bool,
 ) {
     let step = step_at(rt, hart, text, taken);
-    assert!(rt; matches!(step.entry, Some(Entry::Retire { .. })));
-    assert_eq!(rt; step.stamped, stamped);
-    assert_eq!(rt; stamp(hart), own_stamp());
+    holds(rt, matches!(step.entry, Some(Entry::Retire { .. })));
+    equal(rt, &step.stamped, &stamped);
+    equal(rt, &stamp(hart), &own_stamp());
 }
 
 pub(crate) fn check_stands(rt: &impl Abort, hart: &mut Small, text: &Text) {
-    assert_eq!(rt; hart.core_step(text, 9), None);
+    equal(rt, &hart.core_step(text, 9), &None);
 }
 
 fn stamp(hart: &Small) -> Option<Stamp> {
@@ -55,7 +56,7 @@ fn check_asks(rt: &impl Abort, hart: &mut Small, text: &Text, kind: Kind) {
         kind,
         stamp: stamp(hart),
     };
-    assert_eq!(rt; step(rt, hart, text).message, Some(get));
+    equal(rt, &step(rt, hart, text).message, &Some(get));
 }
 
 /// The request for the block is granted.
@@ -67,13 +68,13 @@ fn check_granted(rt: &impl Abort, hart: &mut Small, give: LineState) {
         ok: true,
         content: None,
     };
-    assert_eq!(rt; reply.message, Some(done));
+    equal(rt, &reply.message, &Some(done));
     check_fresh(rt, hart, true);
 }
 
 /// Whether two harts are one in all that they keep.
 fn check_same(rt: &impl Abort, hart: &Small, other: &Small, want: bool) {
-    assert_eq!(rt; hart.same(other), want);
+    equal(rt, &hart.same(other), &want);
 }
 
 pub(crate) fn check_taken(
@@ -102,16 +103,16 @@ pub(crate) fn check_spills(rt: &impl Abort, hart: &mut Small, text: &Text) {
         block: block(),
     };
     let step = step(rt, hart, text);
-    assert_eq!(rt; (step.message, step.entry), (Some(put), Some(spill)));
+    equal(rt, &(step.message, step.entry), &(Some(put), Some(spill)));
 }
 
 /// Whether a request is out.
 fn check_waiting(rt: &impl Abort, hart: &Small, want: bool) {
-    assert_eq!(rt; hart.request().is_some(), want);
+    equal(rt, &hart.request().is_some(), &want);
 }
 
 pub(crate) fn check_waits(rt: &impl Abort, hart: &mut Small, block: BlockNo) {
-    assert_eq!(rt; grant_but_for_one(hart, block).message, None);
+    equal(rt, &grant_but_for_one(hart, block).message, &None);
     check_waiting(rt, hart, true);
 }
 
@@ -122,7 +123,7 @@ pub(crate) fn check_ends_refused(rt: &impl Abort, hart: &mut Small, block: Block
         ok: false,
         content: None,
     };
-    assert_eq!(rt; grant_but_for_one(hart, block).message, Some(done));
+    equal(rt, &grant_but_for_one(hart, block).message, &Some(done));
     check_waiting(rt, hart, false);
 }
 
@@ -134,13 +135,13 @@ pub(crate) fn check_shared(rt: &impl Abort, hart: &mut Small, content: Block) {
         content: Some(content),
     };
     let reply = forward(hart, Kind::Read, None);
-    assert_eq!(rt; (reply.message, reply.entry), (Some(ack), None));
+    equal(rt, &(reply.message, reply.entry), &(Some(ack), None));
 }
 
 pub(crate) fn check_given(rt: &impl Abort, hart: &mut Small, kind: Kind, stamp: Option<u64>) {
     let reply = forward(hart, kind, stamp);
-    assert!(rt; matches!(reply.message, Some(Message::Ack { .. })));
-    assert_eq!(rt; reply.entry, None);
+    holds(rt, matches!(reply.message, Some(Message::Ack { .. })));
+    equal(rt, &reply.entry, &None);
 }
 
 pub(crate) fn check_refused(rt: &impl Abort, hart: &mut Small, kind: Kind, stamp: Option<u64>) {
@@ -151,38 +152,42 @@ pub(crate) fn check_refused(rt: &impl Abort, hart: &mut Small, kind: Kind, stamp
         stamp: own_stamp(),
     };
     let reply = forward(hart, kind, stamp);
-    assert_eq!(rt; reply.message, Some(nack));
-    assert!(rt; matches!(reply.entry, Some(Entry::Refuse { .. })));
+    equal(rt, &reply.message, &Some(nack));
+    holds(rt, matches!(reply.entry, Some(Entry::Refuse { .. })));
 }
 
 pub(crate) fn check_retires_alone(rt: &impl Abort, hart: &mut Small, text: &Text) {
-    assert!(rt; matches!(hart.local(text), Local::Retired(Entry::Retire { .. })));
+    holds(
+        rt,
+        matches!(hart.local(text), Local::Retired(Entry::Retire { .. })),
+    );
 }
 
 pub(crate) fn check_gives_alone(rt: &impl Abort, hart: &mut Small, text: &Text, want: Entry) {
-    assert_eq!(rt; hart.local(text), Local::Retired(want));
+    equal(rt, &hart.local(text), &Local::Retired(want));
 }
 
 pub(crate) fn check_needs_hub(rt: &impl Abort, hart: &mut Small, text: &Text) {
     let before = *hart;
-    assert_eq!(rt; hart.local(text), Local::NeedsMachine);
+    equal(rt, &hart.local(text), &Local::NeedsMachine);
     check_same(rt, hart, &before, true);
 }
 
 pub(crate) fn check_register(rt: &impl Abort, hart: &Small, index: usize, want: u32) {
-    assert_eq!(rt;
-        hart.registers().get(index).copied(),
-        Some(want),
-        "x{index}"
+    equal_at(
+        rt,
+        &hart.registers().get(index).copied(),
+        &Some(want),
+        &index,
     );
 }
 
 pub(crate) fn check_pc(rt: &impl Abort, hart: &Small, want: u32) {
-    assert_eq!(rt; hart.pc(), Addr::new(want));
+    equal(rt, &hart.pc(), &Addr::new(want));
 }
 
 pub(crate) fn check_status(rt: &impl Abort, hart: &Small, want: Status) {
-    assert_eq!(rt; hart.status(), want);
+    equal(rt, &hart.status(), &want);
 }
 
 fn state(hart: &Small) -> Option<LineState> {
@@ -191,38 +196,38 @@ fn state(hart: &Small) -> Option<LineState> {
 }
 
 pub(crate) fn check_state(rt: &impl Abort, hart: &Small, want: Option<LineState>) {
-    assert_eq!(rt; state(hart), want);
+    equal(rt, &state(hart), &want);
 }
 
 pub(crate) fn check_owned(rt: &impl Abort, hart: &Small, want: Block) {
-    assert_eq!(rt; hart.owned_content(block()), Some(want));
+    equal(rt, &hart.owned_content(block()), &Some(want));
 }
 
 pub(crate) fn check_logged(rt: &impl Abort, hart: &Small, want: Block) {
-    assert!(rt; hart.is_logged(block()));
-    assert_eq!(rt; hart.restored(block(), [0; 8]), want);
+    holds(rt, hart.is_logged(block()));
+    equal(rt, &hart.restored(block(), [0; 8]), &want);
 }
 
 pub(crate) fn check_fresh(rt: &impl Abort, hart: &Small, want: bool) {
-    assert_eq!(rt; hart.is_fresh(), want);
+    equal(rt, &hart.is_fresh(), &want);
 }
 
 pub(crate) fn check_put_out(rt: &impl Abort, hart: &Small, want: bool) {
-    assert_eq!(rt; hart.put().is_some(), want);
+    equal(rt, &hart.put().is_some(), &want);
 }
 
 pub(crate) fn check_depth(rt: &impl Abort, hart: &Small, want: u8) {
-    assert_eq!(rt; hart.transaction().depth(), want);
+    equal(rt, &hart.transaction().depth(), &want);
 }
 
 pub(crate) fn check_cycle(rt: &impl Abort, hart: &Small, want: bool) {
-    assert_eq!(rt; hart.transaction().cycle(), want);
+    equal(rt, &hart.transaction().cycle(), &want);
 }
 
 pub(crate) fn check_aborting(rt: &impl Abort, hart: &Small, want: Option<AbortCause>) {
-    assert_eq!(rt; hart.transaction().aborting(), want);
+    equal(rt, &hart.transaction().aborting(), &want);
 }
 
 pub(crate) fn check_kept_stamp(rt: &impl Abort, hart: &Small) {
-    assert_eq!(rt; hart.kept_stamp(), own_stamp());
+    equal(rt, &hart.kept_stamp(), &own_stamp());
 }

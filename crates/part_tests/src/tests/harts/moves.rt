@@ -1,5 +1,6 @@
 //! Hart 1 of 2, its program, and what happens to it.
 
+use crate::tests::claims::{equal, holds, holds_at};
 use hart::{CoreStep, Hart, Reply};
 use std::alloc::{AllocError, Global};
 use std::process::Abort;
@@ -77,16 +78,16 @@ pub(crate) fn retire(rt: &impl Abort, hart: &mut Small, text: &Text, steps: u32)
     for _ in 0..steps {
         let pc = hart.pc();
         let step = step(rt, hart, text);
-        assert!(rt; matches!(step.entry, Some(Entry::Retire { .. })), "{pc:?}");
-        assert_eq!(rt; step.message, None);
+        holds_at(rt, matches!(step.entry, Some(Entry::Retire { .. })), &pc);
+        equal(rt, &step.message, &None);
     }
 }
 
 /// A step that asks for a block.
 pub(crate) fn ask(rt: &impl Abort, hart: &mut Small, text: &Text) {
     let step = step(rt, hart, text);
-    assert!(rt; matches!(step.message, Some(Message::Get { .. })));
-    assert_eq!(rt; step.entry, None);
+    holds(rt, matches!(step.message, Some(Message::Get { .. })));
+    equal(rt, &step.entry, &None);
 }
 
 /// The grant of a request, which these harts have to answer.

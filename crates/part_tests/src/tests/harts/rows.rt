@@ -8,6 +8,7 @@ use super::checks::{
     check_steps_quietly, check_taken, check_waits,
 };
 use super::moves::{Small, ask, booted, nack, program, put_over, retire};
+use crate::tests::claims::holds_at;
 use std::process::Abort;
 use std::test::Fail;
 use table::Text;
@@ -127,7 +128,7 @@ fn check_read(rt: &impl Abort, hart: &Small, row: &Row) {
         Row::Cycle(want) => check_cycle(rt, hart, *want),
         Row::Aborting(want) => check_aborting(rt, hart, *want),
         Row::KeepsStamp => check_kept_stamp(rt, hart),
-        _ => assert!(rt; false, "no row"),
+        _ => holds_at(rt, false, &"no row"),
     }
 }
 

@@ -2,57 +2,12 @@
 use super::{COUNTED, COUNTER, KEPT};
 use crate::tests::calls::{Sheets, carried, request_of};
 use crate::tests::checks::check;
+use crate::tests::claims::{equal, equal_items, holds};
 use crate::tests::paper::Paper;
 use command_line::Request;
 use std::process::Abort;
 use std::sync::Wait;
 use std::thread::Threads;
-
-#[test]
-fn what_is_no_run_is_told(rt: HostRuntime) {
-    let counter = COUNTER.as_bytes();
-    let cases: [(&[&str], &[u8], u8, &str); 3] = [
-        (
-            &["logtm", "run", "f", "--threads"],
-            b"",
-            4,
-            "logtm: load 1 Truncated\n",
-        ),
-        (
-            &["logtm", "run", "f.s", "--threads", "--harts=9"],
-            counter,
-            4,
-            "logtm: boot 2 BadHarts\n",
-        ),
-        (
-            &[
-                "logtm",
-                "run",
-                "f.s",
-                "--threads",
-                "--history=h",
-                "8",
-                "3",
-                "5",
-            ],
-            counter,
-            2,
-            "logtm: word 3\n",
-        ),
-    ];
-    for (words, file, status, text) in cases {
-        let told = check(
-            &rt,
-            words,
-            file,
-            Sheets::endless(rt.alloc()),
-            status,
-            "",
-            text,
-        );
-        assert_eq!(rt; told.page.bytes.len(), 0);
-    }
-}
 
 #[test]
 fn a_history_that_cannot_be_put_is_told(rt: HostRuntime) {
@@ -68,7 +23,7 @@ fn a_history_that_cannot_be_put_is_told(rt: HostRuntime) {
             "",
             text,
         );
-        assert_eq!(rt; (told.page.left, told.page.failed), (0, 1));
+        equal(&rt, &(told.page.left, told.page.failed), &(0, 1));
     }
     let sheets = Sheets::with_page(rt.alloc(), Paper::stuck(rt.alloc()));
     let told = check(
@@ -80,8 +35,8 @@ fn a_history_that_cannot_be_put_is_told(rt: HostRuntime) {
         "",
         text,
     );
-    assert!(rt; told.page.bytes.starts_with(b"core "));
-    assert_eq!(rt; told.page.failed, 1);
+    holds(&rt, told.page.bytes.starts_with(b"core "));
+    equal(&rt, &told.page.failed, &1);
 }
 
 /// That the user is told where so many puts of the report are taken, and the next is refused.
@@ -92,11 +47,15 @@ fn check_cut(
 ) {
     let sheets = Sheets::cut(rt.alloc(), left);
     let told = carried(rt, request, COUNTER.as_bytes(), &[], sheets);
-    assert_eq!(rt; (told.status, told.out.left, told.out.failed), (3, 0, 1));
-    assert!(rt; COUNTED.as_bytes().starts_with(&told.out.bytes));
-    assert!(rt; told.page.bytes.starts_with(b"core "));
+    equal(
+        rt,
+        &(told.status, told.out.left, told.out.failed),
+        &(3, 0, 1),
+    );
+    holds(rt, COUNTED.as_bytes().starts_with(&told.out.bytes));
+    holds(rt, told.page.bytes.starts_with(b"core "));
     let text = b"logtm: cannot write standard output\n";
-    assert_eq!(rt; told.error.bytes.as_slice(), text.as_slice());
+    equal_items(rt, &told.error.bytes, text);
 }
 
 // The report has so many puts; each is refused in turn.

@@ -1,12 +1,13 @@
+use crate::tests::claims::{equal, equal_items};
 use std::test::Fail;
 use texts::{hexadecimal, put_all};
 use words::{SinkFault, Taken};
 
 #[test]
 fn a_word_has_eight_digits(rt: HostRuntime) -> Result<(), Fail> {
-    assert_eq!(rt; hexadecimal(0x0bad_cafe), *b"0badcafe");
-    assert_eq!(rt; hexadecimal(0x1234_5678), *b"12345678");
-    assert_eq!(rt; hexadecimal(9), *b"00000009");
+    equal(&rt, &hexadecimal(0x0bad_cafe), &*b"0badcafe");
+    equal(&rt, &hexadecimal(0x1234_5678), &*b"12345678");
+    equal(&rt, &hexadecimal(9), &*b"00000009");
     Ok(())
 }
 
@@ -17,10 +18,10 @@ fn pieces_are_put_in_order(rt: HostRuntime) -> Result<(), Fail> {
         failed: 0,
     };
     match put_all(&mut sink, &[b"one", b"", b" two"]) {
-        Ok(()) => assert_eq!(rt; &sink.bytes[..], b"one two".as_slice()),
+        Ok(()) => equal_items(&rt, &sink.bytes[..], b"one two"),
         Err(fault) => {
-            assert_eq!(rt; fault, SinkFault);
-            assert_eq!(rt; sink.failed, 1);
+            equal(&rt, &fault, &SinkFault);
+            equal(&rt, &sink.failed, &1);
         }
     }
     Ok(())

@@ -1,3 +1,4 @@
+use crate::tests::claims::{equal, equal_at, equal_items, holds, holds_at};
 use crate::tests::sample::SAMPLE;
 use loader::{LoadFault, Program, read_elf, write_elf};
 use std::alloc::Global;
@@ -101,19 +102,28 @@ fn is_sample(program: &Program) -> bool {
 #[test]
 fn reads_the_sample(rt: HostRuntime) {
     let program = read(&rt, &SAMPLE);
-    assert!(rt; is_sample(&program));
-    assert_eq!(rt; program.text().word(Addr::new(0x1000)), Some(0x05d0_0893));
-    assert_eq!(rt; program.text().word(Addr::new(0x1008)), Some(0x0000_0073));
-    assert_eq!(rt; program.text().word(Addr::new(0x100c)), None);
+    holds(&rt, is_sample(&program));
+    equal(
+        &rt,
+        &program.text().word(Addr::new(0x1000)),
+        &Some(0x05d0_0893),
+    );
+    equal(
+        &rt,
+        &program.text().word(Addr::new(0x1008)),
+        &Some(0x0000_0073),
+    );
+    equal(&rt, &program.text().word(Addr::new(0x100c)), &None);
 }
 
 #[test]
 fn prefixes_are_truncated(rt: HostRuntime) -> Result<(), Fail> {
     for len in 0..SAMPLE.len() {
-        assert_eq!(rt;
-            fault(rt.alloc(), &SAMPLE[..len]),
-            Some(LoadFault::Truncated),
-            "{len} bytes"
+        equal_at(
+            &rt,
+            &fault(rt.alloc(), &SAMPLE[..len]),
+            &Some(LoadFault::Truncated),
+            &len,
         );
     }
     Ok(())
@@ -147,12 +157,11 @@ fn refuses_each_fault(rt: HostRuntime) {
     ];
     for (change, want) in cases {
         let bytes = sample_with(&rt, &[change]);
-        assert_eq!(rt;
-            fault(rt.alloc(), &bytes),
-            Some(want),
-            "{} at {}",
-            change.1,
-            change.0
+        equal_at(
+            &rt,
+            &fault(rt.alloc(), &bytes),
+            &Some(want),
+            &(change.1, change.0),
         );
     }
 }
@@ -169,7 +178,7 @@ fn segments_stand_apart(rt: HostRuntime) {
     ];
     for (addr, want) in cases {
         let bytes = two_headers_with(&rt, &[(ADDR + SECOND, addr)]);
-        assert_eq!(rt; fault(rt.alloc(), &bytes), want, "the second at {addr}");
+        equal_at(&rt, &fault(rt.alloc(), &bytes), &want, &addr);
     }
 }
 
@@ -183,23 +192,27 @@ fn passes_over_what_is_not_loaded(rt: HostRuntime) {
     ];
     for changes in cases {
         let bytes = two_headers_with(&rt, &changes);
-        assert!(rt; is_sample(&read(&rt, &bytes)));
+        holds(&rt, is_sample(&read(&rt, &bytes)));
     }
 }
 
 #[test]
 fn memory_beyond_the_file_is_zero(rt: HostRuntime) {
     let program = read(&rt, &sample_with(&rt, &[(MEMORY_SIZE, 20)]));
-    assert_eq!(rt; program.text().word(Addr::new(0x1008)), Some(0x0000_0073));
-    assert_eq!(rt; program.text().word(Addr::new(0x100c)), Some(0));
-    assert_eq!(rt; program.text().word(Addr::new(0x1010)), Some(0));
+    equal(
+        &rt,
+        &program.text().word(Addr::new(0x1008)),
+        &Some(0x0000_0073),
+    );
+    equal(&rt, &program.text().word(Addr::new(0x100c)), &Some(0));
+    equal(&rt, &program.text().word(Addr::new(0x1010)), &Some(0));
 }
 
 #[test]
 fn an_empty_part_of_the_file_lies_anywhere(rt: HostRuntime) {
     let changes = [(FILE_SIZE + SECOND, 0), (KIND + 4 + SECOND, 0xffff_ffff)];
     let bytes = two_headers_with(&rt, &changes);
-    assert!(rt; read_elf(rt.alloc(), &bytes).is_ok());
+    holds(&rt, read_elf(rt.alloc(), &bytes).is_ok());
 }
 
 /// Whether the sample is read with this byte there. If not, it isn't for want of memory.
@@ -209,7 +222,7 @@ fn is_read_with(rt: &(impl Abort + AllocGlobal), at: usize, value: u8) -> bool {
         *byte = value;
     }
     let fault = fault(rt.alloc(), &bytes);
-    assert!(rt; fault != Some(LoadFault::NoMemory), "{value} at {at}");
+    holds_at(rt, fault != Some(LoadFault::NoMemory), &(value, at));
     fault.is_none()
 }
 
@@ -223,19 +236,19 @@ fn any_byte_may_be_any_value(rt: HostRuntime) {
             }
         }
     }
-    assert!(rt; read > 0);
+    holds(&rt, read > 0);
 }
 
 /// Whether two programs are the same.
 fn check_same(rt: &impl Abort, program: &Program, other: &Program, want: bool) {
-    assert_eq!(rt; program.same(other), want);
+    equal(rt, &program.same(other), &want);
 }
 
 #[test]
 fn copies_are_the_same(rt: HostRuntime) {
     let program = read(&rt, &SAMPLE);
     let copy = program.copy(rt.alloc()).expect(&rt, "memory");
-    assert!(rt; is_sample(&copy));
+    holds(&rt, is_sample(&copy));
     check_same(&rt, &program, &copy, true);
     let other = read(&rt, &sample_with(&rt, &[(ENTRY, 0x1004)]));
     check_same(&rt, &program, &other, false);
@@ -274,7 +287,7 @@ fn written(rt: &(impl Abort + AllocGlobal), program: &Program) -> Vec<u8> {
 #[test]
 fn a_full_table_is_read(rt: HostRuntime) {
     let program = read(&rt, &full_table(&rt));
-    assert_eq!(rt; program.segments().len(), 65_535);
+    equal(&rt, &program.segments().len(), &65_535);
     let again = read(&rt, &written(&rt, &program));
     check_same(&rt, &again, &program, true);
 }
@@ -282,23 +295,23 @@ fn a_full_table_is_read(rt: HostRuntime) {
 #[test]
 fn a_linked_file_is_read(rt: HostRuntime) {
     let program = read(&rt, &LINKED);
-    assert_eq!(rt; program.entry(), Addr::new(0x1000));
+    equal(&rt, &program.entry(), &Addr::new(0x1000));
     match program.segments() {
         [text, data] => {
-            assert!(rt; text.exec && !data.exec);
-            assert_eq!(rt; (text.addr, text.size), (0x1000, 20));
-            assert_eq!(rt; (data.addr, data.size), (0x2000, 12));
-            assert_eq!(rt; text.bytes.len(), 20);
-            assert_eq!(rt; data.bytes.as_slice(), [7, 0, 0, 0].as_slice());
+            holds(&rt, text.exec && !data.exec);
+            equal(&rt, &(text.addr, text.size), &(0x1000, 20));
+            equal(&rt, &(data.addr, data.size), &(0x2000, 12));
+            equal(&rt, &text.bytes.len(), &20);
+            equal_items(&rt, &data.bytes, &[7, 0, 0, 0]);
         }
-        _ => assert!(rt; false, "the linker's file has two segments"),
+        _ => holds_at(&rt, false, &"the linker's file has two segments"),
     }
 }
 
 /// That a file is read and written as this one.
 fn check_written(rt: &(impl Abort + AllocGlobal), file: &[u8], want: &[u8]) {
     let program = read(rt, file);
-    assert_eq!(rt; written(rt, &program).as_slice(), want);
+    equal_items(rt, written(rt, &program).as_slice(), want);
 }
 
 #[test]

@@ -1,5 +1,6 @@
 ghost use Rattle.std.specs.Prelude.{◌<◌};
 
+use crate::tests::claims::{equal_at, equal_items, equal_text, holds, holds_at};
 use directory::{Busy, DirEntry, Owner};
 use disassembler::Symbols;
 use reference::Breaking;
@@ -35,8 +36,11 @@ fn taken(alloc: Global) -> Taken {
 
 fn check_entry(rt: &(impl Abort + AllocGlobal), entry: Entry, want: &str) {
     let mut sink = taken(rt.alloc());
-    assert!(rt; put_entry(&Symbols::none(rt.alloc()), &entry, &mut sink).is_ok());
-    assert_eq!(rt; sink.bytes.as_slice(), want.as_bytes());
+    holds(
+        rt,
+        put_entry(&Symbols::none(rt.alloc()), &entry, &mut sink).is_ok(),
+    );
+    equal_items(rt, &sink.bytes, want.as_bytes());
 }
 
 fn retired(pc: u32, word: u32, write: Option<(Reg, u32)>) -> Entry {
@@ -187,14 +191,11 @@ fn the_directory_tells_owner_sharers_and_request(rt: HostRuntime) -> Result<(), 
         ),
     ];
     for (entry, want) in entries {
-        assert_eq!(rt; directory_text(&entry).as_str(), want);
+        equal_text(&rt, directory_text(&entry).as_str(), want);
     }
     let mut sink = taken(rt.alloc());
-    assert!(rt; put_directory(&first, &mut sink).is_ok());
-    assert_eq!(rt;
-        sink.bytes.as_slice(),
-        b"owner none sharers - busy -\n".as_slice()
-    );
+    holds(&rt, put_directory(&first, &mut sink).is_ok());
+    equal_items(&rt, &sink.bytes, b"owner none sharers - busy -\n");
     Ok(())
 }
 
@@ -204,30 +205,38 @@ fn a_line_tells_state_and_marks(rt: HostRuntime) -> Result<(), Fail> {
         written: true,
         ..Marks::none()
     };
-    assert_eq!(rt; cached_text(LineState::Modified, written).as_str(), "M -w-");
+    equal_text(
+        &rt,
+        cached_text(LineState::Modified, written).as_str(),
+        "M -w-",
+    );
     let read = Marks {
         read: true,
         ..Marks::none()
     };
-    assert_eq!(rt; cached_text(LineState::Exclusive, read).as_str(), "E r--");
+    equal_text(
+        &rt,
+        cached_text(LineState::Exclusive, read).as_str(),
+        "E r--",
+    );
     let overflowed = Marks {
         overflowed: true,
         ..Marks::none()
     };
     let mut sink = taken(rt.alloc());
-    assert!(rt; put_cached(LineState::Shared, overflowed, &mut sink).is_ok());
-    assert_eq!(rt; sink.bytes.as_slice(), b"S --x\n".as_slice());
+    holds(
+        &rt,
+        put_cached(LineState::Shared, overflowed, &mut sink).is_ok(),
+    );
+    equal_items(&rt, &sink.bytes, b"S --x\n");
     Ok(())
 }
 
 #[test]
 fn a_word_has_its_address(rt: HostRuntime) -> Result<(), Fail> {
     let mut sink = taken(rt.alloc());
-    assert!(rt; put_word(Addr::new(0x2000), 7, &mut sink).is_ok());
-    assert_eq!(rt;
-        sink.bytes.as_slice(),
-        b"0x00002000 = 0x00000007\n".as_slice()
-    );
+    holds(&rt, put_word(Addr::new(0x2000), 7, &mut sink).is_ok());
+    equal_items(&rt, &sink.bytes, b"0x00002000 = 0x00000007\n");
     Ok(())
 }
 
@@ -306,7 +315,7 @@ fn messages_between_harts_and_directory(rt: HostRuntime) -> Result<(), Fail> {
         ),
     ];
     for (message, want) in messages {
-        assert_eq!(rt; message_text(&message).as_str(), want);
+        equal_text(&rt, message_text(&message).as_str(), want);
     }
     Ok(())
 }
@@ -344,15 +353,15 @@ fn messages_from_hart_to_hart(rt: HostRuntime) -> Result<(), Fail> {
         ),
     ];
     for (message, want) in messages {
-        assert_eq!(rt; message_text(&message).as_str(), want);
+        equal_text(&rt, message_text(&message).as_str(), want);
     }
     let mut sink = taken(rt.alloc());
     let arrived = Message::PutAck {
         to: hart(1),
         block: block(),
     };
-    assert!(rt; put_message(&arrived, &mut sink).is_ok());
-    assert_eq!(rt; sink.bytes.as_slice(), b"putack 1 0x00002000\n".as_slice());
+    holds(&rt, put_message(&arrived, &mut sink).is_ok());
+    equal_items(&rt, &sink.bytes, b"putack 1 0x00002000\n");
     Ok(())
 }
 
@@ -382,20 +391,25 @@ fn numbered() -> Regs {
 fn registers_stand_four_on_a_line(rt: HostRuntime) -> Result<(), Fail> {
     let mut sink = taken(rt.alloc());
     let regs = numbered();
-    assert!(rt;
+    holds(
+        &rt,
         put_registers(
             &Symbols::none(rt.alloc()),
             &regs,
             Addr::new(0x1004),
             Status::Running,
-            &mut sink
+            &mut sink,
         )
-        .is_ok()
+        .is_ok(),
     );
-    assert_eq!(rt; sink.bytes.as_slice(), REGISTERS.as_bytes());
-    assert_eq!(rt; status_text(Status::Exited(3)).as_str(), "exit 3");
+    equal_items(&rt, &sink.bytes, REGISTERS.as_bytes());
+    equal_text(&rt, status_text(Status::Exited(3)).as_str(), "exit 3");
     let stopped = Status::Stopped(Cause::OutsideTransaction, Addr::new(0x1004));
-    assert_eq!(rt; status_text(stopped).as_str(), "trap 14 OutsideTransaction");
+    equal_text(
+        &rt,
+        status_text(stopped).as_str(),
+        "trap 14 OutsideTransaction",
+    );
     Ok(())
 }
 
@@ -411,10 +425,10 @@ fn each_put_fails_in_turn(rt: HostRuntime) -> Result<(), Fail> {
             Status::Running,
             &mut sink,
         );
-        assert!(rt; answer.is_err(), "{left}");
-        assert_eq!(rt; sink.failed, 1, "{left}");
-        assert!(rt; REGISTERS.as_bytes().starts_with(&sink.bytes), "{left}");
-        assert!(rt; sink.bytes.len() < REGISTERS.len(), "{left}");
+        holds_at(&rt, answer.is_err(), &left);
+        equal_at(&rt, &sink.failed, &1, &left);
+        holds_at(&rt, REGISTERS.as_bytes().starts_with(&sink.bytes), &left);
+        holds_at(&rt, sink.bytes.len() < REGISTERS.len(), &left);
     }
     Ok(())
 }

@@ -1,0 +1,35 @@
+//! What tests claim. A claim that doesn't hold ends its test. (The text of a failed claim takes long to prove: so it is proved here once, and not at each
+//! claim.)
+ghost use Rattle.std.specs.Prelude.{◌≡◌, true};
+
+use std::fmt::Debug;
+use std::process::Abort;
+
+/// That something is true.
+pub(crate) fn holds(rt: &impl Abort, yes: bool)
+    ensures { yes ≡ true }
+{
+    assert!(rt; yes);
+}
+
+/// That something is true of a case.
+pub(crate) fn holds_at<C: Debug>(rt: &impl Abort, yes: bool, case: &C)
+    ensures { yes ≡ true }
+{
+    assert!(rt; yes, "{case:?}");
+}
+
+/// That a value is the one that is wanted.
+pub(crate) fn equal<T: PartialEq + Debug>(rt: &impl Abort, found: &T, wanted: &T) {
+    assert_eq!(rt; found, wanted);
+}
+
+/// That the value of a case is the one that is wanted.
+pub(crate) fn equal_at<T: PartialEq + Debug, C: Debug>(
+    rt: &impl Abort,
+    found: &T,
+    wanted: &T,
+    case: &C,
+) {
+    assert_eq!(rt; found, wanted, "{case:?}");
+}
