@@ -15,8 +15,9 @@ use words::{AbortCause, Entry, HartId};
 /// The most steps that a lease has.
 pub const STEPS: usize = 64;
 
-/// The place where the quick steps of a hart that is lent are inlined.
-const LENT: usize = 3;
+/// The place where the quick steps of a hart that is lent are inlined. The machine's own places have other numbers: a step with two callers is inlined
+/// in neither.
+const LENT: usize = 5;
 
 /// What a lease keeps of the entries of its steps.
 pub trait Trace<const SETS: usize, const WAYS: usize>: Drop {
