@@ -15,11 +15,12 @@ use Rattle.machine.specs.Making.{MakesStep}
 use Rattle.machine.specs.States.{State, setting_of, shown}
 use Rattle.machine.proofs.Made.{steps_of}
 use Rattle.schedule.specs.declared.choices.Choice.{Choice}
-use Rattle.schedule.specs.declared.choices.Choice.TheVariants.{Core, Evict, Deliver, Turn}
+use Rattle.schedule.specs.declared.choices.Choice.TheVariants.{Core}
 use Rattle.schedule.specs.Moments.{Moment, moment, moments}
 use Rattle.schedule.specs.Runs.{Makes, Follows, last_after}
 use Rattle.schedule.specs.Written.{IsWritable}
 use Rattle.schedule.proofs.Making.{entries_both, entries_one}
+use Rattle.schedule.proofs.Readable.{within_writable}
 use Rattle.board.specs.Leases.{Lent}
 use Rattle.schedule.specs.Steps.{IsChoiceOf, IsWithin}
 use Rattle.board.specs.Histories.{Told, IsChosen, IsOf, Leads, LeadsAlone, no_step, one_step, core_steps, both, told_then, first_flat, IsReplay, IsCourse, IsCourseIf, IsKept, IsEnd}
@@ -100,10 +101,7 @@ module _ (g : Geometry) (p : Program) (n size : ℕ) where
 
   -- a choice within memory can be written
   pub kept_writable : (tells : Told → Type 0) (m : State) (c : Choice) → size < 2 ^ 32 → IsKept g p n size tells m → IsWithin (setting_of m) c → IsWritable c
-  kept_writable tells m (Core h) less k few = few
-  kept_writable tells m (Evict h b) less k (few, near) = (few, omega (arith, near, less, kept_size tells m k))
-  kept_writable tells m (Deliver name) less k (few, near) = (few, omega (arith, near, less, kept_size tells m k))
-  kept_writable tells m Turn less k none = absurd none
+  kept_writable tells m c less k within = within_writable (setting_of m) c (omega (arith, less, kept_size tells m k)) within
 
   -- the beginning
   pub kept_first : (tells : Told → Type 0) (m : State) → Begins g p n size m → tells no_step → IsKept g p n size tells m

@@ -18,9 +18,20 @@ pub enum Victim {
     WriteBack(Line),
 }
 
-/// The way that holds a block.
+/// The way that holds a block. Most lie in the first way of their set, which is looked at in place.
 #[inline(always)]
 pub fn way_of(ways: &[Option<Line>], block: BlockNo) -> Option<usize>
+    ensures { result ≡ position (holds block) ways.now }
+{
+    match ways.first() {
+        Some(first) if is_line_of(first, block) => Some(0),
+        _ => search(ways, block),
+    }
+}
+
+/// The same, by a search through all ways.
+#[inline(never)]
+fn search(ways: &[Option<Line>], block: BlockNo) -> Option<usize>
     ensures { result ≡ position (holds block) ways.now }
 {
     ways.iter().position(|way| is_line_of(way, block))

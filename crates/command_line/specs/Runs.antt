@@ -98,7 +98,7 @@ can_keep options path = not (bytes_eq path (codes "-") || reads options path)
 
 -- the weights where none are given
 abbrev pub default_mix : Mix
-default_mix = record { cores = 20; arrivals = 20; evictions = 1 }
+default_mix = record { cores = 30; arrivals = 30; evictions = 1 }
 
 -- the chance that is asked for: by its seed, with its weights
 abbrev pub IsChanceOf : Options → Chance → Type 0

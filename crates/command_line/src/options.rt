@@ -10,8 +10,8 @@ use crate::request::{
 
 /// The weights where none are given.
 const DEFAULT_MIX: Mix = Mix {
-    cores: 20,
-    arrivals: 20,
+    cores: 30,
+    arrivals: 30,
     evictions: 1,
 };
 

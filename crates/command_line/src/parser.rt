@@ -187,7 +187,7 @@ fn with_choosers<'a>(
     let seed =
         "Chooses the steps by chance, behind those of a schedule: by one number the same steps";
     let mix =
-        "The weights of core steps, arrivals of messages and evictions by chance, 20,20,1 if not given";
+        "The weights of core steps, arrivals of messages and evictions by chance, 30,30,1 if not given";
     let command = with_option(alloc, command, "schedule", "LIST", schedule);
     let command = with_option(alloc, command, "seed", "N", seed);
     with_option(alloc, command, "mix", "C,D,E", mix)

@@ -1,10 +1,10 @@
-ghost use Rattle.std.specs.Prelude.{◌≡◌, ◌≤◌, ◌+◌, ◌++◌, length};
-ghost use Rattle.table.specs.declared.instr.Instr.TheVariants.{Amo, Fence};
+ghost use Rattle.std.specs.Prelude.{◌≡◌, ◌≤◌, ◌+◌, ◌++◌, [], length};
+ghost use Rattle.table.specs.declared.instr.Instr.TheVariants.{Amo, Fence, OpImm};
 ghost use Rattle.disassembler.specs.Canonical.{canonical, spelled, plain, text_or};
 
 use crate::shapes::{atomic, based, begin, jump, numbered, registers, shifted, upper};
-use operands::FenceBits;
-use table::{Instr, Row, decode};
+use operands::{FenceBits, Imm12};
+use table::{ImmOp, Instr, Row, decode};
 use texts::Line;
 use words::Reg;
 
@@ -59,13 +59,7 @@ fn add_instr<const CAP: usize>(instr: Instr, word: u32, line: &mut Line<CAP>)
         } => numbered(Row::Branch(op).name(), rs1, rs2, offset.value(), line),
         Instr::Load { op, rd, rs1, imm } => based(Row::Load(op).name(), rd, imm, rs1, line),
         Instr::Store { op, rs1, rs2, imm } => based(Row::Store(op).name(), rs2, imm, rs1, line),
-        Instr::OpImm { op, rd, rs1, imm } => numbered(
-            Row::OpImm(op).name(),
-            rd,
-            rs1,
-            imm.value(),
-            line,
-        ),
+        Instr::OpImm { op, rd, rs1, imm } => immediate(op, rd, rs1, imm, line),
         Instr::ShiftImm {
             op,
             rd,
@@ -89,6 +83,15 @@ fn add_instr<const CAP: usize>(instr: Instr, word: u32, line: &mut Line<CAP>)
         Instr::TCommit => line.put(Row::TCommit.name()),
         Instr::TAbort => line.put(Row::TAbort.name()),
     }
+}
+
+/// Adds an operation with an immediate.
+fn immediate<const CAP: usize>(op: ImmOp, rd: Reg, rs1: Reg, imm: Imm12, line: &mut Line<CAP>)
+    requires { length line.old + 40 ≤ CAP }
+    ensures text { line.new ≡ line.old ++ text_or [] (spelled (OpImm op rd rs1 imm)) }
+    ensures longer { length line.new ≤ length line.old + 40 }
+{
+    numbered(Row::OpImm(op).name(), rd, rs1, imm.value(), line)
 }
 
 /// The bits of the fence that has a text: of all reads and writes before it, and all after it.

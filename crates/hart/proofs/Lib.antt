@@ -4,6 +4,7 @@ pub mod Rows
 pub mod Views
 pub mod Words
 pub mod Victims
+pub mod Going
 pub mod Alone
 pub mod Stores
 pub mod Plain

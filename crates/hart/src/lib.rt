@@ -8,6 +8,7 @@ mod access;
 mod advance;
 mod assign;
 mod causes;
+mod enabled;
 mod evict;
 mod hart;
 mod local;

@@ -84,11 +84,15 @@ impl<const SETS: usize, const WAYS: usize> Machine<SETS, WAYS> {
     }
 
     /// Whether a hart's core has a step to make.
+    #[inline(always)]
     fn is_core_enabled(&self, id: HartId) -> bool
         ensures { IsEnabledByRule (geometry SETS WAYS) self.now (Core id) result }
     {
         match self.seats.get(id.index()) {
-            Some(seat) => seat.has_step(&self.program.text(), self.stamps),
+            Some(seat) => match seat.glance() {
+                Some(known) => known,
+                None => seat.has_step(&self.program.text()),
+            },
             None => false,
         }
     }
@@ -104,6 +108,7 @@ impl<const SETS: usize, const WAYS: usize> Machine<SETS, WAYS> {
     }
 
     /// Whether a step is enabled: one that isn't changes nothing.
+    #[inline(always)]
     pub fn is_enabled(&self, step: Step) -> bool
         ensures steps { IsEnabled (geometry SETS WAYS) (shown SETS self.now) step result }
         ensures rule { IsEnabledByRule (geometry SETS WAYS) self.now step result }

@@ -17,7 +17,7 @@ pub(crate) fn hint(argument: Argument) -> &'static str
         Argument::Stats => "--stats is table or csv",
         Argument::Seed => "--seed is a number below 4294967296",
         Argument::Mix => {
-            "--mix is three numbers below 4294967296 that are not all 0, as 20,20,1"
+            "--mix is three numbers below 4294967296 that are not all 0, as 30,30,1"
         }
         Argument::Trace => "--trace is - or the path of a file that the run doesn't read",
         Argument::Timeline => {

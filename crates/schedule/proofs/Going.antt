@@ -11,7 +11,6 @@ use Rattle.schedule.specs.Courses.{Behind, Turns, Chance, course, forgotten, IsA
 use Rattle.schedule.specs.Moments.{Moment, moment, entries_of}
 use Rattle.schedule.specs.Runs.{Makes, TookTurns, TakesTurns, TakesChosen, FollowsThen, Plays}
 use Rattle.schedule.proofs.Making.{GivesAll, HasMade, gives_more, leads}
-use Rattle.schedule.proofs.Ready.{picked_made}
 
 -- k steps were made, of which the last were turns: what is made by further turns is made by all
 pub record HasTurned (g : Geometry) (all : List Choice) (k : ℕ) (v w : State) (after : ℕ) (ms : List Moment) : Type 0 where
@@ -73,9 +72,9 @@ module _ (g : Geometry) (all : List Choice) where
     gone_more w Turns c step e before (next, is) made =
         subst (λ (b : Behind). HasGone g all b (k + 1) v w (hart_after step after) (ms ++ moment u step e w ∷ [])) (sym is) (turned_more w step e before next made)
     gone_more w (Chance None) c step e (chosen, before) ((choice, picked), is) made =
-        subst (λ (b : Behind). HasGone g all b (k + 1) v w (hart_after step after) (ms ++ moment u step e w ∷ [])) (sym is) (chosen ++ choice ∷ [], chosen_more w chosen choice step e before (picked_made g u w choice step e picked made) made)
+        subst (λ (b : Behind). HasGone g all b (k + 1) v w (hart_after step after) (ms ++ moment u step e w ∷ [])) (sym is) (chosen ++ choice ∷ [], chosen_more w chosen choice step e before picked made)
     gone_more w (Chance (Some chosen)) c step e before (choice, picked, is) made =
-        subst (λ (b : Behind). HasGone g all b (k + 1) v w (hart_after step after) (ms ++ moment u step e w ∷ [])) (sym is) (chosen_more w chosen choice step e before (picked_made g u w choice step e picked made) made)
+        subst (λ (b : Behind). HasGone g all b (k + 1) v w (hart_after step after) (ms ++ moment u step e w ∷ [])) (sym is) (chosen_more w chosen choice step e before picked made)
 
   -- more turns
   pub turned_on : (k : ℕ) (v u w : State) (after last : ℕ) (ms ns : List Moment) → HasTurned g all k v u after ms → TookTurns g u after ns w last → HasTurned g all (k + length ns) v w last (ms ++ ns)

@@ -1,13 +1,12 @@
 mod Words
 mod Reading
 mod Finding
-mod Gathering
+mod Drawing
 mod Resting
-mod Again
+pub mod Again
 mod Naming
 pub mod Making
 pub mod Going
-mod Ready
 mod Evicting
 pub mod Seeing
 pub mod PlainTurns
@@ -15,7 +14,8 @@ pub mod Lengths
 mod Batches
 mod LineWords
 mod Spelled
-mod Texts
+pub mod Texts
+pub mod Readable
 mod Repeats
 pub mod OneRun
 pub mod SameFlights

@@ -4,7 +4,7 @@ use Rattle.schedule.specs.declared.choices.Choice.{Choice}
 use Rattle.schedule.specs.declared.choices.Choice.TheVariants.{Core, Evict, Deliver, Turn}
 use Rattle.schedule.specs.Spelling.{sort_name, choice_of}
 use Rattle.schedule.specs.Lines.{says, spelled}
-use Rattle.schedule.specs.Written.{address_of, line_of, IsWritable}
+use Rattle.schedule.specs.Written.{address_of, line_of, IsReadable}
 use Rattle.schedule.proofs.LineWords.{Printed, joined, AreWords, parted, all_printed, letters, sort_letters, sort_read, hart_letters, hart_read, address_letters, address_read}
 
 -- the words of a choice's line, and what they spell
@@ -16,7 +16,7 @@ record Spells (c : Choice) : Type 0 where
   pub read : choice_of (verb ∷ others) ≡ Some c
   pub said : says (line_of c) ≡ true
 
-spells : (c : Choice) → IsWritable c → Spells c
+spells : (c : Choice) → IsReadable c → Spells c
 spells (Core h) few = record {
   verb = codes "core";
   others = decimal h ∷ [];
@@ -41,13 +41,13 @@ spells (Deliver n) (few, near) = record {
   read = rw (sort_read n.sort, hart_read n.hart few, address_read n.block near) refl;
   said = refl;
 }
-spells Turn none = absurd none
+spells Turn turn = record { verb = codes "turn"; others = []; line = refl; letters = (letters (codes "turn") refl refl, tt); read = refl; said = refl }
 
-pub is_spelled : (c : Choice) → IsWritable c → spelled (line_of c) ≡ Some c
-is_spelled c writable = let s = spells c writable in ap spelled s.line ∙ ap choice_of (parted s.verb s.others s.letters) ∙ s.read
+pub is_spelled : (c : Choice) → IsReadable c → spelled (line_of c) ≡ Some c
+is_spelled c readable = let s = spells c readable in ap spelled s.line ∙ ap choice_of (parted s.verb s.others s.letters) ∙ s.read
 
-pub is_said : (c : Choice) → IsWritable c → says (line_of c) ≡ true
-is_said c writable = (spells c writable).said
+pub is_said : (c : Choice) → IsReadable c → says (line_of c) ≡ true
+is_said c readable = (spells c readable).said
 
-pub is_printed : (c : Choice) → IsWritable c → All Printed (line_of c)
-is_printed c writable = let s = spells c writable in rw s.line (all_printed s.verb s.others s.letters)
+pub is_printed : (c : Choice) → IsReadable c → All Printed (line_of c)
+is_printed c readable = let s = spells c readable in rw s.line (all_printed s.verb s.others s.letters)

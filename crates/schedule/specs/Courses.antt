@@ -1,13 +1,11 @@
 -- What chooses the steps of a run: a list, and behind it the machine's own turns, or chance.
-use Rattle.std.specs.Prelude.{ℕ, ◌≡◌, ◌⊎◌, ◌<◌, ◌++◌, true, false, List, [], ◌∷◌, Option, Some, None}
+use Rattle.std.specs.Prelude.{ℕ, ◌≡◌, ◌<◌, ◌++◌, true, false, List, [], ◌∷◌, Option, Some, None}
 use Rattle.words.specs.declared.entry.Step.{Step}
-use Rattle.words.specs.declared.entry.Step.TheVariants.{Core, Evict, Deliver}
+use Rattle.words.specs.declared.entry.Step.TheVariants.{Core, Deliver}
 use Rattle.protocol.specs.Caches.{Geometry}
-use Rattle.protocol.specs.Hart.{is_running}
-use Rattle.protocol.specs.Machine.{Machine}
 use Rattle.machine.specs.States.{State, setting_of, shown}
 use Rattle.machine.specs.Turns.{IsNextTurn}
-use Rattle.machine.specs.Watch.{IsEnabled}
+use Rattle.machine.specs.Watch.{IsEnabledByRule}
 use Rattle.schedule.specs.declared.choices.Choice.{Choice}
 use Rattle.schedule.specs.Steps.{IsChoiceOf, IsWithin}
 
@@ -24,35 +22,16 @@ pub record Course : Type 0 where
 abbrev pub course : List Choice → Behind → Course
 course choices behind = record { choices = choices; behind = behind }
 
--- hart i runs, waits for no request, and no Put of it is out: so its core has a step to make, whichever line it would evict
-pub record IsFree (w : Machine) (i : ℕ) : Type 0 where
-  pub inside : i < w.setting.count
-  pub runs : is_running (w.harts i).status ≡ true
-  pub request : (w.harts i).request ≡ None
-  pub put : (w.harts i).put ≡ None
-
--- a step can be made: it is enabled, or a free hart's
-abbrev pub IsAble : Geometry → State → Step → Type 0
-IsAble g v (Core i) = IsEnabled g (shown g.sets v) (Core i) true ⊎ IsFree (shown g.sets v) i
-IsAble g v (Evict i b) = IsEnabled g (shown g.sets v) (Evict i b) true
-IsAble g v (Deliver key) = IsEnabled g (shown g.sets v) (Deliver key) true
-
--- a choice is this step, whosever the last core step was; the step can be made, and what the choice names is there
-pub record IsPicked (g : Geometry) (v : State) (c : Choice) (step : Step) : Type 0 where
-  pub is : IsChoiceOf g.sets v step c
-  pub within : IsWithin (setting_of v) c
-  pub able : IsAble g v step
-
--- the same of a step that was made: it was enabled
+-- a choice is this step, whosever the last core step was; the step is enabled, with the victims that the caches name, and what the choice names is there
 pub record IsChosen (g : Geometry) (v : State) (c : Choice) (step : Step) : Type 0 where
   pub is : IsChoiceOf g.sets v step c
   pub within : IsWithin (setting_of v) c
-  pub enabled : IsEnabled g (shown g.sets v) step true
+  pub enabled : IsEnabledByRule g v step true
 
--- no hart's core has a step to make, and no message has where to arrive
+-- no hart's core has a step to make, with those victims, and no message has where to arrive
 pub record IsAtRest (g : Geometry) (v : State) : Type 0 where
-  pub cores : (i : ℕ) → i < (setting_of v).count → IsEnabled g (shown g.sets v) (Core i) false
-  pub messages : (key : ℕ) → IsEnabled g (shown g.sets v) (Deliver key) false
+  pub cores : (i : ℕ) → i < (setting_of v).count → IsEnabledByRule g v (Core i) false
+  pub messages : (key : ℕ) → IsEnabledByRule g v (Deliver key) false
 
 -- behind a list nothing was chosen yet
 abbrev pub IsUnbegun : Behind → Type 0
@@ -74,8 +53,8 @@ forgotten (Chance kept) = Chance None
 -- behind a list this step comes next, after a hart's, and leaves what comes behind so
 abbrev pub IsNextOf : Geometry → State → ℕ → Behind → Step → Behind → Type 0
 IsNextOf g v after Turns step x = IsNextTurn (shown g.sets v) v.flights after (Some step) × (x ≡ Turns)
-IsNextOf g v after (Chance None) step x = ((c : Choice) × IsPicked g v c step) × (x ≡ Chance None)
-IsNextOf g v after (Chance (Some chosen)) step x = (c : Choice) × IsPicked g v c step × (x ≡ Chance (Some (chosen ++ c ∷ [])))
+IsNextOf g v after (Chance None) step x = ((c : Choice) × IsChosen g v c step) × (x ≡ Chance None)
+IsNextOf g v after (Chance (Some chosen)) step x = (c : Choice) × IsChosen g v c step × (x ≡ Chance (Some (chosen ++ c ∷ [])))
 
 -- nothing does
 abbrev pub IsNoneNext : Geometry → State → ℕ → Behind → Type 0

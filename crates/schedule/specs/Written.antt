@@ -26,6 +26,13 @@ text_of choices = flat_map (λ c. line_of c ++ codes "\n") choices
 abbrev pub HasAddress : ℕ → Type 0
 HasAddress block = block_bytes * block < 2 ^ 32
 
+-- a choice whose line can be read again: it names a hart and a block that a line can name, or it is a turn's
+abbrev pub IsReadable : Choice → Type 0
+IsReadable (Core hart) = hart < most_harts
+IsReadable (Evict hart block) = (hart < most_harts) × HasAddress block
+IsReadable (Deliver name) = (name.hart < most_harts) × HasAddress name.block
+IsReadable Turn = Unit {0}
+
 -- a choice of one step, of a hart and a block that its line can name
 abbrev pub IsWritable : Choice → Type 0
 IsWritable (Core hart) = hart < most_harts

@@ -1,16 +1,14 @@
 //! Steps that are chosen by chance, by a seed.
 ghost use Rattle.std.specs.Prelude.{◌≡◌, ◌<◌, [], ℕ, Some, None, false, true, IfOk, IfSome, IfNone};
 ghost use Rattle.words.specs.declared.entry.Step.TheVariants.{Core, Deliver};
-ghost use Rattle.machine.specs.States.{geometry, setting_of, shown};
-ghost use Rattle.machine.specs.Watch.{IsEnabled};
-ghost use Rattle.schedule.specs.Courses.{IsAble, IsAtRest, IsPicked};
+ghost use Rattle.machine.specs.States.{geometry, setting_of};
+ghost use Rattle.machine.specs.Watch.{IsEnabledByRule};
+ghost use Rattle.schedule.specs.Courses.{IsAtRest, IsChosen};
 ghost use Rattle.schedule.specs.Courses.Behind.{Chance as ByChance};
 
 use crate::choices::Choice;
 use crate::chooser::Chooser;
-use crate::enabled::{
-    Picked, arrival, arrivals, can_arrive, find_eviction, is_ready, ready_harts, step_of,
-};
+use crate::enabled::{Picked, arrival, can_arrive, find_eviction, step_of};
 use crate::history::History;
 use machine::{Machine, Turned};
 use rand_core::SeedableRng;
@@ -19,9 +17,6 @@ use rand_pcg::Pcg32;
 use std::alloc::{AllocError, Global};
 use std::marker::Model;
 use words::{HARTS, HartId, Step};
-
-/// How often chance draws before it looks which draws would do. All that would do are as likely either way.
-const TRIES: usize = 4;
 
 /// The weights by which chance draws what comes next: a step of a core, the arrival of a message, or an eviction. Where nothing of what it draws is
 /// enabled, it is another's turn.
@@ -48,12 +43,36 @@ pub struct Chance {
     mix: Mix,
 }
 
+/// What is left of a number where it is divided by one that isn't 0.
+#[inline(always)]
+fn remainder(number: usize, by: usize) -> usize {
+    if by <= 1 { 0 } else { number % by }
+}
+
 impl Chance {
     /// Chance by a seed.
     pub fn new(seed: u64, mix: Mix) -> Self {
         Chance {
             generator: Pcg32::seed_from_u64(seed),
             mix,
+        }
+    }
+
+    /// A number below 2^32, each as likely.
+    #[inline(always)]
+    fn word(&mut self) -> usize
+        ensures { result < 4294967296 }
+    {
+        self.generator.next_word() as usize
+    }
+
+    /// The same, or one below 2^64, where that is needed for each of so many to be about as likely, and for each hart beside.
+    #[inline(always)]
+    fn word_for(&mut self, bound: usize) -> usize {
+        if bound <= 65_536 {
+            self.word()
+        } else {
+            self.word() * 4_294_967_296 + self.word()
         }
     }
 
@@ -65,63 +84,47 @@ impl Chance {
         if bound <= 1 {
             return 0;
         }
-        let word = self.generator.next_word() as usize;
-        word % bound
+        self.word() % bound
     }
 
-    /// A hart whose core has a step to make.
+    /// A hart whose core has a step to make: the one that a number names, or else one that is drawn.
     #[inline(always)]
     fn draw_hart<const SETS: usize, const WAYS: usize>(
         &mut self,
         machine: &Machine<SETS, WAYS>,
+        number: usize,
     ) -> Option<HartId>
-        ensures some { IfSome result (λ hart. IsAble (geometry SETS WAYS) machine.now (Core hart)) }
-        ensures none { IfNone result ((i : ℕ) → i < (setting_of machine.now).count → IsEnabled (geometry SETS WAYS) (shown SETS machine.now) (Core i) false) }
+        ensures some { IfSome result (λ hart. IsEnabledByRule (geometry SETS WAYS) machine.now (Core hart) true) }
+        ensures none { IfNone result ((i : ℕ) → i < (setting_of machine.now).count → IsEnabledByRule (geometry SETS WAYS) machine.now (Core i) false) }
     {
-        machine.keeps();
-        let harts = machine.harts();
-        let hart = HartId::new((self.below(harts) % HARTS) as u8);
-        if is_ready(machine, hart) {
+        let hart = HartId::new((number % HARTS) as u8);
+        if machine.is_enabled(Step::Core(hart)) {
             return Some(hart);
-        }
-        if harts == 1 {
-            return None;
-        }
-        self.draw_hart_again(machine)
-    }
-
-    /// The same, behind a hart that was drawn and has none.
-    #[inline(never)]
-    fn draw_hart_again<const SETS: usize, const WAYS: usize>(
-        &mut self,
-        machine: &Machine<SETS, WAYS>,
-    ) -> Option<HartId>
-        ensures some { IfSome result (λ hart. IsAble (geometry SETS WAYS) machine.now (Core hart)) }
-        ensures none { IfNone result ((i : ℕ) → i < (setting_of machine.now).count → IsEnabled (geometry SETS WAYS) (shown SETS machine.now) (Core i) false) }
-    {
-        machine.keeps();
-        for _try in 1..TRIES {
-            let hart = HartId::new((self.below(machine.harts()) % HARTS) as u8);
-            if is_ready(machine, hart) {
-                return Some(hart);
-            }
         }
         self.draw_ready(machine)
     }
 
-    /// The same, of a list of all that would do.
+    /// The same, where the hart with that number has none. All that have are as likely.
     #[inline(never)]
     fn draw_ready<const SETS: usize, const WAYS: usize>(
         &mut self,
         machine: &Machine<SETS, WAYS>,
     ) -> Option<HartId>
-        ensures some { IfSome result (λ hart. IsAble (geometry SETS WAYS) machine.now (Core hart)) }
-        ensures none { IfNone result ((i : ℕ) → i < (setting_of machine.now).count → IsEnabled (geometry SETS WAYS) (shown SETS machine.now) (Core i) false) }
+        ensures some { IfSome result (λ hart. IsEnabledByRule (geometry SETS WAYS) machine.now (Core hart) true) }
+        ensures none { IfNone result ((i : ℕ) → i < (setting_of machine.now).count → IsEnabledByRule (geometry SETS WAYS) machine.now (Core i) false) }
     {
-        let ready = ready_harts(machine);
-        let index = self.below(ready.len());
-        let number = *ready.get(index)?;
-        Some(HartId::new(number as u8))
+        let mut drawn = None;
+        let mut ready = 0;
+        for number in 0..machine.harts() {
+            let hart = HartId::new(number as u8);
+            if machine.is_enabled(Step::Core(hart)) {
+                ready += 1;
+                if self.below(ready) == 0 {
+                    drawn = Some(hart);
+                }
+            }
+        }
+        drawn
     }
 
     /// A core's step.
@@ -130,49 +133,59 @@ impl Chance {
         &mut self,
         machine: &Machine<SETS, WAYS>,
     ) -> Option<Picked>
-        ensures some { IfSome result (λ p. IsPicked (geometry SETS WAYS) machine.now p.choice p.step) }
-        ensures none { IfNone result ((i : ℕ) → i < (setting_of machine.now).count → IsEnabled (geometry SETS WAYS) (shown SETS machine.now) (Core i) false) }
+        ensures some { IfSome result (λ p. IsChosen (geometry SETS WAYS) machine.now p.choice p.step) }
+        ensures none { IfNone result ((i : ℕ) → i < (setting_of machine.now).count → IsEnabledByRule (geometry SETS WAYS) machine.now (Core i) false) }
     {
-        match self.draw_hart(machine) {
+        let number = self.below(machine.harts());
+        match self.draw_hart(machine, number) {
             Some(hart) => Some(step_of(machine, hart)),
             None => None,
         }
     }
 
-    /// The key of a message that can arrive.
+    /// The key of a message that can arrive. All that can are as likely. Mostly one message is in flight, which was sent last.
     #[inline(always)]
     fn draw_key<const SETS: usize, const WAYS: usize>(
         &mut self,
         machine: &Machine<SETS, WAYS>,
     ) -> Option<usize>
-        ensures some { IfSome result (λ key. IsEnabled (geometry SETS WAYS) (shown SETS machine.now) (Deliver key) true) }
-        ensures none { IfNone result ((key : ℕ) → IsEnabled (geometry SETS WAYS) (shown SETS machine.now) (Deliver key) false) }
+        ensures some { IfSome result (λ key. IsEnabledByRule (geometry SETS WAYS) machine.now (Deliver key) true) }
+        ensures none { IfNone result ((key : ℕ) → IsEnabledByRule (geometry SETS WAYS) machine.now (Deliver key) false) }
     {
-        if machine.in_flight() == 0 {
+        let in_flight = machine.in_flight();
+        if in_flight == 0 {
             return None;
         }
-        for _try in 0..TRIES {
-            let key = self.below(machine.keys());
-            if can_arrive(machine, key) {
-                return Some(key);
+        if in_flight == 1 {
+            if let Some(key) = machine.newest() {
+                if can_arrive(machine, key) {
+                    return Some(key);
+                }
             }
         }
         self.draw_arriving(machine)
     }
 
-    /// The same, of a list of all that would do.
+    /// The same, by a look at all messages in flight.
     #[inline(never)]
     fn draw_arriving<const SETS: usize, const WAYS: usize>(
         &mut self,
         machine: &Machine<SETS, WAYS>,
     ) -> Option<usize>
-        ensures some { IfSome result (λ key. IsEnabled (geometry SETS WAYS) (shown SETS machine.now) (Deliver key) true) }
-        ensures none { IfNone result ((key : ℕ) → IsEnabled (geometry SETS WAYS) (shown SETS machine.now) (Deliver key) false) }
+        ensures some { IfSome result (λ key. IsEnabledByRule (geometry SETS WAYS) machine.now (Deliver key) true) }
+        ensures none { IfNone result ((key : ℕ) → IsEnabledByRule (geometry SETS WAYS) machine.now (Deliver key) false) }
     {
-        let keys = arrivals(machine);
-        let index = self.below(keys.len());
-        let key = *keys.get(index)?;
-        Some(key)
+        let mut drawn = None;
+        let mut arriving = 0;
+        for key in 0..machine.keys() {
+            if can_arrive(machine, key) {
+                arriving += 1;
+                if self.below(arriving) == 0 {
+                    drawn = Some(key);
+                }
+            }
+        }
+        drawn
     }
 
     /// A message's arrival.
@@ -181,8 +194,8 @@ impl Chance {
         &mut self,
         machine: &Machine<SETS, WAYS>,
     ) -> Option<Picked>
-        ensures some { IfSome result (λ p. IsPicked (geometry SETS WAYS) machine.now p.choice p.step) }
-        ensures none { IfNone result ((key : ℕ) → IsEnabled (geometry SETS WAYS) (shown SETS machine.now) (Deliver key) false) }
+        ensures some { IfSome result (λ p. IsChosen (geometry SETS WAYS) machine.now p.choice p.step) }
+        ensures none { IfNone result ((key : ℕ) → IsEnabledByRule (geometry SETS WAYS) machine.now (Deliver key) false) }
     {
         match self.draw_key(machine) {
             Some(key) => Some(arrival(machine, key)),
@@ -196,7 +209,7 @@ impl Chance {
         &mut self,
         machine: &Machine<SETS, WAYS>,
     ) -> Option<Picked>
-        ensures some { IfSome result (λ p. IsPicked (geometry SETS WAYS) machine.now p.choice p.step) }
+        ensures some { IfSome result (λ p. IsChosen (geometry SETS WAYS) machine.now p.choice p.step) }
         ensures none { IfNone result (IsAtRest (geometry SETS WAYS) machine.now) }
     {
         match self.draw_arrival(machine) {
@@ -211,7 +224,7 @@ impl Chance {
         &mut self,
         machine: &Machine<SETS, WAYS>,
     ) -> Option<Picked>
-        ensures some { IfSome result (λ p. IsPicked (geometry SETS WAYS) machine.now p.choice p.step) }
+        ensures some { IfSome result (λ p. IsChosen (geometry SETS WAYS) machine.now p.choice p.step) }
         ensures none { IfNone result (IsAtRest (geometry SETS WAYS) machine.now) }
     {
         let (cores, arrivals) = (self.mix.cores as usize, self.mix.arrivals as usize);
@@ -232,7 +245,7 @@ impl Chance {
         &mut self,
         machine: &Machine<SETS, WAYS>,
     ) -> Option<Picked>
-        ensures some { IfSome result (λ p. IsPicked (geometry SETS WAYS) machine.now p.choice p.step) }
+        ensures some { IfSome result (λ p. IsChosen (geometry SETS WAYS) machine.now p.choice p.step) }
         ensures none { IfNone result (IsAtRest (geometry SETS WAYS) machine.now) }
     {
         let step = self.draw_step(machine)?;
@@ -245,25 +258,31 @@ impl Chance {
     }
 
     /// Draws by the weights. Where it is a core's step, and a hart has one to make, it answers that hart. Else it answers what [`Chance::draw_other`] goes on by.
+    /// One number tells both: what is left of it, divided by the weights, names the hart.
     #[inline(always)]
     fn draw<const SETS: usize, const WAYS: usize>(
         &mut self,
         machine: &Machine<SETS, WAYS>,
     ) -> Result<HartId, Other>
-        ensures { IfOk result (λ hart. IsAble (geometry SETS WAYS) machine.now (Core hart)) }
+        ensures { IfOk result (λ hart. IsEnabledByRule (geometry SETS WAYS) machine.now (Core hart) true) }
     {
         let (cores, evictions) = (self.mix.cores as usize, self.mix.evictions as usize);
         let none_in_flight = machine.in_flight() == 0;
-        if evictions > 0 || !none_in_flight {
-            let number = self.below(evictions + cores + self.mix.arrivals as usize);
-            if number < evictions {
+        let number = if evictions > 0 || !none_in_flight {
+            let weights = (evictions + cores + self.mix.arrivals as usize).max(1);
+            let word = self.word_for(weights);
+            let drawn = word % weights;
+            if drawn < evictions {
                 return Err(Other::Eviction);
             }
-            if number >= evictions + cores && !none_in_flight {
+            if drawn >= evictions + cores && !none_in_flight {
                 return Err(Other::Arrival);
             }
-        }
-        match self.draw_hart(machine) {
+            remainder(word / weights, machine.harts())
+        } else {
+            self.below(machine.harts())
+        };
+        match self.draw_hart(machine, number) {
             Some(hart) => Ok(hart),
             None => Err(Other::Arrival),
         }
@@ -276,7 +295,7 @@ impl Chance {
         machine: &Machine<SETS, WAYS>,
         other: Other,
     ) -> Option<Picked>
-        ensures some { IfSome result (λ p. IsPicked (geometry SETS WAYS) machine.now p.choice p.step) }
+        ensures some { IfSome result (λ p. IsChosen (geometry SETS WAYS) machine.now p.choice p.step) }
         ensures none { IfNone result (IsAtRest (geometry SETS WAYS) machine.now) }
     {
         match other {

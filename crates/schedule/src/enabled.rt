@@ -1,20 +1,14 @@
 //! The steps among which chance chooses.
-ghost use Rattle.std.specs.Prelude.{◌≡◌, ◌<◌, ◌*◌, ◌^◌, ℕ, [], All, IfSome, IsTrue, IsFalse, true, false};
-ghost use Rattle.words.specs.Limits.{most_harts};
+ghost use Rattle.std.specs.Prelude.{IfSome, true};
 ghost use Rattle.words.specs.declared.entry.Step.TheVariants.{Core, Deliver};
-ghost use Rattle.protocol.specs.Hart.{is_running};
-ghost use Rattle.machine.specs.States.{geometry, setting_of, shown};
-ghost use Rattle.machine.specs.Watch.{IsEnabled};
-ghost use Rattle.schedule.specs.Courses.{IsAble, IsPicked};
+ghost use Rattle.machine.specs.States.{geometry};
+ghost use Rattle.machine.specs.Watch.{IsEnabledByRule};
+ghost use Rattle.schedule.specs.Courses.{IsChosen};
 
 use crate::choices::Choice;
 use crate::step::named;
-use arrayvec::ArrayVec;
 use machine::Machine;
-use words::{BlockNo, HARTS, HartId, Status, Step};
-
-/// How many messages chance chooses among at most.
-const MESSAGES: usize = 32;
+use words::{BlockNo, HartId, Step};
 
 /// A step, and the choice that it is.
 #[derive(Clone, Copy, Debug)]
@@ -23,83 +17,18 @@ pub(crate) struct Picked {
     pub(crate) step: Step,
 }
 
-/// The numbers of the harts whose cores have a step to make.
-pub(crate) fn ready_harts<const SETS: usize, const WAYS: usize>(
-    machine: &Machine<SETS, WAYS>,
-) -> ArrayVec<usize, HARTS>
-    ensures all { All (λ i. (i < most_harts) × IsAble (geometry SETS WAYS) machine.now (Core i)) result.items }
-    ensures none { result.items ≡ [] → (i : ℕ) → i < (setting_of machine.now).count → IsEnabled (geometry SETS WAYS) (shown SETS machine.now) (Core i) false }
-{
-    machine.keeps();
-    let mut ready = ArrayVec::new();
-    for number in 0..machine.harts() {
-        if is_ready(machine, HartId::new(number as u8)) {
-            ready.push(number);
-        }
-    }
-    ready
-}
-
-/// Whether a hart's core has a step to make. That is known at once but where a Put of the hart is out.
-#[inline(always)]
-pub(crate) fn is_ready<const SETS: usize, const WAYS: usize>(
-    machine: &Machine<SETS, WAYS>,
-    id: HartId,
-) -> bool
-    requires { SETS * WAYS < 2 ^ 32 }
-    ensures yes { IsTrue result → IsAble (geometry SETS WAYS) machine.now (Core id) }
-    ensures no { IsFalse result → IsEnabled (geometry SETS WAYS) (shown SETS machine.now) (Core id) false }
-{
-    let Some(hart) = machine.hart(id) else {
-        return machine.is_enabled(Step::Core(id));
-    };
-    if !runs(hart.status()) {
-        return false;
-    }
-    if hart.request().is_some() {
-        return false;
-    }
-    if hart.put().is_some() {
-        return machine.is_enabled(Step::Core(id));
-    }
-    true
-}
-
-#[inline(always)]
-fn runs(status: Status) -> bool
-    ensures { result ≡ is_running status }
-{
-    matches!(status, Status::Running)
-}
-
 /// Whether a message is under a key that can arrive.
 #[inline(always)]
 pub(crate) fn can_arrive<const SETS: usize, const WAYS: usize>(
     machine: &Machine<SETS, WAYS>,
     key: usize,
 ) -> bool
-    ensures { IsEnabled (geometry SETS WAYS) (shown SETS machine.now) (Deliver key) result }
+    ensures { IsEnabledByRule (geometry SETS WAYS) machine.now (Deliver key) result }
 {
     match machine.peek_flight(key) {
         Some(_) => machine.is_enabled(Step::Deliver(key)),
         None => false,
     }
-}
-
-/// The keys of messages that can arrive: of all, but for those behind the first [`MESSAGES`].
-pub(crate) fn arrivals<const SETS: usize, const WAYS: usize>(
-    machine: &Machine<SETS, WAYS>,
-) -> ArrayVec<usize, MESSAGES>
-    ensures all { All (λ key. IsEnabled (geometry SETS WAYS) (shown SETS machine.now) (Deliver key) true) result.items }
-    ensures none { result.items ≡ [] → (key : ℕ) → IsEnabled (geometry SETS WAYS) (shown SETS machine.now) (Deliver key) false }
-{
-    let mut keys = ArrayVec::new();
-    for key in 0..machine.keys() {
-        if can_arrive(machine, key) && keys.len() < MESSAGES {
-            keys.push(key);
-        }
-    }
-    keys
 }
 
 /// A step of the core of a hart, which has one to make.
@@ -108,8 +37,8 @@ pub(crate) fn step_of<const SETS: usize, const WAYS: usize>(
     machine: &Machine<SETS, WAYS>,
     hart: HartId,
 ) -> Picked
-    requires { IsAble (geometry SETS WAYS) machine.now (Core hart) }
-    ensures { IsPicked (geometry SETS WAYS) machine.now result.choice result.step }
+    requires { IsEnabledByRule (geometry SETS WAYS) machine.now (Core hart) true }
+    ensures { IsChosen (geometry SETS WAYS) machine.now result.choice result.step }
 {
     let _few = hart.index();
     let _harts = machine.harts();
@@ -124,8 +53,8 @@ pub(crate) fn arrival<const SETS: usize, const WAYS: usize>(
     machine: &Machine<SETS, WAYS>,
     key: usize,
 ) -> Picked
-    requires { IsEnabled (geometry SETS WAYS) (shown SETS machine.now) (Deliver key) true }
-    ensures { IsPicked (geometry SETS WAYS) machine.now result.choice result.step }
+    requires { IsEnabledByRule (geometry SETS WAYS) machine.now (Deliver key) true }
+    ensures { IsChosen (geometry SETS WAYS) machine.now result.choice result.step }
 {
     let name = named(machine, key).unwrap();
     Picked {
@@ -141,7 +70,7 @@ pub(crate) fn find_eviction<const SETS: usize, const WAYS: usize>(
     first: usize,
     hart: usize,
 ) -> Option<Picked>
-    ensures { IfSome result (λ p. IsPicked (geometry SETS WAYS) machine.now p.choice p.step) }
+    ensures { IfSome result (λ p. IsChosen (geometry SETS WAYS) machine.now p.choice p.step) }
 {
     match eviction_among(machine, first, usize::MAX, hart) {
         Some(picked) => Some(picked),
@@ -156,7 +85,7 @@ fn eviction_among<const SETS: usize, const WAYS: usize>(
     to: usize,
     hart: usize,
 ) -> Option<Picked>
-    ensures { IfSome result (λ p. IsPicked (geometry SETS WAYS) machine.now p.choice p.step) }
+    ensures { IfSome result (λ p. IsChosen (geometry SETS WAYS) machine.now p.choice p.step) }
 {
     for (place, (number, _entry)) in machine.kept().iter().enumerate() {
         if from <= place && place < to {
@@ -174,7 +103,7 @@ fn eviction_of<const SETS: usize, const WAYS: usize>(
     block: BlockNo,
     hart: usize,
 ) -> Option<Picked>
-    ensures { IfSome result (λ p. IsPicked (geometry SETS WAYS) machine.now p.choice p.step) }
+    ensures { IfSome result (λ p. IsChosen (geometry SETS WAYS) machine.now p.choice p.step) }
 {
     let harts = machine.harts();
     for offset in 0..harts {
@@ -186,21 +115,17 @@ fn eviction_of<const SETS: usize, const WAYS: usize>(
     None
 }
 
-/// An eviction of one block by one hart that is enabled: of a shared line always, and of an owned one where no Put of the hart is out.
+/// An eviction of one block by one hart, if it is enabled.
 fn eviction_by<const SETS: usize, const WAYS: usize>(
     machine: &Machine<SETS, WAYS>,
     block: BlockNo,
     id: HartId,
 ) -> Option<Picked>
-    ensures { IfSome result (λ p. IsPicked (geometry SETS WAYS) machine.now p.choice p.step) }
+    ensures { IfSome result (λ p. IsChosen (geometry SETS WAYS) machine.now p.choice p.step) }
 {
     machine.keeps();
     let _few = id.index();
-    let hart = machine.hart(id)?;
-    let line = machine.line(id, block)?;
-    let is_owned = line.state.is_owned();
-    let has_put = hart.put().is_some();
-    if is_owned && has_put {
+    if !machine.is_enabled(Step::Evict(id, block)) {
         return None;
     }
     Some(Picked {

@@ -7,12 +7,12 @@ ghost use Rattle.schedule.specs.Lines.{lines_of, AreSpelledBy};
 ghost use Rattle.schedule.specs.Moments.{Moment, entries_of};
 ghost use Rattle.schedule.specs.Runs.{Follows, FollowsThen};
 ghost use Rattle.schedule.specs.Twins.{AreTwinRuns};
-ghost use Rattle.schedule.specs.Written.{text_of, IsWritable};
+ghost use Rattle.schedule.specs.Written.{text_of, IsReadable};
 
-/// The text of choices that can be written is a schedule, and spells just these choices.
+/// The text of choices whose lines can be read again is a schedule, and spells just these choices.
 pub fn written_choices_are_read()
-    ensures text { (choices : List Choice) → All IsWritable choices → IsUtf8 (text_of choices) }
-    ensures spelled { (choices : List Choice) → All IsWritable choices → AreSpelledBy (lines_of (text_of choices)) choices }
+    ensures text { (choices : List Choice) → All IsReadable choices → IsUtf8 (text_of choices) }
+    ensures spelled { (choices : List Choice) → All IsReadable choices → AreSpelledBy (lines_of (text_of choices)) choices }
 {}
 
 /// What was made of a list, and what chance chose behind it, is a schedule of as many steps: it makes the same run.

@@ -5,4 +5,7 @@ mod ShownRuns
 mod ThreadedRuns
 mod OneReport
 mod OneHistory
+mod OneKept
+mod PlayedOn
+mod Promised
 mod SessionsByHand

@@ -32,7 +32,8 @@ use Rattle.board.specs.Histories.{first_flat, Told, IsCourse}
 use Rattle.board.specs.Turns.{AreOfTurns, IsLeft, IsServedEnd}
 use Rattle.schedule.specs.declared.choices.Choice.{Choice}
 use Rattle.schedule.specs.Lines.{lines_of, AreSpelledBy}
-use Rattle.schedule.specs.Written.{text_of, IsWritable}
+use Rattle.schedule.specs.Written.{text_of, IsReadable}
+use Rattle.schedule.proofs.Readable.{all_readable}
 use Rattle.requests.specs.Conclusions.{IsConcluded, IsHalfConcluded, IsHalfPut}
 use Rattle.schedule.specs.Courses.{Turns}
 use Rattle.simulate.specs.Given.{AreTextsOf}
@@ -152,10 +153,10 @@ pub record IsComeTo (g : Geometry) (run : Run) (p : Program) (choices : List Cho
   pub readable : AllReadable (setting_of m) addrs
 
 pub come_to : (g : Geometry) (run : Run) (p : Program) (choices : List Choice) (m : State) (addrs : List ℕ) → IsReady run p addrs → IsEndBy g p run.setup.harts run.setup.memory run.steps choices m
-    → ((cs : List Choice) → All IsWritable cs → IsUtf8 (text_of cs)) → ((cs : List Choice) → All IsWritable cs → AreSpelledBy (lines_of (text_of cs)) cs) → IsComeTo g run p choices m addrs
+    → ((cs : List Choice) → All IsReadable cs → IsUtf8 (text_of cs)) → ((cs : List Choice) → All IsReadable cs → AreSpelledBy (lines_of (text_of cs)) cs) → IsComeTo g run p choices m addrs
 come_to g run p choices m addrs ready end is_text spelled = record {
   end = end;
-  chosen = (is_text choices end.course.writable, spelled choices end.course.writable);
+  chosen = (is_text choices (all_readable choices end.course.writable), spelled choices (all_readable choices end.course.writable));
   same = ready.same;
   readable = subst (λ (l : List ℕ). AllReadable (setting_of m) l) (sym ready.same) (readable_at_end g p run.setup.harts run.setup.memory run.steps choices m (addresses run.words.items) end ready.readable);
 }

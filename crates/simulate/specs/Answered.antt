@@ -50,13 +50,14 @@ module _ {S I P : Type 0} (reads : S → List ℕ → ℕ → List ℕ → Type 
         × (((fault ≡ Unwritten) × IsReported status × TookPart u.output w.output [] × (w ≡ record u { output = w.output }))
         ⊎ ((x : World S I) × IsWrittenOut u status x × IsImageUnmade refuses begins ends state request image x.store fault w.store × (w ≡ record x { store = w.store }))))
 
-  -- the files that it names were read, and then it was made; or why not
+  -- the files that it names were read, its schedule behind its file, and then it was made; or why not
   abbrev pub IsServed : Request → World S I → ℕ → World S I → Type 0
   IsServed request v status w = (file list : List ℕ) × IsReadAt reads refuses v.store (file_of request).now file × IsReadIf reads refuses v.store (schedule_of request) list
       × IsMadeOf request file list v status w
 
   abbrev pub IsUnserved : Request → World S I → Fault → World S I → Type 0
-  IsUnserved request v fault w = ((IsUnreadAt reads refuses v.store (file_of request) fault ⊎ IsUnreadIf reads refuses v.store (schedule_of request) fault) × (w ≡ v))
+  IsUnserved request v fault w = ((IsUnreadAt reads refuses v.store (file_of request) fault
+      ⊎ ((file : List ℕ) × IsReadAt reads refuses v.store (file_of request).now file × IsUnreadIf reads refuses v.store (schedule_of request) fault)) × (w ≡ v))
       ⊎ ((file list : List ℕ) × IsReadAt reads refuses v.store (file_of request).now file × IsReadIf reads refuses v.store (schedule_of request) list
       × IsUnmadeOf request file list v fault w)
 

@@ -4,6 +4,7 @@ pub mod Shown
 pub mod Orders
 pub mod Given
 pub mod Kept
+pub mod Promise
 pub mod Threaded
 pub mod Carried
 pub mod Answered

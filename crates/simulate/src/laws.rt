@@ -1,4 +1,4 @@
-ghost use Rattle.std.specs.Prelude.{◌≡◌, ◌≢◌, ◌<◌, ℕ, List, [], Bool, true, false, Option, Some};
+ghost use Rattle.std.specs.Prelude.{◌≡◌, ◌≢◌, ◌<◌, ◌≤◌, ℕ, List, [], Bool, true, false, Option, Some};
 ghost use Rattle.std.specs.Borrow.{Bor};
 ghost use Rattle.std.specs.List.{Contains};
 ghost use Rattle.words.specs.Sinks.{SinkState, TookAll};
@@ -17,24 +17,43 @@ ghost use Rattle.isolation.specs.Walks.{IsEnded};
 ghost use Rattle.outcomes.specs.declared.gathering.End.{End};
 ghost use Rattle.outcomes.specs.Ends.{reports_of};
 ghost use Rattle.requests.specs.EndTexts.{ends_text};
+ghost use Rattle.command_line.specs.Runs.{shown};
+ghost use Rattle.command_line.specs.declared.request.Print.{Print};
+ghost use Rattle.command_line.specs.declared.request.Print.TheVariants as print;
 ghost use Rattle.command_line.specs.declared.request.Run.{Run};
 ghost use Rattle.command_line.specs.declared.request.Search.{Search};
 ghost use Rattle.command_line.specs.declared.request.Setup.{Setup};
 ghost use Rattle.command_line.specs.declared.request.Show.{Show};
+ghost use Rattle.command_line.specs.declared.request.Show.TheVariants.{Report};
 ghost use Rattle.schedule.specs.Courses.{Behind, IsTold};
+ghost use Rattle.schedule.specs.Courses.Behind.{Turns};
 ghost use Rattle.schedule.specs.Moments.{Moment, entries_of};
 ghost use Rattle.requests.specs.Ends.{search_start, AreEndsGiven};
 ghost use Rattle.requests.specs.Files.{IsListed, IsImageOf};
 ghost use Rattle.requests.specs.Runs.{ComesBy, addresses};
+ghost use Rattle.requests.specs.Schedules.{HasSteps};
 ghost use Rattle.debugger.specs.Sure.{AreKnown, answers_surely};
 ghost use Rattle.simulate.specs.Debugging.{IsPlayedByHand};
 ghost use Rattle.simulate.specs.Given.{IsGiven};
-ghost use Rattle.simulate.specs.Threaded.{IsGivenInThreads};
+ghost use Rattle.simulate.specs.Kept.{IsGivenAndKept};
+ghost use Rattle.simulate.specs.Promise.{IsPromised};
+ghost use Rattle.simulate.specs.Threaded.{IsGivenInThreads, with_steps};
 ghost use Rattle.requests.specs.Outputs.{Sinks, Texts, TakeAll};
 ghost use Rattle.requests.specs.Sources.{IsProgramIn, IsSourceOf, is_source};
 ghost use Rattle.requests.specs.Starts.{flat_start};
 
 use debugger::LineInput;
+
+/// The promise: of whatever a run shows, with status 0, 1 or 5, the report is one on a run of the flat machine: of one memory, in which each transaction is as
+/// if it ran alone, and each refusal and each abort for a conflict has its reason. The run begins where the file's program begins.
+pub fn reports_are_of_the_flat_machine()
+    ensures run { (g : Geometry) (run : Run) (behind : Behind) (show : Show) (file list : List ℕ) (before after : Sinks) (status : ℕ) →
+        IsGiven g run behind show file list before after status → IsPromised run file before after status }
+    ensures kept { (g : Geometry) (run : Run) (print : Print) (path : Bor (List ℕ)) (file list : List ℕ) (before after : Sinks) (status : ℕ) →
+        IsGivenAndKept g run print path file list before after status → IsPromised run file before after status }
+    ensures threads { (g : Geometry) (run : Run) (history : Option (Bor (List ℕ))) (file : List ℕ) (before after : Sinks) (status : ℕ) →
+        IsGivenInThreads g run history file before after status → IsPromised run file before after status }
+{}
 
 /// Where a search ends with status 0, all ends are told: for every cache, and for every list of core, eviction and delivery steps from where the file's
 /// program begins to a machine whose harts have all stopped, the report on that machine is among those that standard output took.
@@ -111,5 +130,31 @@ pub fn threaded_reports_are_one()
     ensures { (g : Geometry) (run : Run) (path : Bor (List ℕ)) (file history : List ℕ) (before after earlier later : Sinks) (status other : ℕ) →
         before.file.taken ≡ Some [] → after.file.taken ≡ Some history → earlier.file.taken ≡ Some [] → later.file.taken ≡ Some history →
         IsGivenInThreads g run (Some path) file before after status → IsGivenInThreads g run (Some path) file earlier later other →
+        (other ≡ status) × ((report : List ℕ) × TookAll before.output after.output report × TookAll earlier.output later.output report) }
+{}
+
+/// A run in threads is made again by the history that it has written, in an empty file: a run by that schedule gives one report and one status with it, where
+/// it has as many steps; and where it has more, unless a hart still ran.
+pub fn a_history_gives_its_report()
+    ensures steps { (g : Geometry) (run : Run) (path : Bor (List ℕ)) (file history : List ℕ) (n : ℕ) (before after earlier later : Sinks) (status other : ℕ) →
+        before.file.taken ≡ Some [] → after.file.taken ≡ Some history → HasSteps history n →
+        IsGivenInThreads g run (Some path) file before after status → IsGiven g (with_steps run n) Turns Report file history earlier later other →
+        (other ≡ status) × ((report : List ℕ) × TookAll before.output after.output report × TookAll earlier.output later.output report) }
+    ensures ended { (g : Geometry) (run : Run) (path : Bor (List ℕ)) (file history : List ℕ) (n m : ℕ) (before after earlier later : Sinks) (status other : ℕ) →
+        before.file.taken ≡ Some [] → after.file.taken ≡ Some history → HasSteps history n → n ≤ m → status ≢ 5 →
+        IsGivenInThreads g run (Some path) file before after status → IsGiven g (with_steps run m) Turns Report file history earlier later other →
+        (other ≡ status) × ((report : List ℕ) × TookAll before.output after.output report × TookAll earlier.output later.output report) }
+{}
+
+/// A run by chance is made again by the history that it has written, in an empty file: a run by that schedule gives one text and one status with it, where it
+/// has as many steps; and where it has more and only the report is shown, unless a hart still ran.
+pub fn a_kept_history_gives_its_report()
+    ensures steps { (g : Geometry) (run : Run) (print : Print) (path : Bor (List ℕ)) (file list history : List ℕ) (n : ℕ) (before after earlier later : Sinks) (status other : ℕ) →
+        before.file.taken ≡ Some [] → after.file.taken ≡ Some history → HasSteps history n →
+        IsGivenAndKept g run print path file list before after status → IsGiven g (with_steps run n) Turns (shown print) file history earlier later other →
+        (other ≡ status) × ((text : List ℕ) × TookAll before.output after.output text × TookAll earlier.output later.output text) }
+    ensures ended { (g : Geometry) (run : Run) (path : Bor (List ℕ)) (file list history : List ℕ) (n m : ℕ) (before after earlier later : Sinks) (status other : ℕ) →
+        before.file.taken ≡ Some [] → after.file.taken ≡ Some history → HasSteps history n → n ≤ m → status ≢ 5 →
+        IsGivenAndKept g run print.Report path file list before after status → IsGiven g (with_steps run m) Turns Report file history earlier later other →
         (other ≡ status) × ((report : List ℕ) × TookAll before.output after.output report × TookAll earlier.output later.output report) }
 {}

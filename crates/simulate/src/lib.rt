@@ -16,8 +16,9 @@ mod threads;
 pub use carry::carry_out;
 pub use entry::answer;
 pub use laws::{
-    all_ends_are_told, assembled_files_are_one, assembled_files_run_as_spelled,
-    files_hold_one_program, listings_are_one, reports_are_one, sessions_by_hand_are_one,
+    a_history_gives_its_report, a_kept_history_gives_its_report, all_ends_are_told,
+    assembled_files_are_one, assembled_files_run_as_spelled, files_hold_one_program,
+    listings_are_one, reports_are_of_the_flat_machine, reports_are_one, sessions_by_hand_are_one,
     threaded_reports_are_one, told_ends_are_one, told_ends_are_reached,
 };
 pub use requests::{

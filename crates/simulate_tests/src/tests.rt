@@ -4,6 +4,7 @@ mod claims;
 mod counting;
 mod debugging;
 mod drawing;
+mod faults;
 mod memory;
 mod meters;
 mod orders;

@@ -38,3 +38,8 @@ pub(crate) fn equal_at<T: PartialEq + Debug, C: Debug>(
 pub(crate) fn equal_items<T: PartialEq + Debug>(rt: &impl Abort, found: &[T], wanted: &[T]) {
     assert_eq!(rt; found, wanted);
 }
+
+/// That this is the text that is wanted.
+pub(crate) fn equal_text(rt: &impl Abort, found: &str, wanted: &str) {
+    assert_eq!(rt; found, wanted);
+}

@@ -566,7 +566,7 @@ fn reads_a_run_by_chance(rt: HostRuntime) {
     let cases: [(&[&str], Option<(u32, [u32; 3], &str)>); 8] = [
         (
             &["logtm", "run", "f", "--seed", "7"],
-            Some((7, [20, 20, 1], "")),
+            Some((7, [30, 30, 1], "")),
         ),
         (
             &["logtm", "run", "f", "--seed=0xff", "--mix=1,2,0"],
@@ -578,11 +578,11 @@ fn reads_a_run_by_chance(rt: HostRuntime) {
         ),
         (
             &["logtm", "run", "f", "--seed=1", "--history", "h"],
-            Some((1, [20, 20, 1], "h")),
+            Some((1, [30, 30, 1], "h")),
         ),
         (
             &["logtm", "run", "f", "--seed=1", "--history=h", "--trace=-"],
-            Some((1, [20, 20, 1], "h")),
+            Some((1, [30, 30, 1], "h")),
         ),
         (
             &[
@@ -593,7 +593,7 @@ fn reads_a_run_by_chance(rt: HostRuntime) {
                 "--stats=csv",
                 "--schedule=l",
             ],
-            Some((1, [20, 20, 1], "")),
+            Some((1, [30, 30, 1], "")),
         ),
         (&["logtm", "run", "f"], None),
         (&["logtm", "run", "f", "--threads"], None),

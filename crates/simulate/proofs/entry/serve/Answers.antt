@@ -13,7 +13,9 @@ returns-in_err-file g c =
 pub returns-in_err-list : goal.returns-in_err-list
 returns-in_err-list g c =
     let p = err_from_is_err_and c.from_residual-in_err-list.result c.from_residual-in_err-list.ensures.1 in
-    rw (p.1, p.2) (inl (inr (subst (λ (path : Option (Bor (List ℕ))). IsUnreadIf g.S.Store.reads g.S.Store.refuses c.args.store.now path c.in_err-list.field-0.0) c.schedule_of.ensures c.in_err-list.ensures), refl))
+    let file = subst (λ (path : Bor (List ℕ)). IsReadAt g.S.Store.reads g.S.Store.refuses c.args.store.now path.now c.in_ok-file.file.items) c.file_of.ensures c.in_ok-file.ensures in
+    let list = subst (λ (path : Option (Bor (List ℕ))). IsUnreadIf g.S.Store.reads g.S.Store.refuses c.args.store.now path c.in_err-list.field-0.0) c.schedule_of.ensures c.in_err-list.ensures in
+    rw (p.1, p.2) (inl (inr (c.in_ok-file.file.items, file, list), refl))
 
 pub returns : goal.returns
 returns g c =

@@ -1,4 +1,4 @@
-use Rattle.std.proofs.Common.{◌≡◌, ◌<◌, ◌≤◌, arith, length, None, get_or, refl, sym, ap, subst, subst₂}
+use Rattle.std.proofs.Common.{◌≡◌, ◌≤◌, arith, length, None, get_or, refl, sym, ap, subst, subst₂}
 use Rattle.std.specs.Prelude.{slice_set}
 use Rattle.words.specs.declared.entry.Step.TheVariants.{Evict}
 use Rattle.directory.specs.Blocks.{KeepsUsed}
