@@ -10,10 +10,10 @@ use Rattle.table.specs.Table.{name_of, instr}
 use Rattle.table.specs.declared.instr.Row.{Row}
 use Rattle.table.specs.declared.instr.Row.TheVariants as row
 use Rattle.disassembler.specs.Mnemonics.{register}
-use Rattle.disassembler.specs.Canonical.{signed, upper, two, three, offset, atomic, spelled, full_fence}
+use Rattle.disassembler.specs.Canonical.{signed, upper, two, three, offset, indirect, atomic, spelled, full_fence}
 use Rattle.disassembler.proofs.Numerals.{signed-lacks, signed-same, upper-same}
 use Rattle.disassembler.proofs.Rows.{register-same, register-comma, register-closing}
-use Rattle.disassembler.proofs.Operands.{one-part, two-parts, three-parts, offset-parts, atomic-parts}
+use Rattle.disassembler.proofs.Operands.{one-part, two-parts, three-parts, offset-parts, indirect-parts, atomic-parts}
 
 rd-small : (w : ℕ) → rd_of w < 32
 rd-small w = omega arith
@@ -85,6 +85,13 @@ register-fields op a b c d e f ha hb hc hd he hf same =
     let parts = three-parts op _ _ _ _ _ _ (register-comma a ha) (register-comma b hb) (register-comma d hd) (register-comma e he) same in
     record { first = register-same a d ha hd parts.first; number = register-same c f hc hf parts.third; base = register-same b e hb he parts.second }
 
+-- op a, (b)
+indirect-fields : (op : List ℕ) (a b d e : ℕ) → a < 32 → b < 32 → d < 32 → e < 32
+    → indirect op (register a) (register b) ≡ indirect op (register d) (register e) → (a ≡ d) × (b ≡ e)
+indirect-fields op a b d e ha hb hd he same =
+    let parts = indirect-parts op _ _ _ _ (register-comma a ha) (register-comma d hd) (register-closing b hb) (register-closing e he) same in
+    (register-same a d ha hd parts.0, register-same b e hb he parts.1)
+
 -- op a, b, (c)
 atomic-fields : (op : List ℕ) (a b c d e f : ℕ) → a < 32 → b < 32 → c < 32 → d < 32 → e < 32 → f < 32
     → atomic op (register a) (register b) (register c) ≡ atomic op (register d) (register e) (register f)
@@ -137,6 +144,16 @@ same-instr (row.Amo op) v w t hv hw ev ew =
     let a = unordered (aq_of v) (rl_of v) _ t ev in
     let b = unordered (aq_of w) (rl_of w) _ t ew in
     let e = atomic-fields (name_of (row.Amo op)) _ _ _ _ _ _ (rd-small v) (rs2-small v) (rs1-small v) (rd-small w) (rs2-small w) (rs1-small w) (a.2 ∙ sym b.2) in
+    cc (e.first, e.number, e.base, a.0, a.1, b.0, b.1)
+same-instr row.LoadReserved v w t hv hw ev ew =
+    let a = unordered (aq_of v) (rl_of v) _ t ev in
+    let b = unordered (aq_of w) (rl_of w) _ t ew in
+    let e = indirect-fields (name_of row.LoadReserved) _ _ _ _ (rd-small v) (rs1-small v) (rd-small w) (rs1-small w) (a.2 ∙ sym b.2) in
+    cc (e.0, e.1, a.0, a.1, b.0, b.1)
+same-instr row.StoreConditional v w t hv hw ev ew =
+    let a = unordered (aq_of v) (rl_of v) _ t ev in
+    let b = unordered (aq_of w) (rl_of w) _ t ew in
+    let e = atomic-fields (name_of row.StoreConditional) _ _ _ _ _ _ (rd-small v) (rs2-small v) (rs1-small v) (rd-small w) (rs2-small w) (rs1-small w) (a.2 ∙ sym b.2) in
     cc (e.first, e.number, e.base, a.0, a.1, b.0, b.1)
 same-instr row.Fence v w t hv hw ev ew =
     ap (λ bits. Fence bits) (eqb-true (fence_bits_of v) full_fence (full _ _ t ev) ∙ sym (eqb-true (fence_bits_of w) full_fence (full _ _ t ew)))

@@ -1,7 +1,7 @@
 -- A text of a shape tells its operands.
 use Rattle.std.proofs.Common.{◌≡◌, ℕ, List, [], ◌∷◌, ◌++◌, sym, ◌∙◌, append-nil}
 use Rattle.std.proofs.lemmas.List.{append_cancel_left}
-use Rattle.disassembler.specs.Canonical.{one, two, three, offset, atomic}
+use Rattle.disassembler.specs.Canonical.{one, two, three, offset, indirect, atomic}
 use Rattle.disassembler.proofs.Cutting.{Lacks, cut-same, tail-same}
 
 after : (op x y : List ℕ) → op ++ 32 ∷ x ≡ op ++ 32 ∷ y → x ≡ y
@@ -39,6 +39,12 @@ offset-parts op a n b d m e la ld ln lm lb le same =
     let rest = cut-same 40 n m _ _ ln lm cut.1 in
     let base = cut-same 41 b e [] [] lb le rest.1 in
     record { first = cut.0; second = rest.0; third = base.0 }
+
+pub indirect-parts : (op a b c d : List ℕ) → Lacks 44 a → Lacks 44 c → Lacks 41 b → Lacks 41 d → indirect op a b ≡ indirect op c d → (a ≡ c) × (b ≡ d)
+indirect-parts op a b c d la lc lb ld same =
+    let cut = first a c _ _ la lc (after op _ _ same) in
+    let base = cut-same 41 b d [] [] lb ld (tail-same 40 40 _ _ cut.1) in
+    (cut.0, base.0)
 
 pub atomic-parts : (op a b c d e f : List ℕ) → Lacks 44 a → Lacks 44 b → Lacks 44 d → Lacks 44 e → Lacks 41 c → Lacks 41 f
     → atomic op a b c ≡ atomic op d e f → Three a b c d e f

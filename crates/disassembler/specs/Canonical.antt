@@ -7,7 +7,7 @@ use Rattle.texts.specs.Numerals.{hexadecimal}
 use Rattle.operands.specs.Fields.{fence_bits_of}
 use Rattle.table.specs.Table.{decoded, name_of}
 use Rattle.table.specs.declared.instr.Instr.{Instr}
-use Rattle.table.specs.declared.instr.Instr.TheVariants.{Lui, Auipc, Jal, Jalr, Branch, Load, Store, OpImm, ShiftImm, Op, Amo, Fence, Ecall, Ebreak, TBegin, TCommit, TAbort}
+use Rattle.table.specs.declared.instr.Instr.TheVariants.{Lui, Auipc, Jal, Jalr, Branch, Load, Store, OpImm, ShiftImm, Op, Amo, LoadReserved, StoreConditional, Fence, Ecall, Ebreak, TBegin, TCommit, TAbort}
 use Rattle.table.specs.declared.instr.Row.TheVariants as row
 use Rattle.disassembler.specs.Mnemonics.{register}
 
@@ -45,6 +45,10 @@ three op a b c = concat (op ∷ codes " " ∷ a ∷ codes ", " ∷ b ∷ codes "
 abbrev pub offset : List ℕ → List ℕ → List ℕ → List ℕ → List ℕ
 offset op a n base = concat (op ∷ codes " " ∷ a ∷ codes ", " ∷ n ∷ codes "(" ∷ base ∷ codes ")" ∷ [])
 
+-- op a, (base)
+abbrev pub indirect : List ℕ → List ℕ → List ℕ → List ℕ
+indirect op a base = concat (op ∷ codes " " ∷ a ∷ codes ", (" ∷ base ∷ codes ")" ∷ [])
+
 -- op a, b, (base)
 abbrev pub atomic : List ℕ → List ℕ → List ℕ → List ℕ → List ℕ
 atomic op a b base = concat (op ∷ codes " " ∷ a ∷ codes ", " ∷ b ∷ codes ", (" ∷ base ∷ codes ")" ∷ [])
@@ -53,7 +57,7 @@ atomic op a b base = concat (op ∷ codes " " ∷ a ∷ codes ", " ∷ b ∷ cod
 abbrev pub full_fence : ℕ
 full_fence = fence_bits_of 0x0ff0000f
 
--- the text of an instruction; an atomic operation with aq or rl and any other fence have none
+-- the text of an instruction; an atomic operation, LR or SC with aq or rl and any other fence have none
 abbrev pub spelled : Instr → Option (List ℕ)
 spelled (Lui rd i) = Some (two (name_of row.Lui) (register rd) (upper i))
 spelled (Auipc rd i) = Some (two (name_of row.Auipc) (register rd) (upper i))
@@ -66,6 +70,8 @@ spelled (OpImm op rd rs1 i) = Some (three (name_of (row.OpImm op)) (register rd)
 spelled (ShiftImm op rd rs1 k) = Some (three (name_of (row.ShiftImm op)) (register rd) (register rs1) (decimal k))
 spelled (Op op rd rs1 rs2) = Some (three (name_of (row.Op op)) (register rd) (register rs1) (register rs2))
 spelled (Amo op rd rs1 rs2 aq rl) = cond (aq || rl) None (Some (atomic (name_of (row.Amo op)) (register rd) (register rs2) (register rs1)))
+spelled (LoadReserved rd rs1 aq rl) = cond (aq || rl) None (Some (indirect (name_of row.LoadReserved) (register rd) (register rs1)))
+spelled (StoreConditional rd rs1 rs2 aq rl) = cond (aq || rl) None (Some (atomic (name_of row.StoreConditional) (register rd) (register rs2) (register rs1)))
 spelled (Fence bits) = cond (bits == full_fence) (Some (name_of row.Fence)) None
 spelled Ecall = Some (name_of row.Ecall)
 spelled Ebreak = Some (name_of row.Ebreak)

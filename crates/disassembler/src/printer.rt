@@ -2,7 +2,7 @@ ghost use Rattle.std.specs.Prelude.{◌≡◌, ◌≤◌, ◌+◌, ◌++◌, [],
 ghost use Rattle.table.specs.declared.instr.Instr.TheVariants.{Amo, Fence, OpImm};
 ghost use Rattle.disassembler.specs.Canonical.{canonical, spelled, plain, text_or};
 
-use crate::shapes::{atomic, based, begin, jump, numbered, registers, shifted, upper};
+use crate::shapes::{atomic, based, begin, indirect, jump, numbered, registers, shifted, upper};
 use operands::{FenceBits, Imm12};
 use table::{ImmOp, Instr, Row, decode};
 use texts::Line;
@@ -75,8 +75,21 @@ fn add_instr<const CAP: usize>(instr: Instr, word: u32, line: &mut Line<CAP>)
             aq,
             rl,
         } if !aq && !rl => atomic(Row::Amo(op).name(), rd, rs2, rs1, line),
+        Instr::LoadReserved { rd, rs1, aq, rl } if !aq && !rl => {
+            indirect(Row::LoadReserved.name(), rd, rs1, line)
+        }
+        Instr::StoreConditional {
+            rd,
+            rs1,
+            rs2,
+            aq,
+            rl,
+        } if !aq && !rl => atomic(Row::StoreConditional.name(), rd, rs2, rs1, line),
         Instr::Fence { bits } if bits.value() == FULL_FENCE => line.put(Row::Fence.name()),
-        Instr::Amo { .. } | Instr::Fence { .. } => add_plain(word, line),
+        Instr::Amo { .. }
+        | Instr::LoadReserved { .. }
+        | Instr::StoreConditional { .. }
+        | Instr::Fence { .. } => add_plain(word, line),
         Instr::Ecall => line.put(Row::Ecall.name()),
         Instr::Ebreak => line.put(Row::Ebreak.name()),
         Instr::TBegin { offset } => begin(Row::TBegin.name(), offset, line),

@@ -118,6 +118,19 @@ pub(crate) fn registers<const CAP: usize>(op: &str, a: Reg, b: Reg, c: Reg, line
     line.put(register(c));
 }
 
+/// `op a, (base)`.
+pub(crate) fn indirect<const CAP: usize>(op: &str, a: Reg, base: Reg, line: &mut Line<CAP>)
+    requires op { length op.now ≤ 9 }
+    requires room { length line.old + 40 ≤ CAP }
+    ensures text { line.new ≡ line.old ++ spec.indirect op.now (register a) (register base) }
+    ensures longer { length line.new ≤ length line.old + 40 }
+{
+    first(op, a, line);
+    line.put(", (");
+    line.put(register(base));
+    line.put(")");
+}
+
 /// `op a, b, (base)`.
 pub(crate) fn atomic<const CAP: usize>(op: &str, a: Reg, b: Reg, base: Reg, line: &mut Line<CAP>)
     requires op { length op.now ≤ 9 }

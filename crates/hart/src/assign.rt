@@ -12,6 +12,7 @@ impl<const SETS: usize, const WAYS: usize> Hart<SETS, WAYS> {
         self.index = other.index;
         self.harts = other.harts;
         self.size = other.size;
+        self.logs_from = other.logs_from;
         self.pc = other.pc;
         self.status = other.status;
         self.fresh = other.fresh;

@@ -1,11 +1,11 @@
-ghost use Rattle.std.specs.Prelude.{◌≡◌, ◌<◌, ◌≤◌, ◌%◌, [], Some, None, Ok, Err, IfOk, IfErr};
+ghost use Rattle.std.specs.Prelude.{◌≡◌, ◌<◌, ◌≤◌, ◌%◌, [], Some, None, Ok, Err, IfOk, IfErr, IsTrue};
 ghost use Rattle.words.specs.Bytes.{bytes_in};
 ghost use Rattle.table.specs.Program.{word_at};
 ghost use Rattle.flat.specs.Causes.{logs_from, load_cause, store_cause, memory_cause, act_cause, effect_or_cause, next_of};
 
 use crate::hart::Hart;
 use table::{Act, Effect, MemoryAct, Slot, Text, byte_count, register};
-use words::{Addr, Cause, LOG_BYTES, Reg};
+use words::{Addr, Cause, Reg};
 
 /// The word at a hart's pc, which can be retired, and what it does.
 #[derive(Clone, Copy, Debug, PartialEq, Eq)]
@@ -23,7 +23,7 @@ impl<const SETS: usize, const WAYS: usize> Hart<SETS, WAYS> {
     fn logs_from(&self) -> usize
         ensures { result ≡ logs_from (setting_of [] self.now) }
     {
-        self.size.saturating_sub(self.harts * LOG_BYTES)
+        self.logs_from
     }
 
     /// A load's cause, whatever the program's text is.
@@ -65,6 +65,33 @@ impl<const SETS: usize, const WAYS: usize> Hart<SETS, WAYS> {
             Some(Cause::StoreText)
         } else {
             None
+        }
+    }
+
+    /// Whether it is known at once that a store has no cause.
+    #[inline(always)]
+    fn is_free_store(&self, text: &Text, m: &MemoryAct) -> bool
+        ensures free { IsTrue result → store_cause (setting_of text.now.segments.now self.now) m.now.addr (bytes_in m.now.width) ≡ None }
+        ensures aligned { IsTrue result → m.now.addr % bytes_in m.now.width ≡ 0 }
+    {
+        let address = m.addr.index();
+        let count = byte_count(m.width) as usize;
+        address % count == 0
+            && address + count <= self.logs_from()
+            && text.is_clear_of(m.addr, m.width)
+    }
+
+    /// Whether it is known at once that an access has no cause: that isn't of a store between text segments.
+    #[inline(always)]
+    pub(crate) fn is_free(&self, text: &Text, m: &MemoryAct) -> bool
+        ensures free { IsTrue result → memory_cause (setting_of text.now.segments.now self.now) m.now ≡ None }
+        ensures aligned { IsTrue result → m.now.addr % bytes_in m.now.width ≡ 0 }
+    {
+        if m.store.is_some() {
+            self.is_free_store(text, m)
+        } else {
+            self.load_cause(m.addr, byte_count(m.width) as usize)
+                .is_none()
         }
     }
 

@@ -12,12 +12,14 @@ use std::marker::Model;
 use transaction::Tx;
 use words::{Addr, BlockNo, HartId, LOG_BYTES, Regs, STACK_BYTES, Status};
 
-/// A hart, with a cache of SETS sets of WAYS lines. What it has put out stands in its machine. Whether two are one, [`Hart::same`] tells.
+/// A hart, with a cache of SETS sets of WAYS lines. What it has put out stands in its machine. Whether two are one, [`Hart::same`] tells. It keeps the first
+/// address of the undo logs, which each access is compared with.
 #[derive(Clone, Copy, Debug)]
 pub struct Hart<const SETS: usize, const WAYS: usize> {
     pub(crate) index: HartId,
     pub(crate) harts: usize,
     pub(crate) size: usize,
+    pub(crate) logs_from: usize,
     pub(crate) pc: Addr,
     pub(crate) status: Status,
     pub(crate) fresh: bool,
@@ -29,6 +31,9 @@ pub struct Hart<const SETS: usize, const WAYS: usize> {
 }
 
 impl<const SETS: usize, const WAYS: usize> Model for Hart<SETS, WAYS> {
+    ghost use Rattle.std.specs.Prelude.{◌≡◌, ◌-◌, ◌*◌};
+    ghost use Rattle.std.proofs.Common.{sym};
+    ghost use Rattle.words.specs.Limits.{log_bytes};
     ghost use Rattle.hart.specs.Parts.{Parts, IsSound};
 
     ghost Value = { Parts };
@@ -59,12 +64,13 @@ impl<const SETS: usize, const WAYS: usize> Model for Hart<SETS, WAYS> {
       request = h.request;
       put = h.put;
       fresh = h.fresh;
-    }) };
+    }) × (h.logs_from ≡ h.size - log_bytes * h.harts) };
 
     ghost inverse = { λ p. record {
       index = p.index;
       harts = p.harts;
       size = p.size;
+      logs_from = p.size - log_bytes * p.harts;
       pc = p.pc;
       status = p.status;
       fresh = p.fresh;
@@ -73,6 +79,21 @@ impl<const SETS: usize, const WAYS: usize> Model for Hart<SETS, WAYS> {
       regs = p.regs;
       tx = p.tx;
       cache = p.cache;
+    } };
+
+    ghost inverse_ok = { λ h sound. λ i. record {
+      index = h.index;
+      harts = h.harts;
+      size = h.size;
+      logs_from = sym sound.1 i;
+      pc = h.pc;
+      status = h.status;
+      fresh = h.fresh;
+      request = h.request;
+      put = h.put;
+      regs = h.regs;
+      tx = h.tx;
+      cache = h.cache;
     } };
 }
 
@@ -114,6 +135,7 @@ impl<const SETS: usize, const WAYS: usize> Hart<SETS, WAYS> {
             index,
             harts,
             size,
+            logs_from: size.saturating_sub(harts * LOG_BYTES),
             pc: entry,
             status: Status::Running,
             fresh: false,

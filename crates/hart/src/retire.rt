@@ -188,8 +188,7 @@ impl<const SETS: usize, const WAYS: usize> Hart<SETS, WAYS> {
             count: taken,
             hart: self.index,
         };
-        let regs = self.regs;
-        let stamped = begin(&mut self.tx, &regs, abort_pc, stamp);
+        let stamped = begin(&mut self.tx, &self.regs, abort_pc, stamp);
         let step = self.retire(word, effect);
         CoreStep { stamped, ..step }
     }

@@ -37,7 +37,14 @@ pub record CanShow (run : Run) (file : List ℕ) : Type 0 where
   pub boots : boot_fault program.segments run.setup.harts run.setup.memory ≡ None
   pub readable : AllReadable (flat_start program run.setup).setting (addresses run.words.items)
 
+-- a word of the run can't be read, and which
+abbrev pub IsWordFault : Run → List ℕ → Fault → Type 0
+IsWordFault run file why = (k : ℕ) × (w : Word) × CanNotShow run file k w × (why ≡ fault.Word w.text)
+
+-- why no run of the file with these bytes begins, by whatever list: the first that is wrong of the file, the boot and the words
+abbrev pub IsUnready : Run → List ℕ → Fault → Type 0
+IsUnready run file why = IsStartFault run.setup file why ⊎ IsWordFault run file why
+
 -- why a run of the file with these bytes, by this list, doesn't begin: the first that is wrong of the file, the boot, the words and the list
 abbrev pub IsUnbegun : Run → List ℕ → List ℕ → Fault → Type 0
-IsUnbegun run file list why = IsStartFault run.setup file why
-    ⊎ (((k : ℕ) × (w : Word) × CanNotShow run file k w × (why ≡ fault.Word w.text)) ⊎ (CanShow run file × IsScheduleFault list why))
+IsUnbegun run file list why = IsStartFault run.setup file why ⊎ (IsWordFault run file why ⊎ (CanShow run file × IsScheduleFault list why))

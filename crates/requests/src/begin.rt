@@ -1,7 +1,7 @@
 //! How a run begins.
 ghost use Rattle.std.specs.Prelude.{◌<◌, ◌*◌, ◌^◌, ℕ, List, MatchResult};
 ghost use Rattle.machine.specs.States.{geometry};
-ghost use Rattle.requests.specs.Begins.{IsBegunBy, IsUnbegun};
+ghost use Rattle.requests.specs.Begins.{CanShow, IsBegunBy, IsUnbegun, IsUnready};
 ghost use Rattle.requests.specs.Starts.{IsStartOf, IsStartFault};
 
 use crate::fault::Fault;
@@ -60,6 +60,15 @@ fn words_and_choices<'a, const SETS: usize, const WAYS: usize>(
     let addrs = readable(alloc, machine, &run.words)?;
     let choices = choices_in(alloc, schedule)?;
     Ok((addrs, choices))
+}
+
+/// Whether a run of the program in a file could begin, if it had a schedule: why not, where it couldn't.
+pub fn check_run<'a>(alloc: Global, run: &Run<'a>, file: &'a [u8]) -> Result<(), Fault<'a>>
+    ensures { MatchResult result (λ _. CanShow run.now file.now) (IsUnready run.now file.now) }
+{
+    let machine: Machine<1, 1> = boot(alloc, &run.setup, file)?;
+    readable(alloc, &machine, &run.words)?;
+    Ok(())
 }
 
 /// The machine that the program in a file begins in.

@@ -4,9 +4,11 @@ use Rattle.words.specs.Sinks.{IsPut, SinkState, TookAll, TookPart}
 use Rattle.command_line.specs.Reading.{IsRequestOf, IsFaultOf}
 use Rattle.command_line.specs.declared.fault.OrderFault.{OrderFault}
 use Rattle.command_line.specs.declared.request.Request.{Request}
+use Rattle.command_line.specs.declared.request.Request.TheVariants as request
 use Rattle.debugger.specs.Plays.{Giving}
 use Rattle.render.specs.Statuses.{IsReported}
 use Rattle.simulate.specs.Carried.{IsCarriedOut}
+use Rattle.requests.specs.Begins.{CanShow, IsUnready}
 use Rattle.requests.specs.Faults.{fault_status, fault_text, of_order}
 use Rattle.requests.specs.NamedFiles.{file_of, schedule_of, page_of, IsReadAt, IsUnreadAt, IsReadIf, IsUnreadIf, IsUnbegunIf, IsSheetFor, IsClosed, IsImageMade, IsImageUnmade}
 use Rattle.requests.specs.Sheets.{state_of}
@@ -27,6 +29,15 @@ IsWritten status before after = TookAll before after [] ⊎ (TookPart before aft
 
 abbrev pub IsWrittenOut : {S I : Type 0} → World S I → ℕ → World S I → Type 0
 IsWrittenOut v status w = IsWritten status v.output w.output × (w ≡ record v { output = w.output })
+
+-- of a request that has a schedule: why its run couldn't begin even if the schedule were read; or nothing but the schedule is wrong
+abbrev pub IsUnreadyOf : Request → List ℕ → Fault → Type 0
+IsUnreadyOf (request.Run run) file why = IsUnready run file why
+IsUnreadyOf other file why = ⊥
+
+abbrev pub IsReadyOf : Request → List ℕ → Type 0
+IsReadyOf (request.Run run) file = CanShow run file
+IsReadyOf other file = Unit {0}
 
 module _ {S I P : Type 0} (reads : S → List ℕ → ℕ → List ℕ → Type 0) (refuses : S → List ℕ → Type 0) (begins : S → List ℕ → S → P → Type 0) (ends : S → P → S → Type 0)
     (state : P → SinkState) (gives : Giving I) (prompt : List ℕ) where
@@ -50,16 +61,22 @@ module _ {S I P : Type 0} (reads : S → List ℕ → ℕ → List ℕ → Type 
         × (((fault ≡ Unwritten) × IsReported status × TookPart u.output w.output [] × (w ≡ record u { output = w.output }))
         ⊎ ((x : World S I) × IsWrittenOut u status x × IsImageUnmade refuses begins ends state request image x.store fault w.store × (w ≡ record x { store = w.store }))))
 
-  -- the files that it names were read, its schedule behind its file, and then it was made; or why not
-  abbrev pub IsServed : Request → World S I → ℕ → World S I → Type 0
-  IsServed request v status w = (file list : List ℕ) × IsReadAt reads refuses v.store (file_of request).now file × IsReadIf reads refuses v.store (schedule_of request) list
-      × IsMadeOf request file list v status w
+  -- the user is told why a run couldn't begin even if its schedule were read, and the status is that fault's
+  abbrev pub IsToldUnready : Request → List ℕ → World S I → ℕ → World S I → Type 0
+  IsToldUnready request file v status w = (why : Fault) × IsUnreadyOf request file why × (status ≡ fault_status why) × IsPut v.error w.error (fault_text why) × (w ≡ record v { error = w.error })
 
+  -- the files that it names were read, its schedule behind its file, and then it was made; or its schedule wasn't read, and the user is told what is wrong before it
+  abbrev pub IsServed : Request → World S I → ℕ → World S I → Type 0
+  IsServed request v status w = (file : List ℕ) × IsReadAt reads refuses v.store (file_of request).now file
+      × (((list : List ℕ) × IsReadIf reads refuses v.store (schedule_of request) list × IsMadeOf request file list v status w)
+      ⊎ ((unread : Fault) × IsUnreadIf reads refuses v.store (schedule_of request) unread × IsToldUnready request file v status w))
+
+  -- or why not: its file wasn't read; or only its schedule wasn't; or it couldn't be made
   abbrev pub IsUnserved : Request → World S I → Fault → World S I → Type 0
-  IsUnserved request v fault w = ((IsUnreadAt reads refuses v.store (file_of request) fault
-      ⊎ ((file : List ℕ) × IsReadAt reads refuses v.store (file_of request).now file × IsUnreadIf reads refuses v.store (schedule_of request) fault)) × (w ≡ v))
-      ⊎ ((file list : List ℕ) × IsReadAt reads refuses v.store (file_of request).now file × IsReadIf reads refuses v.store (schedule_of request) list
-      × IsUnmadeOf request file list v fault w)
+  IsUnserved request v fault w = (IsUnreadAt reads refuses v.store (file_of request) fault × (w ≡ v))
+      ⊎ ((file : List ℕ) × IsReadAt reads refuses v.store (file_of request).now file
+      × ((IsUnreadIf reads refuses v.store (schedule_of request) fault × IsReadyOf request file × (w ≡ v))
+      ⊎ ((list : List ℕ) × IsReadIf reads refuses v.store (schedule_of request) list × IsUnmadeOf request file list v fault w)))
 
   -- the words say a request, which was served; or why nothing was
   abbrev pub IsObeyed : List (List ℕ) → World S I → ℕ → World S I → Type 0

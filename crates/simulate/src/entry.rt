@@ -1,16 +1,19 @@
 //! The words of a command line, answered.
 ghost use Rattle.std.specs.Prelude.{◌≡◌, [], MatchResult, map};
 ghost use Rattle.std.specs.Option.{option_map};
-ghost use Rattle.words.specs.Sinks.{TookPart};
+ghost use Rattle.words.specs.Sinks.{IsPut, TookPart};
 ghost use Rattle.render.specs.Statuses.{IsReported};
 ghost use Rattle.requests.specs.NamedFiles.{page_of, IsUnbegunIf};
-ghost use Rattle.simulate.specs.Answered.{IsWritten, IsCarried, IsMadeOf, IsUnmadeOf, IsServed, IsUnserved, IsObeyed, IsDisobeyed, IsAnswered};
+ghost use Rattle.simulate.specs.Answered.{IsUnreadyOf, IsReadyOf, IsWritten, IsCarried, IsMadeOf, IsUnmadeOf, IsServed, IsUnserved, IsObeyed, IsDisobeyed, IsAnswered};
+ghost use Rattle.requests.specs.Faults.{fault_status, fault_text};
+ghost use Rattle.requests.specs.declared.fault.Fault.{Fault as TheFault};
 ghost use Rattle.requests.specs.declared.fault.Fault.TheVariants.{Unwritten};
 
 use crate::carry::carry_out;
 use command_line::{Request, parse};
 use debugger::LineInput;
 use render::is_report;
+use requests::begin::check_run;
 use requests::files::{
     close, file_of, make_image, page_of, read, read_if_any, schedule_of, sheet_for,
 };
@@ -92,10 +95,34 @@ fn serve<'a, R: Threads + Wait + Sync, S: Store, I: LineInput, P: Live, O: Page,
         (record { store = store.new; input = input.new; output = O.state out.new; error = E.state error.new })) }
 {
     let file = read(store, file_of(request))?;
-    let list = read_if_any(alloc, store, schedule_of(request))?;
-    make(
-        rt, alloc, request, &file, &list, store, input, prompt, progress, out, error,
-    )
+    match read_if_any(alloc, store, schedule_of(request)) {
+        Ok(list) => make(
+            rt, alloc, request, &file, &list, store, input, prompt, progress, out, error,
+        ),
+        Err(unread) => tell_unready(alloc, request, &file, unread, error),
+    }
+}
+
+/// Tells why the run of a request couldn't begin even if its schedule were read, and answers that fault's status. Where nothing is wrong before the
+/// schedule, the fault is that it wasn't read.
+fn tell_unready<'a, E: Sink>(
+    alloc: Global,
+    request: &Request<'a>,
+    file: &[u8],
+    unread: Fault<'a>,
+    error: &mut E,
+) -> Result<u8, Fault<'a>>
+    ensures { MatchResult result
+        (λ status. (why : TheFault) × IsUnreadyOf request.now file.now why × (status ≡ fault_status why) × IsPut (E.state error.old) (E.state error.new) (fault_text why))
+        (λ fault. (fault ≡ unread.entry) × IsReadyOf request.now file.now × (error.new ≡ error.old)) }
+{
+    let Request::Run(run) = request else {
+        return Err(unread);
+    };
+    match check_run(alloc, run, file) {
+        Ok(()) => Err(unread),
+        Err(why) => Ok(why.tell(error)),
+    }
 }
 
 /// Makes what a request asks for, given the bytes of its file and of its schedule. It answers the status.

@@ -117,6 +117,23 @@ amo_of op text = do
   rs1 ← indirect x.third
   Ok (instr.Amo op rd rs1 rs2 false false)
 
+-- op rd, (rs1)
+unfoldable pub load_reserved_of : List ℕ → Result Instr AsmFault
+load_reserved_of text = do
+  x ← two text
+  rd ← register x.0
+  rs1 ← indirect x.1
+  Ok (instr.LoadReserved rd rs1 false false)
+
+-- op rd, rs2, (rs1)
+unfoldable pub store_conditional_of : List ℕ → Result Instr AsmFault
+store_conditional_of text = do
+  x ← three text
+  rd ← register x.first
+  rs2 ← register x.second
+  rs1 ← indirect x.third
+  Ok (instr.StoreConditional rd rs1 rs2 false false)
+
 -- lui rd, n and auipc rd, n: the upper 20 bits
 unfoldable pub upper_of : (ℕ → ℕ → Instr) → List ℕ → Result Instr AsmFault
 upper_of make text = do
@@ -227,6 +244,8 @@ by_row (row.OpImm op) pc find text = op_imm_of op text
 by_row (row.ShiftImm op) pc find text = shift_imm_of op text
 by_row (row.Op op) pc find text = op_of op text
 by_row (row.Amo op) pc find text = amo_of op text
+by_row row.LoadReserved pc find text = load_reserved_of text
+by_row row.StoreConditional pc find text = store_conditional_of text
 by_row row.Fence pc find text = alone_of (instr.Fence full_fence) text
 by_row row.Ecall pc find text = alone_of instr.Ecall text
 by_row row.Ebreak pc find text = alone_of instr.Ebreak text

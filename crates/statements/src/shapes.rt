@@ -139,6 +139,40 @@ fn amo(op: AmoOp, text: &[u8]) -> Result<Instr, AsmFault>
     })
 }
 
+/// `lr.w rd, (rs1)`
+#[tactic(auto, unfolding(crate::specs::Instructions::load_reserved_of))]
+fn load_reserved(text: &[u8]) -> Result<Instr, AsmFault>
+    ensures { result ≡ spec.load_reserved_of text.now }
+{
+    let (rd, rs1) = two(text)?;
+    let rd = register(rd)?;
+    let rs1 = indirect(rs1)?;
+    Ok(Instr::LoadReserved {
+        rd,
+        rs1,
+        aq: false,
+        rl: false,
+    })
+}
+
+/// `sc.w rd, rs2, (rs1)`
+#[tactic(auto, unfolding(crate::specs::Instructions::store_conditional_of))]
+fn store_conditional(text: &[u8]) -> Result<Instr, AsmFault>
+    ensures { result ≡ spec.store_conditional_of text.now }
+{
+    let (rd, rs2, rs1) = three(text)?;
+    let rd = register(rd)?;
+    let rs2 = register(rs2)?;
+    let rs1 = indirect(rs1)?;
+    Ok(Instr::StoreConditional {
+        rd,
+        rs1,
+        rs2,
+        aq: false,
+        rl: false,
+    })
+}
+
 /// `lui rd, n`
 #[tactic(auto, unfolding(crate::specs::Instructions::upper_of))]
 fn lui(text: &[u8]) -> Result<Instr, AsmFault>
@@ -392,6 +426,8 @@ pub(crate) fn by_row(
         Row::ShiftImm(op) => shift_imm(op, text),
         Row::Op(op) => registers(op, text),
         Row::Amo(op) => amo(op, text),
+        Row::LoadReserved => load_reserved(text),
+        Row::StoreConditional => store_conditional(text),
         Row::Fence => {
             let bits = FenceBits::new(FULL_FENCE);
             without_operands(Instr::Fence { bits }, text)

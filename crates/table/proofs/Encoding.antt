@@ -5,7 +5,7 @@ use Rattle.operands.proofs.Layouts.{r_word, amo_word, i_word, s_word, b_word, u_
 use Rattle.table.specs.Table.{branch_row, load_row, store_row, imm_row, shift_row, op_row}
 use Rattle.table.specs.Atomics.{amo_row}
 use Rattle.table.specs.declared.instr.Instr.{Instr}
-use Rattle.table.specs.declared.instr.Instr.TheVariants.{Lui, Auipc, Jal, Jalr, Branch, Load, Store, OpImm, ShiftImm, Op, Amo, Fence, Ecall, Ebreak, TBegin, TCommit, TAbort}
+use Rattle.table.specs.declared.instr.Instr.TheVariants.{Lui, Auipc, Jal, Jalr, Branch, Load, Store, OpImm, ShiftImm, Op, Amo, LoadReserved, StoreConditional, Fence, Ecall, Ebreak, TBegin, TCommit, TAbort}
 
 -- a fence's word, from its other bits
 abbrev pub fence_word : ℕ → ℕ
@@ -24,6 +24,8 @@ encoded (OpImm op d s i) = i_word 0x13 d (imm_row op).funct3 s i
 encoded (ShiftImm op d s k) = r_word 0x13 d (shift_row op).funct3 s k (shift_row op).funct7
 encoded (Op op d s t) = r_word 0x33 d (op_row op).funct3 s t (op_row op).funct7
 encoded (Amo op d s t a r) = amo_word 0x2f d 0x2 s t (amo_row op).funct5 a r
+encoded (LoadReserved d s a r) = amo_word 0x2f d 0x2 s 0x00 0x02 a r
+encoded (StoreConditional d s t a r) = amo_word 0x2f d 0x2 s t 0x03 a r
 encoded (Fence r) = fence_word r
 encoded Ecall = 0x00000073
 encoded Ebreak = 0x00100073

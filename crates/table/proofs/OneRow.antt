@@ -6,8 +6,8 @@ use Rattle.std.specs.List.{list_all}
 use Rattle.operands.specs.Fields.{opcode_of}
 use Rattle.table.specs.declared.instr.Row.{Row}
 use Rattle.table.specs.Table.{Key, fits, key, table, RowHas}
-use Rattle.table.specs.Table.Key.{Funct3, Funct7, Funct5, Word, Masked}
-use Rattle.table.proofs.Keys.{f3_fits, f7_fits, f5_fits, word_fits, masked_fits, opcode_fits, key_opcode, FitsF3, FitsF3F7, FitsF3F5}
+use Rattle.table.specs.Table.Key.{Funct3, Funct7, Funct5, Rs2, Word, Masked}
+use Rattle.table.proofs.Keys.{f3_fits, f7_fits, f5_fits, rs2_fits, word_fits, masked_fits, opcode_fits, key_opcode, FitsF3, FitsF3F7, FitsF3F5}
 
 abbrev differ : ℕ → ℕ → Bool
 differ a b = not (eqb a b)
@@ -18,6 +18,8 @@ are_apart (Funct3 o f) (Funct3 p g) = differ o p || differ f g
 are_apart (Funct3 o f) (Funct7 p g h) = differ o p || differ f g
 are_apart (Funct7 o f g) (Funct7 p h k) = differ o p || (differ f h || differ g k)
 are_apart (Funct5 o f g) (Funct5 p h k) = differ o p || (differ f h || differ g k)
+are_apart (Funct5 o f g) (Rs2 p h k s) = differ o p || (differ f h || differ g k)
+are_apart (Rs2 o f g s) (Funct5 p h k) = differ o p || (differ f h || differ g k)
 are_apart (Word v) (Word u) = differ v u
 are_apart (Masked m v) (Word u) = differ (bit_and u m) v
 are_apart k l = differ (key_opcode k) (key_opcode l)
@@ -29,6 +31,10 @@ not_both a b x apart xa xb = eqb-false a b (not-true (eqb a b) apart) (sym xa �
 neither : (s t : Bool) → (s || t) ≡ true → (s ≡ true → ⊥) → (t ≡ true → ⊥) → ⊥
 neither true t apart no-s no-t = no-s refl
 neither false t apart no-s no-t = no-t apart
+
+apart_f5 : (o f g p h i w : ℕ) → (differ o p || (differ f h || differ g i)) ≡ true → FitsF3F5 o f g w → FitsF3F5 p h i w → ⊥
+apart_f5 o f g p h i w apart a b =
+    neither (differ o p) (differ f h || differ g i) apart (λ d. not_both o p _ d a.opcode b.opcode) (λ e. neither (differ f h) (differ g i) e (λ d. not_both f h _ d a.funct3 b.funct3) (λ d. not_both g i _ d a.funct5 b.funct5))
 
 apart_keys : (k l : Key) (w : ℕ) → are_apart k l ≡ true → fits k w ≡ true → fits l w ≡ true → ⊥
 apart_keys (Funct3 o f) (Funct3 p g) w apart k l =
@@ -43,10 +49,9 @@ apart_keys (Funct7 o f g) (Funct7 p h i) w apart k l =
     let a : FitsF3F7 o f g w = f7_fits o f g w k in
     let b : FitsF3F7 p h i w = f7_fits p h i w l in
     neither (differ o p) (differ f h || differ g i) apart (λ d. not_both o p _ d a.opcode b.opcode) (λ e. neither (differ f h) (differ g i) e (λ d. not_both f h _ d a.funct3 b.funct3) (λ d. not_both g i _ d a.funct7 b.funct7))
-apart_keys (Funct5 o f g) (Funct5 p h i) w apart k l =
-    let a : FitsF3F5 o f g w = f5_fits o f g w k in
-    let b : FitsF3F5 p h i w = f5_fits p h i w l in
-    neither (differ o p) (differ f h || differ g i) apart (λ d. not_both o p _ d a.opcode b.opcode) (λ e. neither (differ f h) (differ g i) e (λ d. not_both f h _ d a.funct3 b.funct3) (λ d. not_both g i _ d a.funct5 b.funct5))
+apart_keys (Funct5 o f g) (Funct5 p h i) w apart k l = apart_f5 o f g p h i w apart (f5_fits o f g w k) (f5_fits p h i w l)
+apart_keys (Funct5 o f g) (Rs2 p h i s) w apart k l = apart_f5 o f g p h i w apart (f5_fits o f g w k) (rs2_fits p h i s w l).funct5
+apart_keys (Rs2 o f g s) (Funct5 p h i) w apart k l = apart_f5 o f g p h i w apart (rs2_fits o f g s w k).funct5 (f5_fits p h i w l)
 apart_keys (Word v) (Word u) w apart k l = not_both v u w apart (word_fits v w k) (word_fits u w l)
 apart_keys (Masked m v) (Word u) w apart k l = not_both (bit_and u m) v (bit_and w m) apart (ap (λ x. bit_and x m) (word_fits u w l)) (masked_fits m v w k)
 apart_keys k l w apart kf lf = not_both (key_opcode k) (key_opcode l) (opcode_of w) apart (opcode_fits k w kf) (opcode_fits l w lf)

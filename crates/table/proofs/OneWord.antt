@@ -4,13 +4,13 @@ use Rattle.std.proofs.lemmas.Option.{same_Some}
 use Rattle.operands.specs.Fields.{opcode_of, rd_of, rs1_of, rs2_of, aq_of, rl_of, imm_i_of, imm_s_of, imm_b_of, imm_u_of, imm_j_of, fence_bits_of}
 use Rattle.table.specs.Table.{fits, key, instr, table, instr_in, decoded, branch_row, load_row, store_row, imm_row, shift_row, op_row}
 use Rattle.table.specs.Atomics.{amo_row}
-use Rattle.table.specs.Table.Key.{Opcode, Funct3, Funct7, Funct5, Word, Masked}
+use Rattle.table.specs.Table.Key.{Opcode, Funct3, Funct7, Funct5, Rs2, Word, Masked}
 use Rattle.table.specs.declared.instr.Row.{Row}
 use Rattle.table.specs.declared.instr.Row.TheVariants as row
 use Rattle.table.specs.declared.instr.Instr.{Instr}
 use Rattle.operands.proofs.Layouts.{r_word, amo_word, i_word, s_word, b_word, u_word, j_word, r_word-fields, amo_word-fields, i_word-fields, s_word-fields, b_word-fields, u_word-fields, j_word-fields}
 use Rattle.table.proofs.Encoding.{fence_word, encoded, fence_word-fields}
-use Rattle.table.proofs.Keys.{op_fits, f3_fits, f7_fits, f5_fits, word_fits, masked_fits, FitsF3, FitsF3F7, FitsF3F5}
+use Rattle.table.proofs.Keys.{op_fits, f3_fits, f7_fits, f5_fits, rs2_fits, word_fits, masked_fits, FitsF3, FitsF3F7, FitsF3F5, FitsRs2}
 use Rattle.operands.proofs.Begin.{passing_fields, BeginFields}
 
 -- a row's words are those of its instructions
@@ -38,6 +38,11 @@ r_row o f g w h fit = let e : FitsF3F7 o f g w = f7_fits o f g w fit in rw (← 
 amo_word_row : (o f g w : ℕ) → w < 2 ^ 32 → fits (Funct5 o f g) w ≡ true → amo_word o (rd_of w) f (rs1_of w) (rs2_of w) g (aq_of w) (rl_of w) ≡ w
 amo_word_row o f g w h fit = let e : FitsF3F5 o f g w = f5_fits o f g w fit in rw (← e.opcode, ← e.funct3, ← e.funct5) (amo_word-fields w)
 
+rs2_row : (o f g s w : ℕ) → w < 2 ^ 32 → fits (Rs2 o f g s) w ≡ true → amo_word o (rd_of w) f (rs1_of w) s g (aq_of w) (rl_of w) ≡ w
+rs2_row o f g s w h fit =
+    let e : FitsRs2 o f g s w = rs2_fits o f g s w fit in
+    rw (← e.funct5.opcode, ← e.funct5.funct3, ← e.funct5.funct5, ← e.rs2) (amo_word-fields w)
+
 fence_row : (w : ℕ) → w < 2 ^ 32 → fits (Funct3 0x0f 0x0) w ≡ true → fence_word (fence_bits_of w) ≡ w
 fence_row w h fit = let e : FitsF3 0x0f 0x0 w = f3_fits 0x0f 0x0 w fit in fence_word-fields w e.opcode e.funct3
 
@@ -59,6 +64,8 @@ is_back (row.OpImm op) = i_row 0x13 (imm_row op).funct3
 is_back (row.ShiftImm op) = r_row 0x13 (shift_row op).funct3 (shift_row op).funct7
 is_back (row.Op op) = r_row 0x33 (op_row op).funct3 (op_row op).funct7
 is_back (row.Amo op) = amo_word_row 0x2f 0x2 (amo_row op).funct5
+is_back row.LoadReserved = rs2_row 0x2f 0x2 0x02 0x00
+is_back row.StoreConditional = amo_word_row 0x2f 0x2 0x03
 is_back row.Fence = fence_row
 is_back row.Ecall = word_row 0x00000073
 is_back row.Ebreak = word_row 0x00100073

@@ -2,7 +2,8 @@
 
 ghost use Rattle.std.specs.Prelude.{◌≡◌};
 ghost use Rattle.operands.specs.Fields.{opcode_of, funct3_of};
-ghost use Rattle.table.specs.Table.{decoded};
+ghost use Rattle.table.specs.Table.{decoded, instr};
+ghost use Rattle.table.specs.declared.instr.Row.TheVariants as row;
 
 use crate::instr::{AluOp, AmoOp, BranchOp, ImmOp, Instr, LoadOp, ShiftOp, StoreOp};
 use operands::{
@@ -10,7 +11,7 @@ use operands::{
     opcode, rd, rl, rs1, rs2, shamt,
 };
 
-/// The instruction that a word is, or `None` if it is illegal.
+/// The instruction that a word is, or `None` if it is none.
 pub fn decode(word: u32) -> Option<Instr>
     ensures { result ≡ decoded word }
 {
@@ -213,6 +214,8 @@ fn decode_amo(word: u32) -> Option<Instr>
     let op = match funct5(word) {
         0x00 => AmoOp::Add,
         0x01 => AmoOp::Swap,
+        0x02 if rs2(word).index() == 0 => return Some(load_reserved(word)),
+        0x03 => return Some(store_conditional(word)),
         0x04 => AmoOp::Xor,
         0x08 => AmoOp::Or,
         0x0c => AmoOp::And,
@@ -230,6 +233,28 @@ fn decode_amo(word: u32) -> Option<Instr>
         aq: aq(word),
         rl: rl(word),
     })
+}
+
+fn load_reserved(word: u32) -> Instr
+    ensures { result ≡ instr row.LoadReserved word }
+{
+    let (rd, rs1) = (rd(word), rs1(word));
+    let (aq, rl) = (aq(word), rl(word));
+    Instr::LoadReserved { rd, rs1, aq, rl }
+}
+
+fn store_conditional(word: u32) -> Instr
+    ensures { result ≡ instr row.StoreConditional word }
+{
+    let (rd, rs1, rs2) = (rd(word), rs1(word), rs2(word));
+    let (aq, rl) = (aq(word), rl(word));
+    Instr::StoreConditional {
+        rd,
+        rs1,
+        rs2,
+        aq,
+        rl,
+    }
 }
 
 fn decode_fence(word: u32) -> Option<Instr>

@@ -51,6 +51,16 @@ fn word_of(instr: Instr) -> u32
             aq,
             rl,
         } => encode_amo(op, rd, rs1, rs2, aq, rl),
+        Instr::LoadReserved { rd, rs1, aq, rl } => {
+            amo_word(0x2f, rd, 2, rs1, Reg::new(0), 0x02, aq, rl)
+        }
+        Instr::StoreConditional {
+            rd,
+            rs1,
+            rs2,
+            aq,
+            rl,
+        } => amo_word(0x2f, rd, 2, rs1, rs2, 0x03, aq, rl),
         Instr::Fence { bits } => fence_word(bits),
         Instr::Ecall => 0x0000_0073,
         Instr::Ebreak => 0x0010_0073,

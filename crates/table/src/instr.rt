@@ -210,8 +210,8 @@ impl AmoOp {
     }
 }
 
-/// An instruction of RV32IM or an AMO.W (RISC-V Unprivileged ISA 20191213, chapters 2, 7 and 8), or one of the three words for
-/// transactions, which stand in the custom-0 opcode. Each value has one word, and each legal word one value.
+/// An instruction of RV32IMA (RISC-V Unprivileged ISA 20191213, chapters 2, 7 and 8), or one of the three words for transactions,
+/// which stand in the custom-0 opcode. Each value has one word, and each word of a row one value.
 #[derive(Clone, Copy, Debug, PartialEq, Eq)]
 pub enum Instr {
     Lui {
@@ -276,6 +276,21 @@ pub enum Instr {
         aq: bool,
         rl: bool,
     },
+    /// LR.W, which no hart does.
+    LoadReserved {
+        rd: Reg,
+        rs1: Reg,
+        aq: bool,
+        rl: bool,
+    },
+    /// SC.W, which no hart does.
+    StoreConditional {
+        rd: Reg,
+        rs1: Reg,
+        rs2: Reg,
+        aq: bool,
+        rl: bool,
+    },
     Fence {
         bits: FenceBits,
     },
@@ -303,6 +318,8 @@ pub enum Row {
     ShiftImm(ShiftOp),
     Op(AluOp),
     Amo(AmoOp),
+    LoadReserved,
+    StoreConditional,
     Fence,
     Ecall,
     Ebreak,
@@ -329,6 +346,8 @@ impl Row {
             Row::ShiftImm(op) => op.name(),
             Row::Op(op) => op.name(),
             Row::Amo(op) => op.name(),
+            Row::LoadReserved => "lr.w",
+            Row::StoreConditional => "sc.w",
             Row::Fence => "fence",
             Row::Ecall => "ecall",
             Row::Ebreak => "ebreak",
@@ -341,7 +360,7 @@ impl Row {
 
 /// The rows of the table.
 #[rattlefmt::skip]
-pub(crate) const ROWS: [Row; 60] = [
+pub(crate) const ROWS: [Row; 62] = [
     Row::Lui, Row::Auipc, Row::Jal, Row::Jalr,
     Row::Branch(BranchOp::Eq), Row::Branch(BranchOp::Ne), Row::Branch(BranchOp::Lt),
     Row::Branch(BranchOp::Ge), Row::Branch(BranchOp::Ltu), Row::Branch(BranchOp::Geu),
@@ -359,6 +378,7 @@ pub(crate) const ROWS: [Row; 60] = [
     Row::Amo(AmoOp::Add), Row::Amo(AmoOp::Swap), Row::Amo(AmoOp::Xor), Row::Amo(AmoOp::Or),
     Row::Amo(AmoOp::And), Row::Amo(AmoOp::Min), Row::Amo(AmoOp::Max), Row::Amo(AmoOp::Minu),
     Row::Amo(AmoOp::Maxu),
+    Row::LoadReserved, Row::StoreConditional,
     Row::Fence, Row::Ecall, Row::Ebreak,
     Row::TBegin, Row::TCommit, Row::TAbort,
 ];

@@ -26,4 +26,4 @@ pub use instr::{AluOp, AmoOp, BranchOp, ImmOp, Instr, LoadOp, Row, ShiftOp, Stor
 pub use laws::one_row;
 pub use names::row_named;
 pub use slot::Slot;
-pub use text::{Segment, Text};
+pub use text::{Segment, Text, end_of_text, start_of_text};

@@ -4,7 +4,7 @@ use Rattle.std.specs.Prelude.{◌==◌, ◌&&◌}
 use Rattle.std.specs.Option.{unwrap_or}
 use Rattle.words.specs.declared.cause.Cause.{Cause}
 use Rattle.table.specs.declared.instr.Instr.{Instr}
-use Rattle.table.specs.declared.instr.Instr.TheVariants.{Lui, Auipc, Jal, Jalr, Branch, Load, Store, OpImm, ShiftImm, Op, Amo, Fence, Ecall, Ebreak, TBegin, TCommit, TAbort}
+use Rattle.table.specs.declared.instr.Instr.TheVariants.{Lui, Auipc, Jal, Jalr, Branch, Load, Store, OpImm, ShiftImm, Op, Amo, LoadReserved, StoreConditional, Fence, Ecall, Ebreak, TBegin, TCommit, TAbort}
 use Rattle.table.specs.declared.effect.Effect.{Effect}
 use Rattle.table.specs.declared.effect.Act.{Act}
 use Rattle.table.specs.declared.effect.Act.TheVariants as act
@@ -73,6 +73,8 @@ tells (OpImm op d s i) pc regs e is = done (OpImm op d s i) pc _ _ e is (record 
 tells (ShiftImm op d s k) pc regs e is = done (ShiftImm op d s k) pc _ _ e is (record { past = λ t i p. refl; stamp = λ p. refl })
 tells (Op op d s t) pc regs e is = done (Op op d s t) pc _ _ e is (record { past = λ t i p. refl; stamp = λ p. refl })
 tells (Amo op d s t a r) pc regs e is = done (Amo op d s t a r) pc _ _ e is (record { past = λ t i p. refl; stamp = λ p. refl })
+tells (LoadReserved d s a r) pc regs e is = absurd (cc)
+tells (StoreConditional d s t a r) pc regs e is = absurd (cc)
 tells (Fence r) pc regs e is = done (Fence r) pc _ _ e is (record { past = λ t i p. refl; stamp = λ p. refl })
 tells Ecall pc regs e is = done Ecall pc _ _ e is (record { past = λ t i p. refl; stamp = λ p. refl })
 tells Ebreak pc regs e is = done Ebreak pc _ _ e is (record { past = λ t i p. refl; stamp = λ p. refl })

@@ -13,7 +13,7 @@ use Rattle.table.specs.declared.instr.AmoOp.{AmoOp}
 use Rattle.disassembler.specs.Mnemonics.{register as register_text}
 use Rattle.disassembler.specs.Canonical.{signed, upper as upper_text}
 use Rattle.statements.specs.Operands.{Find, register, immediate, upper, based, indirect, offset}
-use Rattle.statements.specs.Instructions.{two, three, last, op_of, op_imm_of, shift_imm_of, load_of, store_of, amo_of, upper_of, branch_of, jal_of, jalr_of, tbegin_of}
+use Rattle.statements.specs.Instructions.{two, three, last, op_of, op_imm_of, shift_imm_of, load_of, store_of, amo_of, load_reserved_of, store_conditional_of, upper_of, branch_of, jal_of, jalr_of, tbegin_of}
 use Rattle.statements.proofs.Round.Numbers.{decimal_number, signed_number}
 use Rattle.statements.proofs.Round.Operands.{bound, register_read, register_token, decimal_token, signed_token, upper_token, immediate_read, upper_read, offset_read, in_parentheses, based_token, based_read, indirect_token, indirect_read}
 use Rattle.statements.proofs.Round.Lists.{last_read, two_read, three_read}
@@ -79,6 +79,22 @@ pub amo_read : (op : AmoOp) (d s t : ℕ) → d < 32 → s < 32 → t < 32
     → amo_of op (triple (register_text d) (register_text t) (in_parentheses [] (register_text s))) ≡ Ok (instr.Amo op d s t false false)
 unfolding amo_of
 amo_read op d s t hd hs ht =
+    let a = register_text d in let b = register_text t in let c = in_parentheses [] (register_text s) in
+    bound (three (triple a b c)) _ (record { first = a; second = b; third = c }) _ (three_read a b c (register_token d hd) (register_token t ht) (indirect_token s hs))
+    (bound (register a) _ d _ (register_read d hd) (bound (register b) _ t _ (register_read t ht) (bound (indirect c) _ s _ (indirect_read s hs) refl)))
+
+pub load_reserved_read : (d s : ℕ) → d < 32 → s < 32
+    → load_reserved_of (pair (register_text d) (in_parentheses [] (register_text s))) ≡ Ok (instr.LoadReserved d s false false)
+unfolding load_reserved_of
+load_reserved_read d s hd hs =
+    let a = register_text d in let b = in_parentheses [] (register_text s) in
+    bound (two (pair a b)) _ (a, b) _ (two_read a b (register_token d hd) (indirect_token s hs))
+    (bound (register a) _ d _ (register_read d hd) (bound (indirect b) _ s _ (indirect_read s hs) refl))
+
+pub store_conditional_read : (d s t : ℕ) → d < 32 → s < 32 → t < 32
+    → store_conditional_of (triple (register_text d) (register_text t) (in_parentheses [] (register_text s))) ≡ Ok (instr.StoreConditional d s t false false)
+unfolding store_conditional_of
+store_conditional_read d s t hd hs ht =
     let a = register_text d in let b = register_text t in let c = in_parentheses [] (register_text s) in
     bound (three (triple a b c)) _ (record { first = a; second = b; third = c }) _ (three_read a b c (register_token d hd) (register_token t ht) (indirect_token s hs))
     (bound (register a) _ d _ (register_read d hd) (bound (register b) _ t _ (register_read t ht) (bound (indirect c) _ s _ (indirect_read s hs) refl)))

@@ -48,7 +48,7 @@ use Rattle.statements.specs.Lines.{line_of}
 use Rattle.statements.proofs.Round.Tokens.{is_solid, IsToken, IsBody, body_one, body_more}
 use Rattle.statements.proofs.Round.Lines.{line_alone, line_followed}
 use Rattle.statements.proofs.Round.Operands.{register_token, decimal_token, signed_token, upper_token, in_parentheses, based_token, indirect_token}
-use Rattle.statements.proofs.Round.Instructions.{pair, triple, op_read, op_imm_read, shift_imm_read, load_read, store_read, jalr_read, amo_read, upper_of_read, branch_read, jal_read, tbegin_read}
+use Rattle.statements.proofs.Round.Instructions.{pair, triple, op_read, op_imm_read, shift_imm_read, load_read, store_read, jalr_read, amo_read, load_reserved_read, store_conditional_read, upper_of_read, branch_read, jal_read, tbegin_read}
 
 -- Mnemonics
 
@@ -218,6 +218,16 @@ row_is_read (row.Amo op) w t at labels h fit text e =
     with_triple at labels text (row.Amo op) (register_text (rd_of w)) (register_text (rs2_of w)) (in_parentheses [] (register_text (rs1_of w))) t _ (register_token _ (rd-small w)) (register_token _ (rs2-small w)) (indirect_token _ (rs1-small w)) plain.2
     (made_one at labels text _ _ (amo_read op (rd_of w) (rs1_of w) (rs2_of w) (rd-small w) (rs1-small w) (rs2-small w)))
     ∙ ap (λ aq. Ok (One (instrs.Amo op (rd_of w) (rs1_of w) (rs2_of w) aq false))) (sym plain.0) ∙ ap (λ rl. Ok (One (instrs.Amo op (rd_of w) (rs1_of w) (rs2_of w) (aq_of w) rl))) (sym plain.1)
+row_is_read row.LoadReserved w t at labels h fit text e =
+    let plain = unordered (aq_of w) (rl_of w) _ t e in
+    with_pair at labels text row.LoadReserved (register_text (rd_of w)) (in_parentheses [] (register_text (rs1_of w))) t _ (register_token _ (rd-small w)) (indirect_token _ (rs1-small w)) plain.2
+    (made_one at labels text _ _ (load_reserved_read (rd_of w) (rs1_of w) (rd-small w) (rs1-small w)))
+    ∙ ap (λ aq. Ok (One (instrs.LoadReserved (rd_of w) (rs1_of w) aq false))) (sym plain.0) ∙ ap (λ rl. Ok (One (instrs.LoadReserved (rd_of w) (rs1_of w) (aq_of w) rl))) (sym plain.1)
+row_is_read row.StoreConditional w t at labels h fit text e =
+    let plain = unordered (aq_of w) (rl_of w) _ t e in
+    with_triple at labels text row.StoreConditional (register_text (rd_of w)) (register_text (rs2_of w)) (in_parentheses [] (register_text (rs1_of w))) t _ (register_token _ (rd-small w)) (register_token _ (rs2-small w)) (indirect_token _ (rs1-small w)) plain.2
+    (made_one at labels text _ _ (store_conditional_read (rd_of w) (rs1_of w) (rs2_of w) (rd-small w) (rs1-small w) (rs2-small w)))
+    ∙ ap (λ aq. Ok (One (instrs.StoreConditional (rd_of w) (rs1_of w) (rs2_of w) aq false))) (sym plain.0) ∙ ap (λ rl. Ok (One (instrs.StoreConditional (rd_of w) (rs1_of w) (rs2_of w) (aq_of w) rl))) (sym plain.1)
 row_is_read row.Fence w t at labels h fit text e =
     alone_line at labels text row.Fence t (instrs.Fence full_fence) (fence-text _ _ t e) (made_one at labels text _ _ refl)
     ∙ ap (λ bits. Ok (One (instrs.Fence bits))) (sym (eqb-true (fence_bits_of w) full_fence (full _ _ t e)))

@@ -1,6 +1,8 @@
 mod tables;
 
-use crate::tests::claims::{equal, equal_at, equal_text, holds_at};
+use crate::tests::claims::{equal, equal_at, equal_items, equal_text, holds_at};
+use assembler::assemble;
+use disassembler::text;
 use std::alloc::{AllocError, Global};
 use std::fmt::Write;
 use std::process::Abort;
@@ -11,8 +13,8 @@ use table::{
     register, row_named, write_register, write_to,
 };
 use tables::{
-    ATOMICS, BRANCHES, ILLEGAL, JUMPS, LINES, LOADED, LOADS, MISALIGNED, STORES, VALUES, WORDS,
-    WRITES,
+    ATOMICS, BRANCHES, ILLEGAL, JUMPS, LINES, LOADED, LOADS, MISALIGNED, SPELLED, STORES, VALUES,
+    WORDS, WRITES,
 };
 use words::{Addr, Cause, Reg, Regs, Width};
 
@@ -30,6 +32,8 @@ fn row(instr: &Instr) -> Row {
         Instr::ShiftImm { op, .. } => Row::ShiftImm(op),
         Instr::Op { op, .. } => Row::Op(op),
         Instr::Amo { op, .. } => Row::Amo(op),
+        Instr::LoadReserved { .. } => Row::LoadReserved,
+        Instr::StoreConditional { .. } => Row::StoreConditional,
         Instr::Fence { .. } => Row::Fence,
         Instr::Ecall => Row::Ecall,
         Instr::Ebreak => Row::Ebreak,
@@ -60,11 +64,10 @@ fn operands(instr: &Instr) -> [u32; 3] {
             amount,
             ..
         } => [number(rd), number(rs1), amount.value()],
-        Instr::Op { rd, rs1, rs2, .. } | Instr::Amo { rd, rs1, rs2, .. } => [
-            number(rd),
-            number(rs1),
-            number(rs2),
-        ],
+        Instr::Op { rd, rs1, rs2, .. }
+        | Instr::Amo { rd, rs1, rs2, .. }
+        | Instr::StoreConditional { rd, rs1, rs2, .. } => [number(rd), number(rs1), number(rs2)],
+        Instr::LoadReserved { rd, rs1, .. } => [number(rd), number(rs1), 0],
         Instr::Fence { bits } => [(bits.value() >> 14) & 0xf, (bits.value() >> 10) & 0xf, 0],
         Instr::TBegin { offset } => [offset.value(), 0, 0],
         Instr::Ecall | Instr::Ebreak | Instr::TCommit | Instr::TAbort => [0; 3],
@@ -90,7 +93,10 @@ fn other_names_have_no_row(rt: HostRuntime) {
         b"addx",
         b"ADD",
         b"mv",
-        b"lr.w",
+        b"lr",
+        b"lr.d",
+        b"lr.w.aq",
+        b"sc.d",
         b".word",
     ] {
         equal(&rt, &row_named(name), &None);
@@ -237,18 +243,79 @@ fn add_in_order(aq: bool, rl: bool) -> Instr {
     }
 }
 
-/// Asserts that a word is the addition with these bits, and the addition this word.
-fn check_order(rt: &impl Abort, word: u32, aq: bool, rl: bool) {
-    equal(rt, &decode(word), &Some(add_in_order(aq, rl)));
-    equal(rt, &encode(add_in_order(aq, rl)), &word);
+/// lr.w x10, (x5), with these bits.
+fn reserved(aq: bool, rl: bool) -> Instr {
+    Instr::LoadReserved {
+        rd: Reg::new(10),
+        rs1: Reg::new(5),
+        aq,
+        rl,
+    }
+}
+
+/// sc.w x10, x11, (x5), with these bits.
+fn conditional(aq: bool, rl: bool) -> Instr {
+    Instr::StoreConditional {
+        rd: Reg::new(10),
+        rs1: Reg::new(5),
+        rs2: Reg::new(11),
+        aq,
+        rl,
+    }
+}
+
+/// Asserts that a word is this instruction, and the instruction this word.
+fn check_instr(rt: &impl Abort, word: u32, instr: &Instr) {
+    equal(rt, &encode(*instr), &word);
+    equal_at(rt, &decode(word), &Some(*instr), &word);
 }
 
 #[test]
 fn order_bits_are_operands(rt: HostRuntime) {
-    check_order(&rt, 0x00b2_a52f, false, false);
-    check_order(&rt, 0x04b2_a52f, true, false);
-    check_order(&rt, 0x02b2_a52f, false, true);
-    check_order(&rt, 0x06b2_a52f, true, true);
+    check_instr(&rt, 0x00b2_a52f, &add_in_order(false, false));
+    check_instr(&rt, 0x04b2_a52f, &add_in_order(true, false));
+    check_instr(&rt, 0x02b2_a52f, &add_in_order(false, true));
+    check_instr(&rt, 0x06b2_a52f, &add_in_order(true, true));
+}
+
+#[test]
+fn order_bits_are_operands_of_lr_and_sc(rt: HostRuntime) {
+    check_instr(&rt, 0x1002_a52f, &reserved(false, false));
+    check_instr(&rt, 0x1402_a52f, &reserved(true, false));
+    check_instr(&rt, 0x1202_a52f, &reserved(false, true));
+    check_instr(&rt, 0x1602_a52f, &reserved(true, true));
+    check_instr(&rt, 0x18b2_a52f, &conditional(false, false));
+    check_instr(&rt, 0x1cb2_a52f, &conditional(true, false));
+    check_instr(&rt, 0x1ab2_a52f, &conditional(false, true));
+    check_instr(&rt, 0x1eb2_a52f, &conditional(true, true));
+}
+
+#[test]
+fn no_hart_does_lr_and_sc(rt: HostRuntime) {
+    for word in [0x1002_a52f, 0x1602_a52f, 0x18b2_a52f, 0x1eb2_a52f] {
+        check_effect(&rt, word, BASE_AND_VALUE, Err(Cause::Illegal));
+    }
+}
+
+/// Asserts that a word has this text, and that a source with the text has the word.
+fn check_spelled(rt: &(impl Abort + AllocGlobal), word: u32, spelled: &str) -> Result<(), Fail> {
+    equal_items(rt, text(word).as_bytes(), spelled.as_bytes());
+    let program = assemble(rt.alloc(), spelled).ok().ok_or("a program")?;
+    equal_at(
+        rt,
+        &program.text().word(Addr::new(0x1000)),
+        &Some(word),
+        &word,
+    );
+    Ok(())
+}
+
+#[test]
+fn lr_and_sc_are_spelled_as_assemblers_do(rt: HostRuntime) -> Result<(), Fail> {
+    for &(word, spelled) in &SPELLED {
+        check_spelled(&rt, word, spelled)?;
+    }
+    Ok(())
 }
 
 /// The values of x5 and x6 where words jump and act.

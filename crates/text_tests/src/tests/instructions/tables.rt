@@ -303,7 +303,7 @@ pub static ATOMICS: [(u32, AmoOp, u32, u32, u32); 45] = [
 ];
 
 /// What an assembler (LLVM 14, for riscv32) made of the lines below. The words of custom-0 were written by `.insn`.
-pub static WORDS: [u32; 152] = [
+pub static WORDS: [u32; 159] = [
     0x0050_0093,
     0xfe20_8ee3,
     0x1234_6537,
@@ -453,14 +453,21 @@ pub static WORDS: [u32; 152] = [
     0xa0b2_a52f,
     0xc0b2_a52f,
     0xe0b2_a52f,
+    0x1002_a52f,
+    0x18b2_a52f,
     0x04b2_a52f,
     0x0a81_2faf,
     0xe7fd_a02f,
+    0x1402_a52f,
+    0x120d_a02f,
+    0x1601_2faf,
+    0x1a81_2faf,
+    0x1ffd_a02f,
 ];
 
 /// Each line is a name and three operands in the order rd, rs1, rs2, immediate, as far as the row has them, else 0. A
 /// negative immediate stands as the 32-bit number; the two of a fence are its predecessor and its successor bits.
-/// The last three words have aq, rl and both, which their lines don't tell.
+/// The last eight words have aq, rl or both, which their lines don't tell.
 pub const LINES: &str = "\
 addi 1 0 5\n\
 beq 1 2 4294967292\n\
@@ -611,13 +618,39 @@ amomin.w 10 5 11\n\
 amomax.w 10 5 11\n\
 amominu.w 10 5 11\n\
 amomaxu.w 10 5 11\n\
+lr.w 10 5 0\n\
+sc.w 10 5 11\n\
 amoadd.w 10 5 11\n\
 amoswap.w 31 2 8\n\
 amomaxu.w 0 27 31\n\
+lr.w 10 5 0\n\
+lr.w 0 27 0\n\
+lr.w 31 2 0\n\
+sc.w 31 2 8\n\
+sc.w 0 27 31\n\
 ";
 
+/// Words of LR and SC, and LLVM's text of each (llvm-mc -triple=riscv32 -mattr=+m,+a, LLVM 14.0.6). Those with aq or rl have no text but
+/// their digits; LLVM's ends the name with .aq, .rl or .aqrl.
+pub static SPELLED: [(u32, &str); 14] = [
+    (0x1002_a52f, "lr.w a0, (t0)"),
+    (0x1001_2faf, "lr.w t6, (sp)"),
+    (0x100d_a02f, "lr.w zero, (s11)"),
+    (0x1008_a42f, "lr.w s0, (a7)"),
+    (0x18b2_a52f, "sc.w a0, a1, (t0)"),
+    (0x1881_2faf, "sc.w t6, s0, (sp)"),
+    (0x19fd_a02f, "sc.w zero, t6, (s11)"),
+    (0x1808_a0af, "sc.w ra, zero, (a7)"),
+    (0x1402_a52f, ".word 0x1402a52f"), // lr.w.aq a0, (t0)
+    (0x1202_a52f, ".word 0x1202a52f"), // lr.w.rl a0, (t0)
+    (0x1602_a52f, ".word 0x1602a52f"), // lr.w.aqrl a0, (t0)
+    (0x1cb2_a52f, ".word 0x1cb2a52f"), // sc.w.aq a0, a1, (t0)
+    (0x1ab2_a52f, ".word 0x1ab2a52f"), // sc.w.rl a0, a1, (t0)
+    (0x1eb2_a52f, ".word 0x1eb2a52f"), // sc.w.aqrl a0, a1, (t0)
+];
+
 /// Words that are no instruction.
-pub static ILLEGAL: [u32; 18] = [
+pub static ILLEGAL: [u32; 20] = [
     0x0000_0000,
     0xffff_ffff,
     0x0200_9093, // SLLI with a stray bit
@@ -628,8 +661,10 @@ pub static ILLEGAL: [u32; 18] = [
     0x0000_3003, // LD
     0x0000_3023, // SD
     0x0400_0033, // funct7 2
-    0x1002_a52f, // LR.W
-    0x18b2_a52f, // SC.W
+    0x1012_a52f, // LR.W with rs2 1
+    0x17f2_a52f, // LR.W with aq, rl and rs2 31
+    0x1002_b52f, // LR.D
+    0x18b2_b52f, // SC.D
     0x28b2_a52f, // funct5 5
     0x00b2_b52f, // AMOADD.D
     0x0000_1067, // JALR with funct3 1

@@ -12,4 +12,4 @@ returns g c =
     let held : c.holds.result ≡ holds (records tx.log) c.args.block = rw (c.log.ensures) at c.holds.ensures in
     rw (← c.self.view_is) (held
     ∙ sym (is_logged-shown (records tx.log) c.args.block)
-    ∙ sym (ap (λ (rs : List LogRecord). protocol.is_logged rs c.args.block) (log_of-shown tx (λ e. (c.self.invariant.tx.idle e).log))))
+    ∙ sym (ap (λ (rs : List LogRecord). protocol.is_logged rs c.args.block) (log_of-shown tx (λ e. (c.self.invariant.0.tx.idle e).log))))

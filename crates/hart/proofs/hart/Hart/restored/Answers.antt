@@ -10,4 +10,4 @@ returns g c =
     let log = c.self.inside.tx.log in
     rw (← c.self.view_is) (rw (c.log.ensures) at c.restored.ensures
     ∙ sym (restored-shown (records log) c.args.block c.args.now)
-    ∙ sym (ap (λ (rs : List LogRecord). protocol.restored rs c.args.block c.args.now) (log_of-shown c.self.inside.tx (λ e. (c.self.invariant.tx.idle e).log))))
+    ∙ sym (ap (λ (rs : List LogRecord). protocol.restored rs c.args.block c.args.now) (log_of-shown c.self.inside.tx (λ e. (c.self.invariant.0.tx.idle e).log))))

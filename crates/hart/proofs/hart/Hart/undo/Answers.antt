@@ -17,11 +17,14 @@ use Rattle.hart.proofs.Places.{line_replaced}
 use Rattle.hart.proofs.hart.Hart.undo.Goals as goal
 
 pub invariant_of-self : goal.invariant_of-self
-invariant_of-self g c = record {
-  few = c.self.invariant.few;
-  tx = c.pop_record.ensures.kept;
-  waits = λ r is none. c.replace.ensures.rooms r.block (c.self.invariant.waits r is (absent-replaced g.row.SETS c.self.inside.cache c.replace.new.self _ r.block c.replace.ensures.line none));
-}
+invariant_of-self g c = (
+  record {
+    few = c.self.invariant.0.few;
+    tx = c.pop_record.ensures.kept;
+    waits = λ r is none. c.replace.ensures.rooms r.block (c.self.invariant.0.waits r is (absent-replaced g.row.SETS c.self.inside.cache c.replace.new.self _ r.block c.replace.ensures.line none));
+  },
+  c.self.invariant.1,
+)
 
 pub returns-clause-row : goal.returns-clause-row
 returns-clause-row g c = λ output t rest is this.
