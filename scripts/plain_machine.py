@@ -1,10 +1,11 @@
 """A plain machine that checks the entries of a trace: one memory, to which each store goes at once and from which an abort takes it back, where each load
-has to find what is there, and where no hart touches what another's transaction has stored to, nor stores to what one has loaded. It shares nothing
-with the program. What memory begins with is learned from what is loaded first.
+has to find what is there, where no hart touches what another's transaction has stored to, nor stores to what one has loaded, and where SC stores only to a
+block that its hart has reserved. It shares nothing with the program. What memory begins with is learned from what is loaded first.
 """
 import re
 
 ENTRY = re.compile(r"[0-7] (0x|abort )")
+BLOCK = 32
 ACCESS = re.compile(r"\| (load|store) ([124]) (0x[0-9a-f]{8})=(0x[0-9a-f]{8})")
 
 
@@ -12,7 +13,7 @@ class Plain:
     """One memory, and for each hart what its transaction has loaded and stored, byte by byte. What memory begins with is learned from what is loaded first."""
 
     def __init__(self):
-        self.memory, self.loaded, self.before, self.depth = {}, {}, {}, {}
+        self.memory, self.loaded, self.before, self.depth, self.reserved = {}, {}, {}, {}, {}
 
     def others(self, hart, sets):
         return {addr for other, part in sets.items() if other != hart for addr in part}
@@ -36,6 +37,19 @@ class Plain:
                 self.memory[place] = told[place]
         return None
 
+    def reserve(self, hart, name, accesses):
+        """What is wrong with a conditional store, if anything is; and what the word makes of the reservations."""
+        stored = {int(at, 16) // BLOCK for sort, _, at, _ in accesses if sort == "store"}
+        if name.startswith("sc.w") and not stored <= {self.reserved.get(hart)}:
+            return "a conditional store to what isn't reserved"
+        self.reserved = {other: block for other, block in self.reserved.items() if other == hart or block not in stored}
+        is_outermost = name == "tbegin" and not self.depth.get(hart) or name == "tcommit" and self.depth.get(hart) == 1
+        if name.startswith("lr.w"):
+            self.reserved[hart] = int(accesses[0][2], 16) // BLOCK
+        elif name.startswith("sc.w") or is_outermost:
+            self.reserved.pop(hart, None)
+        return None
+
     def leave(self, hart):
         self.depth[hart] = 0
         self.loaded.pop(hart, None)
@@ -48,6 +62,7 @@ class Plain:
                 self.memory.pop(place)
             else:
                 self.memory[place] = before
+        self.reserved.pop(hart, None)
         self.leave(hart)
 
     def entry(self, line):
@@ -57,10 +72,14 @@ class Plain:
         if words[1] == "abort":
             self.abort(hart)
         elif words[1].startswith("0x"):
-            for sort, size, at, value in ACCESS.findall(line):
+            accesses = ACCESS.findall(line)
+            for sort, size, at, value in accesses:
                 fault = self.access(hart, sort, int(size), int(at, 16), int(value, 16))
                 if fault:
                     return fault
+            fault = self.reserve(hart, words[3], accesses)
+            if fault:
+                return fault
             if words[3] == "tbegin":
                 self.depth[hart] = self.depth.get(hart, 0) + 1
             elif words[3] == "tcommit":

@@ -12,6 +12,7 @@ use Rattle.statements.specs.declared.fault.AsmFault.{AsmFault}
 use Rattle.statements.specs.declared.fault.AsmFault.TheVariants.{Alignment}
 use Rattle.statements.specs.declared.form.Form.{Form}
 use Rattle.statements.specs.declared.form.Form.TheVariants as form
+use Rattle.statements.specs.declared.form.Order.{Order}
 use Rattle.statements.specs.declared.form.Directive as directives
 use Rattle.statements.specs.declared.form.Directive.TheVariants as directive
 use Rattle.statements.specs.declared.place.Place.{Place}
@@ -114,16 +115,16 @@ j_makes pc f text i e =
     let n = offset_makes 1048576 1048574 2 pc 0 f a.0 d.0 refl d.1 in
     then (last text) _ a.0 a.1 (then (offset 1048576 1048574 2 0 None a.0) _ n.0 n.1 (instr.Jal 0 n.0, refl))
 
-row_makes : (r : Row) (pc : ℕ) (f : List ℕ → Option ℕ) (text : List ℕ) (i : Instr) → by_row r pc (Some f) text ≡ Ok i → Makes (by_row r 0 None text)
+row_makes : (r : Row) (order : Order) (pc : ℕ) (f : List ℕ → Option ℕ) (text : List ℕ) (i : Instr) → by_row r order pc (Some f) text ≡ Ok i → Makes (by_row r order 0 None text)
 unfolding by_row
-row_makes (row.Branch op) pc f text i e = branch_makes op pc f text i e
-row_makes row.Jal pc f text i e = jal_makes pc f text i e
-row_makes row.TBegin pc f text i e = tbegin_makes pc f text i e
-row_makes r pc f text i e = (i, e)
+row_makes (row.Branch op) order pc f text i e = branch_makes op pc f text i e
+row_makes row.Jal order pc f text i e = jal_makes pc f text i e
+row_makes row.TBegin order pc f text i e = tbegin_makes pc f text i e
+row_makes r order pc f text i e = (i, e)
 
 instruction_makes : (op : Form) (pc : ℕ) (f : List ℕ → Option ℕ) (text : List ℕ) (i : Instr) → instruction_of op pc (Some f) text ≡ Ok i → Makes (instruction_of op 0 None text)
 unfolding instruction_of
-instruction_makes (form.Row r) pc f text i e = row_makes r pc f text i e
+instruction_makes (form.Row r order) pc f text i e = row_makes r order pc f text i e
 instruction_makes (form.BranchSwapped op) pc f text i e = branch_swapped_makes op pc f text i e
 instruction_makes (form.BranchZero op) pc f text i e = branch_zero_makes _ pc f text i e
 instruction_makes (form.BranchFromZero op) pc f text i e = branch_zero_makes _ pc f text i e

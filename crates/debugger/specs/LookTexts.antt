@@ -46,10 +46,20 @@ abbrev pub waits_part : Option ℕ → List ℕ
 waits_part None = []
 waits_part (Some b) = codes " waits " ++ block_text b
 
+-- the block that is reserved, if one is
+abbrev pub reserves_part : Option ℕ → List ℕ
+reserves_part None = []
+reserves_part (Some b) = codes " reserves " ++ block_text b
+
+-- both
+unfoldable pub blocks_part : Option ℕ → Option ℕ → List ℕ
+blocks_part waits reserved = waits_part waits ++ reserves_part reserved
+
 -- a hart's pc, with its name
 abbrev pub pc_part : Table → ℕ → List ℕ
 pc_part names pc = codes " pc=0x" ++ hexadecimal pc ++ label names pc
 
--- how far hart i has come: its pc with its name and its status, how deep it is in transactions, and the block that it waits for
-abbrev pub hart_line : Table → ℕ → ℕ → List ℕ → Option TxInfo → Option ℕ → List ℕ
-hart_line names i pc status tx block = concat (decimal i ∷ pc_part names pc ∷ codes " " ∷ status ∷ depth_part tx ∷ waits_part block ∷ codes "\n" ∷ [])
+-- how far hart i has come: its pc with its name and its status, how deep it is in transactions, the block that it waits for, and the one that it has reserved
+abbrev pub hart_line : Table → ℕ → ℕ → List ℕ → Option TxInfo → Option ℕ → Option ℕ → List ℕ
+hart_line names i pc status tx waits reserved =
+    concat (decimal i ∷ pc_part names pc ∷ codes " " ∷ status ∷ depth_part tx ∷ blocks_part waits reserved ∷ codes "\n" ∷ [])

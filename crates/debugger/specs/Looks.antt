@@ -63,7 +63,7 @@ flight_line sets m key = message_line (option_map (λ f. f.message) (slice_index
 
 -- the line of hart i
 abbrev pub line_of_hart : Table → Machine → ℕ → List ℕ
-line_of_hart names w i = hart_line names i (w.harts i).pc (status_text (w.harts i).status) (option_map info_of (w.harts i).tx) (option_map (λ r. r.block) (w.harts i).request)
+line_of_hart names w i = hart_line names i (w.harts i).pc (status_text (w.harts i).status) (option_map info_of (w.harts i).tx) (option_map (λ r. r.block) (w.harts i).request) (w.harts i).reserved
 
 -- the line of a word at an address, where bytes are read so
 abbrev pub word_text : ℕ → (ℕ → ℕ) → List ℕ

@@ -28,7 +28,7 @@ help_text = concat (
     codes "log A             a word of the undo logs; hart H's begins 4096 * (H + 1) bytes below the end of memory\n" ∷
     codes "dis B             the word of text as an instruction\n" ∷
     codes "messages          the messages in flight, the oldest first; held where their block is busy\n" ∷
-    codes "harts             each hart's pc and status, how deep it is in a transaction, and the block that it waits for\n" ∷
+    codes "harts             each hart's pc and status, how deep it is in a transaction, and the blocks that it waits for and has reserved\n" ∷
     codes "help              these lines\n" ∷
     codes "quit              ends\n" ∷
     codes "#                 begins a comment\n" ∷ [])

@@ -11,7 +11,7 @@
 //! | `tx H` | `none`, or `depth 1 records 1 stamp 0.0`, then `overflow`, `cycle` and `aborting` where so |
 //! | `dis B` | `0x00001004: 00000513  addi a0, zero, 0` |
 //! | `messages` | a line for each message in flight, the oldest first, with `held` behind it where the directory holds it |
-//! | `harts` | a line `0 pc=0x00001004 running depth 1 waits 0x00002000` for each: depth in a transaction, waits while a request is out |
+//! | `harts` | a line `0 pc=0x00001004 running depth 1 waits 0x00002000` for each: depth in a transaction, waits while a request is out, `reserves 0x00002000` while a block is reserved |
 mod blocks;
 mod command;
 mod fault;

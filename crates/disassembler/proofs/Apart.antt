@@ -1,18 +1,20 @@
 -- Two words of a row don't share a text.
-use Rattle.std.proofs.Common.{◌≡◌, ℕ, ◌<◌, ◌||◌, ◌^◌, Bool, true, false, cond, List, Some, None, refl, sym, ap, ◌∙◌, arith}
+use Rattle.std.proofs.Common.{◌≡◌, ℕ, ◌<◌, ◌^◌, Bool, true, false, cond, List, ◌∷◌, ◌++◌, Some, None, refl, sym, ap, ◌∙◌, arith}
 use Rattle.std.specs.Prelude.{decimal}
 use Rattle.std.proofs.lemmas.Bool.{eqb-true}
 use Rattle.std.proofs.lemmas.Fmt.{decimal_injective}
+use Rattle.std.proofs.lemmas.List.{append_cancel_left}
 use Rattle.std.proofs.lemmas.Option.{same_Some}
 use Rattle.operands.specs.Fields.{rd_of, rs1_of, rs2_of, aq_of, rl_of, imm_i_of, imm_s_of, imm_b_of, imm_u_of, imm_j_of, fence_bits_of}
 use Rattle.table.specs.declared.instr.Instr.TheVariants.{Fence, TBegin}
 use Rattle.table.specs.Table.{name_of, instr}
 use Rattle.table.specs.declared.instr.Row.{Row}
 use Rattle.table.specs.declared.instr.Row.TheVariants as row
-use Rattle.disassembler.specs.Mnemonics.{register}
-use Rattle.disassembler.specs.Canonical.{signed, upper, two, three, offset, indirect, atomic, spelled, full_fence}
+use Rattle.disassembler.specs.Mnemonics.{register, order}
+use Rattle.disassembler.specs.Canonical.{signed, upper, two, three, offset, indirect, atomic, ordered, spelled, full_fence}
+use Rattle.disassembler.proofs.Cutting.{Lacks, cut-same}
 use Rattle.disassembler.proofs.Numerals.{signed-lacks, signed-same, upper-same}
-use Rattle.disassembler.proofs.Rows.{register-same, register-comma, register-closing}
+use Rattle.disassembler.proofs.Rows.{mnemonic, mnemonic-lacks, order-same, register-same, register-comma, register-closing}
 use Rattle.disassembler.proofs.Operands.{one-part, two-parts, three-parts, offset-parts, indirect-parts, atomic-parts}
 
 rd-small : (w : ℕ) → rd_of w < 32
@@ -100,10 +102,18 @@ atomic-fields op a b c d e f ha hb hc hd he hf same =
     let parts = atomic-parts op _ _ _ _ _ _ (register-comma a ha) (register-comma b hb) (register-comma d hd) (register-comma e he) (register-closing c hc) (register-closing f hf) same in
     record { first = register-same a d ha hd parts.first; number = register-same c f hc hf parts.third; base = register-same b e hb he parts.second }
 
-pub unordered : (aq rl : Bool) (x t : List ℕ) → cond (aq || rl) None (Some x) ≡ Some t → (aq ≡ false) × (rl ≡ false) × (x ≡ t)
-unordered true rl x t e = absurd (cc)
-unordered false true x t e = absurd (cc)
-unordered false false x t e = (refl, refl, same_Some x t e)
+-- the mnemonics of two words of a row that may have a suffix, by what two texts begin with
+record SameOrder (row : Row) (v w : ℕ) : Type 0 where
+  op : ordered row (aq_of v) (rl_of v) ≡ ordered row (aq_of w) (rl_of w)
+  aq : aq_of v ≡ aq_of w
+  rl : rl_of v ≡ rl_of w
+
+orders : (row : Row) (v w : ℕ) (x y : List ℕ) → Lacks 32 (ordered row (aq_of v) (rl_of v)) → Lacks 32 (ordered row (aq_of w) (rl_of w))
+    → ordered row (aq_of v) (rl_of v) ++ 32 ∷ x ≡ ordered row (aq_of w) (rl_of w) ++ 32 ∷ y → SameOrder row v w
+orders row v w x y lv lw same =
+    let op = (cut-same 32 (ordered row (aq_of v) (rl_of v)) (ordered row (aq_of w) (rl_of w)) x y lv lw same).0 in
+    let bits = order-same (aq_of v) (rl_of v) (aq_of w) (rl_of w) (append_cancel_left (name_of row) (order (aq_of v) (rl_of v)) (order (aq_of w) (rl_of w)) op) in
+    record { op = op; aq = bits.0; rl = bits.1 }
 
 pub full : (b : Bool) (x t : List ℕ) → cond b (Some x) None ≡ Some t → b ≡ true
 full true x t e = refl
@@ -141,20 +151,20 @@ same-instr (row.Op op) v w t hv hw ev ew =
     let e = register-fields (name_of (row.Op op)) _ _ _ _ _ _ (rd-small v) (rs1-small v) (rs2-small v) (rd-small w) (rs1-small w) (rs2-small w) (same_Some _ _ (ev ∙ sym ew)) in
     cc (e.first, e.number, e.base)
 same-instr (row.Amo op) v w t hv hw ev ew =
-    let a = unordered (aq_of v) (rl_of v) _ t ev in
-    let b = unordered (aq_of w) (rl_of w) _ t ew in
-    let e = atomic-fields (name_of (row.Amo op)) _ _ _ _ _ _ (rd-small v) (rs2-small v) (rs1-small v) (rd-small w) (rs2-small w) (rs1-small w) (a.2 ∙ sym b.2) in
-    cc (e.first, e.number, e.base, a.0, a.1, b.0, b.1)
+    let same = same_Some _ _ (ev ∙ sym ew) in
+    let bits = orders (row.Amo op) v w _ _ (mnemonic-lacks (row.Amo op) v) (mnemonic-lacks (row.Amo op) w) same in
+    let e = atomic-fields (mnemonic (row.Amo op) v) _ _ _ _ _ _ (rd-small v) (rs2-small v) (rs1-small v) (rd-small w) (rs2-small w) (rs1-small w) (same ∙ ap (λ m. atomic m (register (rd_of w)) (register (rs2_of w)) (register (rs1_of w))) (sym bits.op)) in
+    cc (e.first, e.number, e.base, bits.aq, bits.rl)
 same-instr row.LoadReserved v w t hv hw ev ew =
-    let a = unordered (aq_of v) (rl_of v) _ t ev in
-    let b = unordered (aq_of w) (rl_of w) _ t ew in
-    let e = indirect-fields (name_of row.LoadReserved) _ _ _ _ (rd-small v) (rs1-small v) (rd-small w) (rs1-small w) (a.2 ∙ sym b.2) in
-    cc (e.0, e.1, a.0, a.1, b.0, b.1)
+    let same = same_Some _ _ (ev ∙ sym ew) in
+    let bits = orders row.LoadReserved v w _ _ (mnemonic-lacks row.LoadReserved v) (mnemonic-lacks row.LoadReserved w) same in
+    let e = indirect-fields (mnemonic row.LoadReserved v) _ _ _ _ (rd-small v) (rs1-small v) (rd-small w) (rs1-small w) (same ∙ ap (λ m. indirect m (register (rd_of w)) (register (rs1_of w))) (sym bits.op)) in
+    cc (e.0, e.1, bits.aq, bits.rl)
 same-instr row.StoreConditional v w t hv hw ev ew =
-    let a = unordered (aq_of v) (rl_of v) _ t ev in
-    let b = unordered (aq_of w) (rl_of w) _ t ew in
-    let e = atomic-fields (name_of row.StoreConditional) _ _ _ _ _ _ (rd-small v) (rs2-small v) (rs1-small v) (rd-small w) (rs2-small w) (rs1-small w) (a.2 ∙ sym b.2) in
-    cc (e.first, e.number, e.base, a.0, a.1, b.0, b.1)
+    let same = same_Some _ _ (ev ∙ sym ew) in
+    let bits = orders row.StoreConditional v w _ _ (mnemonic-lacks row.StoreConditional v) (mnemonic-lacks row.StoreConditional w) same in
+    let e = atomic-fields (mnemonic row.StoreConditional v) _ _ _ _ _ _ (rd-small v) (rs2-small v) (rs1-small v) (rd-small w) (rs2-small w) (rs1-small w) (same ∙ ap (λ m. atomic m (register (rd_of w)) (register (rs2_of w)) (register (rs1_of w))) (sym bits.op)) in
+    cc (e.first, e.number, e.base, bits.aq, bits.rl)
 same-instr row.Fence v w t hv hw ev ew =
     ap (λ bits. Fence bits) (eqb-true (fence_bits_of v) full_fence (full _ _ t ev) ∙ sym (eqb-true (fence_bits_of w) full_fence (full _ _ t ew)))
 same-instr row.Ecall v w t hv hw ev ew = refl

@@ -2,9 +2,8 @@
 use Rattle.std.proofs.Common.{◌≡◌, ℕ, ◌<◌, ◌^◌, ◌⊎◌, inl, inr, Bool, true, false, cond, List, [], ◌∷◌, ◌++◌, Option, Some, None, codes, refl, sym, ap, ◌∙◌, append-nil}
 use Rattle.std.proofs.lemmas.List.{append_cancel_left}
 use Rattle.std.proofs.lemmas.Option.{same_Some}
-use Rattle.operands.specs.Fields.{aq_of, rl_of}
 use Rattle.table.specs.declared.instr.Instr.{Instr}
-use Rattle.table.specs.Table.{name_of, row_named, fits, key, instr, table, instr_in, decoded}
+use Rattle.table.specs.Table.{row_named, fits, key, instr, table, instr_in, decoded}
 use Rattle.table.specs.declared.instr.Row.{Row}
 use Rattle.table.specs.declared.instr.Row.TheVariants as row
 use Rattle.table.proofs.OneWord.{one_word}
@@ -12,8 +11,8 @@ use Rattle.texts.specs.Numerals.{hexadecimal}
 use Rattle.texts.proofs.Digits.{hexadecimal-same}
 use Rattle.disassembler.specs.Canonical.{spelled, spelled_if, text_or, plain, canonical}
 use Rattle.disassembler.proofs.Cutting.{first_word, first_word-followed, first_word-alone}
-use Rattle.disassembler.proofs.Rows.{named-row, name_of-lacks, word-named}
-use Rattle.disassembler.proofs.Apart.{unordered, same-instr}
+use Rattle.disassembler.proofs.Rows.{mnemonic, stem, mnemonic-row, mnemonic-lacks, word-named}
+use Rattle.disassembler.proofs.Apart.{same-instr}
 
 -- a row with the text of its word
 pub record Spelt (w : ℕ) : Type 0 where
@@ -62,47 +61,51 @@ by_instr w (Some i) found = by_text w i (spelled i) found refl
 pub spelt-or_plain : (w : ℕ) → (canonical w ≡ plain w) ⊎ Spelt w
 spelt-or_plain w = by_instr w (decoded w) refl
 
-followed : (row : Row) (rest t : List ℕ) → name_of row ++ 32 ∷ rest ≡ t → first_word t ≡ name_of row
-followed row rest t e = ap first_word (sym e) ∙ first_word-followed (name_of row) rest (name_of-lacks row)
+followed : (row : Row) (w : ℕ) (rest t : List ℕ) → mnemonic row w ++ 32 ∷ rest ≡ t → first_word t ≡ mnemonic row w
+followed row w rest t e = ap first_word (sym e) ∙ first_word-followed (mnemonic row w) rest (mnemonic-lacks row w)
 
-alone : (row : Row) (t : List ℕ) → name_of row ≡ t → first_word t ≡ name_of row
-alone row t e = ap first_word (sym e) ∙ first_word-alone (name_of row) (name_of-lacks row)
+alone : (row : Row) (w : ℕ) (t : List ℕ) → mnemonic row w ≡ t → first_word t ≡ mnemonic row w
+alone row w t e = ap first_word (sym e) ∙ first_word-alone (mnemonic row w) (mnemonic-lacks row w)
 
 pub fence-text : (b : Bool) (x t : List ℕ) → cond b (Some x) None ≡ Some t → x ≡ t
 fence-text true x t e = same_Some x t e
 fence-text false x t e = absurd (cc)
 
--- a text of a row begins with its name
-first_word-named : (row : Row) (w : ℕ) (t : List ℕ) → spelled (instr row w) ≡ Some t → first_word t ≡ name_of row
-first_word-named row.Lui w t e = followed row.Lui _ t (same_Some _ t e)
-first_word-named row.Auipc w t e = followed row.Auipc _ t (same_Some _ t e)
-first_word-named row.Jal w t e = followed row.Jal _ t (same_Some _ t e)
-first_word-named row.Jalr w t e = followed row.Jalr _ t (same_Some _ t e)
-first_word-named (row.Branch op) w t e = followed (row.Branch op) _ t (same_Some _ t e)
-first_word-named (row.Load op) w t e = followed (row.Load op) _ t (same_Some _ t e)
-first_word-named (row.Store op) w t e = followed (row.Store op) _ t (same_Some _ t e)
-first_word-named (row.OpImm op) w t e = followed (row.OpImm op) _ t (same_Some _ t e)
-first_word-named (row.ShiftImm op) w t e = followed (row.ShiftImm op) _ t (same_Some _ t e)
-first_word-named (row.Op op) w t e = followed (row.Op op) _ t (same_Some _ t e)
-first_word-named (row.Amo op) w t e = followed (row.Amo op) _ t (unordered (aq_of w) (rl_of w) _ t e).2
-first_word-named row.LoadReserved w t e = followed row.LoadReserved _ t (unordered (aq_of w) (rl_of w) _ t e).2
-first_word-named row.StoreConditional w t e = followed row.StoreConditional _ t (unordered (aq_of w) (rl_of w) _ t e).2
-first_word-named row.Fence w t e = alone row.Fence t (fence-text _ _ t e)
-first_word-named row.Ecall w t e = alone row.Ecall t (same_Some _ t e)
-first_word-named row.Ebreak w t e = alone row.Ebreak t (same_Some _ t e)
-first_word-named row.TBegin w t e = followed row.TBegin _ t (same_Some _ t e)
-first_word-named row.TCommit w t e = alone row.TCommit t (same_Some _ t e)
-first_word-named row.TAbort w t e = alone row.TAbort t (same_Some _ t e)
+-- a text of a row begins with its mnemonic
+first_word-named : (row : Row) (w : ℕ) (t : List ℕ) → spelled (instr row w) ≡ Some t → first_word t ≡ mnemonic row w
+first_word-named row.Lui w t e = followed row.Lui w _ t (same_Some _ t e)
+first_word-named row.Auipc w t e = followed row.Auipc w _ t (same_Some _ t e)
+first_word-named row.Jal w t e = followed row.Jal w _ t (same_Some _ t e)
+first_word-named row.Jalr w t e = followed row.Jalr w _ t (same_Some _ t e)
+first_word-named (row.Branch op) w t e = followed (row.Branch op) w _ t (same_Some _ t e)
+first_word-named (row.Load op) w t e = followed (row.Load op) w _ t (same_Some _ t e)
+first_word-named (row.Store op) w t e = followed (row.Store op) w _ t (same_Some _ t e)
+first_word-named (row.OpImm op) w t e = followed (row.OpImm op) w _ t (same_Some _ t e)
+first_word-named (row.ShiftImm op) w t e = followed (row.ShiftImm op) w _ t (same_Some _ t e)
+first_word-named (row.Op op) w t e = followed (row.Op op) w _ t (same_Some _ t e)
+first_word-named (row.Amo op) w t e = followed (row.Amo op) w _ t (same_Some _ t e)
+first_word-named row.LoadReserved w t e = followed row.LoadReserved w _ t (same_Some _ t e)
+first_word-named row.StoreConditional w t e = followed row.StoreConditional w _ t (same_Some _ t e)
+first_word-named row.Fence w t e = alone row.Fence w t (fence-text _ _ t e)
+first_word-named row.Ecall w t e = alone row.Ecall w t (same_Some _ t e)
+first_word-named row.Ebreak w t e = alone row.Ebreak w t (same_Some _ t e)
+first_word-named row.TBegin w t e = followed row.TBegin w _ t (same_Some _ t e)
+first_word-named row.TCommit w t e = alone row.TCommit w t (same_Some _ t e)
+first_word-named row.TAbort w t e = alone row.TAbort w t (same_Some _ t e)
 
 first_word-plain : (w : ℕ) → first_word (plain w) ≡ codes ".word"
 unfolding plain
 first_word-plain w = refl
 
-spelt-row : (w : ℕ) (s : Spelt w) → row_named (first_word (canonical w)) ≡ Some s.row
-spelt-row w s = ap row_named (first_word-named s.row w (canonical w) s.text) ∙ named-row s.row
+-- the row that the first word of a text tells
+abbrev row_of : List ℕ → Option Row
+row_of t = row_named (stem (first_word t))
 
-plain-row : (w : ℕ) → canonical w ≡ plain w → row_named (first_word (canonical w)) ≡ None
-plain-row w is = ap (λ t. row_named (first_word t)) is ∙ ap row_named (first_word-plain w) ∙ word-named
+spelt-row : (w : ℕ) (s : Spelt w) → row_of (canonical w) ≡ Some s.row
+spelt-row w s = ap (λ op. row_named (stem op)) (first_word-named s.row w (canonical w) s.text) ∙ mnemonic-row s.row w
+
+plain-row : (w : ℕ) → canonical w ≡ plain w → row_of (canonical w) ≡ None
+plain-row w is = ap row_of is ∙ ap (λ op. row_named (stem op)) (first_word-plain w) ∙ word-named
 
 plain-same : (v w : ℕ) → v < 2 ^ 32 → w < 2 ^ 32 → plain v ≡ plain w → v ≡ w
 unfolding plain
@@ -112,7 +115,7 @@ plain-same v w hv hw same =
 
 spelt-same : (v w : ℕ) → v < 2 ^ 32 → w < 2 ^ 32 → canonical v ≡ canonical w → Spelt v → Spelt w → v ≡ w
 spelt-same v w hv hw same s t =
-    let rows : s.row ≡ t.row = same_Some s.row t.row (sym (spelt-row v s) ∙ ap (λ l. row_named (first_word l)) same ∙ spelt-row w t) in
+    let rows : s.row ≡ t.row = same_Some s.row t.row (sym (spelt-row v s) ∙ ap row_of same ∙ spelt-row w t) in
     let is : decoded w ≡ Some (instr s.row w) = t.is ∙ ap (λ (r : Row). Some (instr r w)) (sym rows) in
     let text : spelled (instr s.row w) ≡ Some (canonical v) = ap (λ (r : Row). spelled (instr r w)) rows ∙ t.text ∙ ap (λ l. Some l) (sym same) in
     let one : instr s.row v ≡ instr s.row w = same-instr s.row v w (canonical v) hv hw s.text text in
@@ -123,10 +126,10 @@ pub texts_differ : (v w : ℕ) → v < 2 ^ 32 → w < 2 ^ 32 → canonical v ≡
 texts_differ v w hv hw same = elim (spelt-or_plain v) [
   | inl pv ↦ elim (spelt-or_plain w) [
     | inl pw ↦ plain-same v w hv hw (sym pv ∙ same ∙ pw)
-    | inr t ↦ let a = plain-row v pv in let b = spelt-row w t in let c = ap (λ l. row_named (first_word l)) same in absurd (cc)
+    | inr t ↦ let a = plain-row v pv in let b = spelt-row w t in let c = ap row_of same in absurd (cc)
   ]
   | inr s ↦ elim (spelt-or_plain w) [
-    | inl pw ↦ let a = spelt-row v s in let b = plain-row w pw in let c = ap (λ l. row_named (first_word l)) same in absurd (cc)
+    | inl pw ↦ let a = spelt-row v s in let b = plain-row w pw in let c = ap row_of same in absurd (cc)
     | inr t ↦ spelt-same v w hv hw same s t
   ]
 ]

@@ -1,5 +1,5 @@
 -- The canonical text of a word: from the shapes of operands, by the instruction, to the text of any word.
-use Rattle.std.specs.Prelude.{ℕ, cond, ◌||◌, ◌==◌, ◌/◌, ◌^◌, ◌++◌, List, [], ◌∷◌, Option, Some, None, codes, decimal}
+use Rattle.std.specs.Prelude.{ℕ, Bool, cond, ◌==◌, ◌/◌, ◌^◌, ◌++◌, List, [], ◌∷◌, Option, Some, None, codes, decimal}
 use Rattle.std.specs.Fmt.{signed_decimal}
 use Rattle.std.specs.Int.{w32, cast_signed}
 use Rattle.std.specs.List.{concat}
@@ -8,8 +8,9 @@ use Rattle.operands.specs.Fields.{fence_bits_of}
 use Rattle.table.specs.Table.{decoded, name_of}
 use Rattle.table.specs.declared.instr.Instr.{Instr}
 use Rattle.table.specs.declared.instr.Instr.TheVariants.{Lui, Auipc, Jal, Jalr, Branch, Load, Store, OpImm, ShiftImm, Op, Amo, LoadReserved, StoreConditional, Fence, Ecall, Ebreak, TBegin, TCommit, TAbort}
+use Rattle.table.specs.declared.instr.Row.{Row}
 use Rattle.table.specs.declared.instr.Row.TheVariants as row
-use Rattle.disassembler.specs.Mnemonics.{register}
+use Rattle.disassembler.specs.Mnemonics.{register, order}
 
 -- Numbers
 
@@ -57,7 +58,11 @@ atomic op a b base = concat (op ∷ codes " " ∷ a ∷ codes ", " ∷ b ∷ cod
 abbrev pub full_fence : ℕ
 full_fence = fence_bits_of 0x0ff0000f
 
--- the text of an instruction; an atomic operation, LR or SC with aq or rl and any other fence have none
+-- the mnemonic of a row with the bits aq and rl
+abbrev pub ordered : Row → Bool → Bool → List ℕ
+ordered row aq rl = name_of row ++ order aq rl
+
+-- the text of an instruction; any other fence has none
 abbrev pub spelled : Instr → Option (List ℕ)
 spelled (Lui rd i) = Some (two (name_of row.Lui) (register rd) (upper i))
 spelled (Auipc rd i) = Some (two (name_of row.Auipc) (register rd) (upper i))
@@ -69,9 +74,9 @@ spelled (Store op rs1 rs2 i) = Some (offset (name_of (row.Store op)) (register r
 spelled (OpImm op rd rs1 i) = Some (three (name_of (row.OpImm op)) (register rd) (register rs1) (signed i))
 spelled (ShiftImm op rd rs1 k) = Some (three (name_of (row.ShiftImm op)) (register rd) (register rs1) (decimal k))
 spelled (Op op rd rs1 rs2) = Some (three (name_of (row.Op op)) (register rd) (register rs1) (register rs2))
-spelled (Amo op rd rs1 rs2 aq rl) = cond (aq || rl) None (Some (atomic (name_of (row.Amo op)) (register rd) (register rs2) (register rs1)))
-spelled (LoadReserved rd rs1 aq rl) = cond (aq || rl) None (Some (indirect (name_of row.LoadReserved) (register rd) (register rs1)))
-spelled (StoreConditional rd rs1 rs2 aq rl) = cond (aq || rl) None (Some (atomic (name_of row.StoreConditional) (register rd) (register rs2) (register rs1)))
+spelled (Amo op rd rs1 rs2 aq rl) = Some (atomic (ordered (row.Amo op) aq rl) (register rd) (register rs2) (register rs1))
+spelled (LoadReserved rd rs1 aq rl) = Some (indirect (ordered row.LoadReserved aq rl) (register rd) (register rs1))
+spelled (StoreConditional rd rs1 rs2 aq rl) = Some (atomic (ordered row.StoreConditional aq rl) (register rd) (register rs2) (register rs1))
 spelled (Fence bits) = cond (bits == full_fence) (Some (name_of row.Fence)) None
 spelled Ecall = Some (name_of row.Ecall)
 spelled Ebreak = Some (name_of row.Ebreak)

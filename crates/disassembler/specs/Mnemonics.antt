@@ -1,5 +1,6 @@
--- The names of registers, as assemblers write them (those of the RISC-V ABI). The names of operations stand in the instruction table.
-use Rattle.std.specs.Prelude.{ℕ, List, [], ◌∷◌, codes, slice_get, unwrap_or}
+-- The names of registers, as assemblers write them (those of the RISC-V ABI), and the suffixes of mnemonics. The names of operations stand in
+-- the instruction table.
+use Rattle.std.specs.Prelude.{ℕ, Bool, true, false, List, [], ◌∷◌, codes, slice_get, unwrap_or}
 
 -- x0 to x31
 abbrev pub registers : List (List ℕ)
@@ -12,3 +13,10 @@ registers =
 
 unfoldable pub register : ℕ → List ℕ
 register r = unwrap_or (slice_get registers r) []
+
+-- what the bits aq and rl of an atomic operation, LR or SC add to its name
+abbrev pub order : Bool → Bool → List ℕ
+order false false = []
+order true false = codes ".aq"
+order false true = codes ".rl"
+order true true = codes ".aqrl"

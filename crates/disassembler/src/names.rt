@@ -1,5 +1,5 @@
 ghost use Rattle.std.specs.Prelude.{◌≡◌, ◌≤◌, length};
-ghost use Rattle.disassembler.specs.Mnemonics.{register};
+ghost use Rattle.disassembler.specs.Mnemonics.{order, register};
 
 use words::Reg;
 
@@ -42,5 +42,18 @@ pub fn register(r: Reg) -> &'static str
         29 => "t4",
         30 => "t5",
         _ => "t6",
+    }
+}
+
+/// What the bits aq and rl of an atomic operation, LR or SC add to its name.
+pub(crate) fn order(aq: bool, rl: bool) -> &'static str
+    ensures suffix { result.now ≡ order aq rl }
+    ensures short { length result.now ≤ 5 }
+{
+    match (aq, rl) {
+        (false, false) => "",
+        (true, false) => ".aq",
+        (false, true) => ".rl",
+        (true, true) => ".aqrl",
     }
 }

@@ -2,6 +2,7 @@ ghost use Rattle.std.specs.Prelude.{◌≡◌, ◌≤◌, ◌+◌, ◌++◌, [],
 ghost use Rattle.table.specs.declared.instr.Instr.TheVariants.{Amo, Fence, OpImm};
 ghost use Rattle.disassembler.specs.Canonical.{canonical, spelled, plain, text_or};
 
+use crate::names::order;
 use crate::shapes::{atomic, based, begin, indirect, jump, numbered, registers, shifted, upper};
 use operands::{FenceBits, Imm12};
 use table::{ImmOp, Instr, Row, decode};
@@ -74,9 +75,9 @@ fn add_instr<const CAP: usize>(instr: Instr, word: u32, line: &mut Line<CAP>)
             rs2,
             aq,
             rl,
-        } if !aq && !rl => atomic(Row::Amo(op).name(), rd, rs2, rs1, line),
-        Instr::LoadReserved { rd, rs1, aq, rl } if !aq && !rl => {
-            indirect(Row::LoadReserved.name(), rd, rs1, line)
+        } => atomic(Row::Amo(op).name(), order(aq, rl), rd, rs2, rs1, line),
+        Instr::LoadReserved { rd, rs1, aq, rl } => {
+            indirect(Row::LoadReserved.name(), order(aq, rl), rd, rs1, line)
         }
         Instr::StoreConditional {
             rd,
@@ -84,12 +85,12 @@ fn add_instr<const CAP: usize>(instr: Instr, word: u32, line: &mut Line<CAP>)
             rs2,
             aq,
             rl,
-        } if !aq && !rl => atomic(Row::StoreConditional.name(), rd, rs2, rs1, line),
+        } => {
+            let order = order(aq, rl);
+            atomic(Row::StoreConditional.name(), order, rd, rs2, rs1, line)
+        }
         Instr::Fence { bits } if bits.value() == FULL_FENCE => line.put(Row::Fence.name()),
-        Instr::Amo { .. }
-        | Instr::LoadReserved { .. }
-        | Instr::StoreConditional { .. }
-        | Instr::Fence { .. } => add_plain(word, line),
+        Instr::Fence { .. } => add_plain(word, line),
         Instr::Ecall => line.put(Row::Ecall.name()),
         Instr::Ebreak => line.put(Row::Ebreak.name()),
         Instr::TBegin { offset } => begin(Row::TBegin.name(), offset, line),

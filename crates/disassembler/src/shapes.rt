@@ -13,7 +13,7 @@ use words::Reg;
 /// `op a`.
 fn first<const CAP: usize>(op: &str, a: Reg, line: &mut Line<CAP>)
     requires op { length op.now ≤ 9 }
-    requires room { length line.old + 40 ≤ CAP }
+    requires room { length line.old + 14 ≤ CAP }
     ensures text { line.new ≡ line.old ++ op.now ++ codes " " ++ register a }
     ensures longer { length line.new ≤ length line.old + 14 }
 {
@@ -25,7 +25,7 @@ fn first<const CAP: usize>(op: &str, a: Reg, line: &mut Line<CAP>)
 /// `op a, b`.
 fn second<const CAP: usize>(op: &str, a: Reg, b: Reg, line: &mut Line<CAP>)
     requires op { length op.now ≤ 9 }
-    requires room { length line.old + 40 ≤ CAP }
+    requires room { length line.old + 20 ≤ CAP }
     ensures text { line.new ≡ line.old ++ op.now ++ codes " " ++ register a ++ codes ", " ++ register b }
     ensures longer { length line.new ≤ length line.old + 20 }
 {
@@ -118,27 +118,44 @@ pub(crate) fn registers<const CAP: usize>(op: &str, a: Reg, b: Reg, c: Reg, line
     line.put(register(c));
 }
 
-/// `op a, (base)`.
-pub(crate) fn indirect<const CAP: usize>(op: &str, a: Reg, base: Reg, line: &mut Line<CAP>)
+/// `op a, (base)`, where the order belongs to the mnemonic.
+pub(crate) fn indirect<const CAP: usize>(
+    op: &str,
+    order: &str,
+    a: Reg,
+    base: Reg,
+    line: &mut Line<CAP>,
+)
     requires op { length op.now ≤ 9 }
+    requires order { length order.now ≤ 5 }
     requires room { length line.old + 40 ≤ CAP }
-    ensures text { line.new ≡ line.old ++ spec.indirect op.now (register a) (register base) }
+    ensures text { line.new ≡ line.old ++ spec.indirect (op.now ++ order.now) (register a) (register base) }
     ensures longer { length line.new ≤ length line.old + 40 }
 {
-    first(op, a, line);
+    line.put(op);
+    first(order, a, line);
     line.put(", (");
     line.put(register(base));
     line.put(")");
 }
 
-/// `op a, b, (base)`.
-pub(crate) fn atomic<const CAP: usize>(op: &str, a: Reg, b: Reg, base: Reg, line: &mut Line<CAP>)
+/// `op a, b, (base)`, where the order belongs to the mnemonic.
+pub(crate) fn atomic<const CAP: usize>(
+    op: &str,
+    order: &str,
+    a: Reg,
+    b: Reg,
+    base: Reg,
+    line: &mut Line<CAP>,
+)
     requires op { length op.now ≤ 9 }
+    requires order { length order.now ≤ 5 }
     requires room { length line.old + 40 ≤ CAP }
-    ensures text { line.new ≡ line.old ++ spec.atomic op.now (register a) (register b) (register base) }
+    ensures text { line.new ≡ line.old ++ spec.atomic (op.now ++ order.now) (register a) (register b) (register base) }
     ensures longer { length line.new ≤ length line.old + 40 }
 {
-    second(op, a, b, line);
+    line.put(op);
+    second(order, a, b, line);
     line.put(", (");
     line.put(register(base));
     line.put(")");

@@ -1,13 +1,13 @@
 -- An entry, and so a list of entries, leads to one flat state.
 use Rattle.std.proofs.Common.{◌≡◌, ℕ, Option, Some, None, Result, Ok, Err, List, [], ◌∷◌, sym, ◌∙◌, subst}
-use Rattle.std.specs.Prelude.{IsOkAnd, IsSomeAnd}
+use Rattle.std.specs.Prelude.{is_some, IsOkAnd, IsSomeAnd}
 use Rattle.words.specs.declared.entry.Entry.{Entry}
 use Rattle.words.specs.declared.entry.Entry.TheVariants.{Retire, Abort, Trap, Refuse, Spill}
 use Rattle.words.specs.declared.cause.AbortCause.{AbortCause}
 use Rattle.words.specs.declared.cause.Cause.{Cause}
 use Rattle.table.specs.declared.effect.Effect.{Effect}
 use Rattle.flat.specs.State.{Flat, Tx}
-use Rattle.flat.specs.Causes.{next_of}
+use Rattle.flat.specs.Causes.{done_next}
 use Rattle.flat.specs.Steps.{Carries, Retires, Aborts, IsRun}
 
 -- what is retired
@@ -22,7 +22,7 @@ one_aborted f g h i c None a b = absurd a
 
 -- one entry
 pub one_next : (f g h : Flat) (e : Entry) → Carries f e g → Carries f e h → g ≡ h
-one_next f g h (Retire i pc w x l s) a b = one_retired f g h i w (Retire i pc w x l s) (next_of f.setting (f.hart i)) a b
+one_next f g h (Retire i pc w x l s) a b = one_retired f g h i w (Retire i pc w x l s) (done_next (is_some s) f.setting (f.hart i)) a b
 one_next f g h (Abort i c) a b = one_aborted f g h i c (f.hart i).tx a b
 one_next f g h (Trap i c p) a b = a.after ∙ sym b.after
 one_next f g h (Refuse i j b) x y = x ∙ sym y

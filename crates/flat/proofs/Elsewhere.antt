@@ -1,6 +1,6 @@
 -- What an entry does it does from each state that has the same memory and the same hart, and in which the others claim no more.
-use Rattle.std.proofs.Common.{◌≡◌, ◌<◌, ◌/◌, ℕ, false, Option, Some, None, sym, ap, ◌∙◌, subst}
-use Rattle.std.specs.Prelude.{IsOkAnd, IsSomeAnd}
+use Rattle.std.proofs.Common.{◌≡◌, ◌<◌, ◌/◌, ℕ, Bool, false, Option, Some, None, Ok, sym, ap, ◌∙◌, subst}
+use Rattle.std.specs.Prelude.{is_some, IsOkAnd, IsSomeAnd}
 use Rattle.words.specs.declared.entry.Entry.{Entry}
 use Rattle.words.specs.declared.entry.Entry.TheVariants.{Retire, Abort, Trap, Refuse, Spill}
 use Rattle.words.specs.declared.cause.AbortCause.{AbortCause}
@@ -10,10 +10,11 @@ use Rattle.table.specs.declared.effect.Effect.{Effect}
 use Rattle.table.specs.declared.effect.Store.{Store}
 use Rattle.table.specs.declared.effect.Act.{Act}
 use Rattle.table.specs.declared.effect.Act.TheVariants as act
+use Rattle.table.specs.Effects.{resolved}
 use Rattle.table.specs.Program.{word_at}
 use Rattle.flat.specs.Bytes.{put_at}
 use Rattle.flat.specs.State.{Setting, Flat, FlatHart, Tx, flat_view, seen, has_read, has_written, MayAccess, IsAllowed}
-use Rattle.flat.specs.Causes.{next_of}
+use Rattle.flat.specs.Causes.{next_of, done_next, ◌>>=◌}
 use Rattle.flat.specs.Effects.{retire_of, hart_after, mem_by}
 use Rattle.flat.specs.Steps.{Carries, IsRunning, Retires, Aborts, Traps, MayAbort, hart_of, hart_aborted}
 use Rattle.flat.proofs.Maps.{put_there, put_again}
@@ -53,6 +54,9 @@ runs_too f m i like r = record {
 -- and does the same next
 pub next_too : (f m : Flat) (i : ℕ) → LooksLike i f m → next_of m.setting (m.hart i) ≡ next_of f.setting (f.hart i)
 next_too f m i like = ap (λ s. next_of s (m.hart i)) like.setting ∙ ap (next_of f.setting) like.hart
+
+done_too : (f m : Flat) (i : ℕ) (b : Bool) → LooksLike i f m → done_next b m.setting (m.hart i) ≡ done_next b f.setting (f.hart i)
+done_too f m i b like = ap (λ n. n >>= (λ e. Ok (resolved b e))) (next_too f m i like)
 
 -- the state with memory and hart i as in another, by what these are
 moved : (m g : Flat) (i : ℕ) (n : ℕ → ℕ) (h : FlatHart) → ((a : ℕ) → g.mem a ≡ n a) → g.hart i ≡ h → as_in m i g ≡ record m { mem = n; hart = put_at i h m.hart }
@@ -103,7 +107,7 @@ stays_too f m g i like e =
 pub carries_too : (f m g : Flat) (e : Entry) → LooksLike (hart_of e) f m → Carries f e g → Carries m e (as_in m (hart_of e) g)
 carries_too f m g (Retire i pc w x l s) like k =
     let r = retired_by f g i pc w x l s k in
-    subst (λ n. IsOkAnd n (λ d. Retires m i w d (Retire i pc w x l s) (as_in m i g))) (sym (next_too f m i like ∙ r.1)) (retires_too f m g i w (Retire i pc w x l s) r.0 like r.2)
+    subst (λ n. IsOkAnd n (λ d. Retires m i w d (Retire i pc w x l s) (as_in m i g))) (sym (done_too f m i (is_some s) like ∙ r.1)) (retires_too f m g i w (Retire i pc w x l s) r.0 like r.2)
 carries_too f m g (Abort i c) like k =
     let r = aborted_by f g i c k in
     subst (λ n. IsSomeAnd n (λ t. Aborts m i c t (as_in m i g))) (sym (ap (λ (h : FlatHart). h.tx) like.hart ∙ r.1)) (aborts_too f m g i c r.0 like r.2)

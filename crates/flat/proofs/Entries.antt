@@ -1,13 +1,13 @@
 -- What follows for the harts from an entry that carries one flat state to another.
 use Rattle.std.proofs.Common.{◌≡◌, ◌≢◌, ℕ, Option, Some, None, Result, Ok, Err, refl, ap, ◌∙◌}
-use Rattle.std.specs.Prelude.{IsOkAnd, IsSomeAnd}
+use Rattle.std.specs.Prelude.{is_some, IsOkAnd, IsSomeAnd}
 use Rattle.words.specs.declared.entry.Access.{Access}
 use Rattle.words.specs.declared.entry.Entry.{Entry}
 use Rattle.words.specs.declared.entry.Entry.TheVariants.{Retire, Abort, Trap, Refuse, Spill}
 use Rattle.words.specs.declared.cause.AbortCause.{AbortCause}
 use Rattle.table.specs.declared.effect.Effect.{Effect}
 use Rattle.flat.specs.State.{Flat, Tx, flat_view}
-use Rattle.flat.specs.Causes.{next_of}
+use Rattle.flat.specs.Causes.{done_next}
 use Rattle.flat.specs.Effects.{hart_after}
 use Rattle.flat.specs.Steps.{Carries, Retires, Aborts, hart_of, retired, aborted, hart_aborted}
 use Rattle.flat.proofs.Maps.{put_there, put_elsewhere}
@@ -22,10 +22,10 @@ some_with : {A : Type 0} (o : Option A) (P : A → Type 0) → IsSomeAnd o P →
 some_with (Some x) P p = (x, refl, p)
 some_with None P p = absurd p
 
--- what a hart retires is what it does next
+-- what a hart retires is what it does next, and a conditional store has succeeded if the entry has a store
 pub retired_by : (f g : Flat) (i pc w : ℕ) (x : Option (ℕ × ℕ)) (l s : Option Access) → Carries f (Retire i pc w x l s) g
-    → (d : Effect) × (next_of f.setting (f.hart i) ≡ Ok d) × Retires f i w d (Retire i pc w x l s) g
-retired_by f g i pc w x l s k = ok_with (next_of f.setting (f.hart i)) (λ d. Retires f i w d (Retire i pc w x l s) g) k
+    → (d : Effect) × (done_next (is_some s) f.setting (f.hart i) ≡ Ok d) × Retires f i w d (Retire i pc w x l s) g
+retired_by f g i pc w x l s k = ok_with (done_next (is_some s) f.setting (f.hart i)) (λ d. Retires f i w d (Retire i pc w x l s) g) k
 
 -- what is rolled back is the hart's transaction
 pub aborted_by : (f g : Flat) (i : ℕ) (c : AbortCause) → Carries f (Abort i c) g → (t : Tx) × ((f.hart i).tx ≡ Some t) × Aborts f i c t g

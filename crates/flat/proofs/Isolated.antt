@@ -1,6 +1,6 @@
 -- What a transaction has touched no other hart's entry changes.
 use Rattle.std.proofs.Common.{◌≡◌, ◌≢◌, ℕ, ◌+◌, ◌/◌, ◌%◌, ◌≤◌, Bool, true, false, cond, Option, Some, None, refl, ap, ◌∙◌}
-use Rattle.std.specs.Prelude.{◌==◌, List, IsTrue}
+use Rattle.std.specs.Prelude.{is_some, ◌==◌, List, IsTrue}
 use Rattle.std.specs.Option.{option_map, unwrap_or}
 use Rattle.words.specs.declared.entry.Entry.{Entry}
 use Rattle.words.specs.declared.entry.Entry.TheVariants.{Retire, Abort, Trap, Refuse, Spill}
@@ -16,7 +16,7 @@ use Rattle.flat.specs.Start.{first_state}
 use Rattle.flat.specs.Steps.{Carries, IsRun, hart_of}
 use Rattle.flat.specs.Isolation.{has_touched}
 use Rattle.flat.proofs.Laid.{laid_elsewhere, in_one_block}
-use Rattle.flat.proofs.Next.{next_ok, memory_aligned}
+use Rattle.flat.proofs.Next.{done_ok, memory_aligned}
 use Rattle.flat.proofs.Entries.{retired_by, aborted_by}
 use Rattle.flat.proofs.Apart.{IsApart, IsFree, LeavesRoom, not_both}
 use Rattle.flat.proofs.Covered.{IsCovered}
@@ -54,7 +54,7 @@ pub others_leave : (f g : Flat) (e : Entry) (i a : ℕ) → IsSeparate f → Car
 others_leave f g (Retire j pc w x l s) i a sep k ne e =
     let r = retired_by f g j pc w x l s k in
     ap (λ (m : Flat). m.mem a) r.2.after
-    ∙ act_leaves f.setting (f.hart j) (flat_view f j) (f.hart i).tx (f.hart j).tx f.mem r.0.act a (next_ok f.setting (f.hart j) r.0 r.1)
+    ∙ act_leaves f.setting (f.hart j) (flat_view f j) (f.hart i).tx (f.hart j).tx f.mem r.0.act a (done_ok f.setting (f.hart j) (is_some s) r.0 r.1)
     (room_of f j r.0.act sep r.2.allowed i ne) (sep.apart j i ne) (sep.covered j) e
 others_leave f g (Abort j c) i a sep k ne e = let r = aborted_by f g j c k in ap (λ (m : Flat). m.mem a) r.2.after
 others_leave f g (Trap j c p) i a sep k ne e = ap (λ (m : Flat). m.mem a) k.after

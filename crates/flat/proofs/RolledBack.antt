@@ -1,6 +1,6 @@
 -- What an abort gives back: the registers of the transaction's begin, and the output as it was.
 use Rattle.std.proofs.Common.{◌≡◌, ℕ, ◌-◌, Bool, true, false, cond, Option, Some, None, List, [], ◌∷◌, refl, sym, ap, ◌∙◌, subst}
-use Rattle.std.specs.Prelude.{◌==◌, IsSome}
+use Rattle.std.specs.Prelude.{is_some, ◌==◌, IsSome}
 use Rattle.words.specs.declared.entry.Entry.{Entry}
 use Rattle.words.specs.declared.entry.Entry.TheVariants.{Retire, Abort, Trap, Refuse, Spill}
 use Rattle.words.specs.declared.cause.AbortCause.{AbortCause}
@@ -14,7 +14,7 @@ use Rattle.flat.specs.Effects.{tx_by, tx_got, tx_put, put_by, output_by}
 use Rattle.flat.specs.Steps.{Carries, hart_of}
 use Rattle.flat.specs.Attempts.{StaysInside, IsAttempt}
 use Rattle.flat.proofs.Maps.{two_numbers, one_number, put_there}
-use Rattle.flat.proofs.Next.{next_ok}
+use Rattle.flat.proofs.Next.{done_ok}
 use Rattle.flat.proofs.Entries.{retired_by, aborted_by, hart_retired, hart_back, others_stay}
 
 -- the registers that an abort would leave
@@ -67,7 +67,7 @@ own_keeps f g (Retire i pc w x l s) regs out k inside b =
     let now = subst (λ (h : FlatHart). IsSome h.tx) after inside in
     subst (IsBackAt regs out) (sym after) (
       act_keeps (flat_view f i) (f.hart i) (f.hart i).tx r.0.act _ now ∙ b.0,
-      act_silent f.setting (flat_view f i) (f.hart i) r.0.act (next_ok f.setting (f.hart i) r.0 r.1) now ∙ b.1,
+      act_silent f.setting (flat_view f i) (f.hart i) r.0.act (done_ok f.setting (f.hart i) (is_some s) r.0 r.1) now ∙ b.1,
     )
 own_keeps f g (Abort i c) regs out k inside b =
     let r = aborted_by f g i c k in

@@ -1,6 +1,6 @@
 -- In each state of a run from the start the harts' transactions are apart.
 use Rattle.std.proofs.Common.{◌≡◌, ◌≢◌, ◌<◌, ◌≤◌, ◌/◌, ℕ, Bool, true, false, cond, Option, Some, None, refl, sym, ap, ◌∙◌, subst, arith}
-use Rattle.std.specs.Prelude.{◌==◌, nat_lt, List, IsTrue}
+use Rattle.std.specs.Prelude.{is_some, ◌==◌, nat_lt, List, IsTrue}
 use Rattle.std.specs.Option.{unwrap_or}
 use Rattle.std.proofs.lemmas.Bool.Decides.{nat_tests}
 use Rattle.words.specs.declared.entry.Entry.{Entry}
@@ -14,7 +14,7 @@ use Rattle.flat.specs.Effects.{tx_by}
 use Rattle.flat.specs.Steps.{Carries, IsRun}
 use Rattle.flat.specs.Isolation.{has_touched}
 use Rattle.flat.proofs.Maps.{one_number, two_numbers, put_there}
-use Rattle.flat.proofs.Next.{next_ok}
+use Rattle.flat.proofs.Next.{done_ok}
 use Rattle.flat.proofs.Entries.{retired_by, aborted_by, hart_retired, hart_back, others_stay, setting_stays}
 use Rattle.flat.proofs.Runs.{run_keeps}
 use Rattle.flat.proofs.Apart.{IsApart, IsFree, LeavesRoom, act_apart, apart_of_none, turned, untouched}
@@ -71,7 +71,7 @@ stays_separate f g (Retire i pc w x l s) k sep =
     one_new f g i sep r.2.running.hart (setting_stays f g (Retire i pc w x l s) k)
     (λ j ne. ap (λ (h : FlatHart). h.tx) (others_stay f g (Retire i pc w x l s) k j ne))
     (λ j ne. subst (IsApart (f.hart j).tx) (sym tx) (act_apart (flat_view f i) (f.hart i) (f.hart j).tx (f.hart i).tx r.0.act (room_of f i r.0.act sep r.2.allowed j ne) (sep.apart i j ne)))
-    (subst IsCovered (sym tx) (act_covered f.setting (f.hart i) (flat_view f i) (f.hart i) (f.hart i).tx r.0.act (next_ok f.setting (f.hart i) r.0 r.1) (sep.covered i)))
+    (subst IsCovered (sym tx) (act_covered f.setting (f.hart i) (flat_view f i) (f.hart i) (f.hart i).tx r.0.act (done_ok f.setting (f.hart i) (is_some s) r.0 r.1) (sep.covered i)))
 stays_separate f g (Abort i c) k sep =
     let r = aborted_by f g i c k in
     let tx : (g.hart i).tx ≡ None = ap (λ (h : FlatHart). h.tx) (hart_back f g i c r.0 r.2.after) in

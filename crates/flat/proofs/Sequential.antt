@@ -26,6 +26,7 @@ put_stores mem m (Some v) a = refl
 act_stores : (view mem : ℕ → ℕ) (does : Act) (a : ℕ) → mem_by view None mem does a ≡ stored (store_by view does) mem a
 act_stores view mem act.Nothing a = refl
 act_stores view mem (act.Memory m) a = put_stores mem m (put_by view m) a
+act_stores view mem (act.Conditional rd m) a = refl
 act_stores view mem (act.Begin p) a = refl
 act_stores view mem act.Commit a = refl
 act_stores view mem act.Abort a = refl
@@ -77,6 +78,7 @@ got_loads view m (Some x) l e = subst (λ (k : Access). k.value ≡ number_at vi
 act_loads : (view : ℕ → ℕ) (does : Act) (l : Access) → Some l ≡ load_by view does → l.value ≡ number_at view l.addr l.width
 act_loads view act.Nothing l e = cc
 act_loads view (act.Memory m) l e = got_loads view m m.load l e
+act_loads view (act.Conditional rd m) l e = cc
 act_loads view (act.Begin p) l e = cc
 act_loads view act.Commit l e = cc
 act_loads view act.Abort l e = cc

@@ -1,25 +1,25 @@
 -- An entry in a transaction and an entry of another hart may come in either order.
 use Rattle.std.proofs.Common.{◌≡◌, ◌≢◌, ℕ, ◌/◌, Bool, true, false, cond, Option, refl, sym, ap, ◌∙◌, subst}
-use Rattle.std.specs.Prelude.{◌==◌, IsSome, IsOkAnd}
+use Rattle.std.specs.Prelude.{is_some, ◌==◌, IsSome, IsOkAnd}
 use Rattle.words.specs.declared.entry.Access.{Access}
 use Rattle.words.specs.declared.entry.Entry.{Entry}
 use Rattle.words.specs.declared.entry.Entry.TheVariants.{Retire, Abort, Trap, Refuse, Spill}
 use Rattle.table.specs.Program.{word_at}
 use Rattle.flat.specs.Bytes.{put_at}
 use Rattle.flat.specs.State.{Flat, FlatHart, flat_view, seen, has_read, has_written}
-use Rattle.flat.specs.Causes.{next_of}
+use Rattle.flat.specs.Causes.{done_next}
 use Rattle.flat.specs.Effects.{retire_of, hart_after, tx_by, mem_by}
 use Rattle.flat.specs.Steps.{Carries, Retires, hart_of}
 use Rattle.flat.specs.Isolation.{has_touched}
 use Rattle.flat.proofs.Maps.{one_number, two_numbers, put_there, put_elsewhere}
-use Rattle.flat.proofs.Next.{next_ok}
+use Rattle.flat.proofs.Next.{done_ok}
 use Rattle.flat.proofs.Entries.{retired_by, aborted_by, hart_retired, hart_back, others_stay, setting_stays}
 use Rattle.flat.proofs.Alone.{act_leaves, entry_leaves, seen_same}
 use Rattle.flat.proofs.Apart.{IsApart}
 use Rattle.flat.proofs.Separate.{IsSeparate, stays_separate}
 use Rattle.flat.proofs.Isolated.{others_leave}
 use Rattle.flat.proofs.Elsewhere.{LooksLike, as_in, carries_too}
-use Rattle.flat.proofs.LoadsOrStores.{next_useful}
+use Rattle.flat.proofs.LoadsOrStores.{done_useful}
 use Rattle.flat.proofs.Touches.{IsAt, act_touches, act_room, room_allows}
 use Rattle.flat.proofs.Grows.{own_grows, some_none}
 use Rattle.flat.proofs.SameView.{Agree, agree_by, retire_same, after_same}
@@ -74,14 +74,14 @@ retire_later f g h i pc w x l s d sep c inside c' ne =
     let after : g.hart i ≡ hart_after (flat_view f i) (f.hart i) r.0 = hart_retired f g i r.0 r.2.after in
     let tx : (g.hart i).tx ≡ tx_by (flat_view f i) (f.hart i) (f.hart i).tx r.0.act = ap (λ (y : FlatHart). y.tx) after in
     let now : IsSome (tx_by (flat_view f i) (f.hart i) (f.hart i).tx r.0.act) = subst (λ o. IsSome o) tx inside in
-    let useful = next_useful f.setting (f.hart i) r.0 r.1 in
+    let useful = done_useful f.setting (f.hart i) (is_some s) r.0 r.1 in
     let sep_g = stays_separate f g own c sep in
     let sep_h = stays_separate g h d c' sep_g in
     let same : (a : ℕ) → IsAt r.0.act a → h.mem a ≡ f.mem a = λ a at.
     others_leave g h d i a sep_g c' apart (ap (λ o. has_touched o (a / 32)) tx ∙ act_touches (flat_view f i) (f.hart i) (f.hart i).tx r.0.act a useful now at)
     ∙ entry_leaves f g own c inside a in
     let agree : Agree (flat_view m i) (flat_view f i) r.0.act =
-    agree_by f.setting (f.hart i) (flat_view m i) (flat_view f i) r.0.act (next_ok f.setting (f.hart i) r.0 r.1)
+    agree_by f.setting (f.hart i) (flat_view m i) (flat_view f i) r.0.act (done_ok f.setting (f.hart i) (is_some s) r.0 r.1)
     (λ a at. ap (λ (y : FlatHart). seen y.tx h.mem a) here ∙ seen_same (f.hart i).tx h.mem f.mem a (same a at)) in
     let moved : hart_after (flat_view m i) (m.hart i) r.0 ≡ g.hart i =
     ap (λ y. hart_after (flat_view m i) y r.0) here ∙ after_same (flat_view m i) (flat_view f i) (f.hart i) r.0 agree ∙ sym after in
@@ -92,7 +92,7 @@ retire_later f g h i pc w x l s d sep c inside c' ne =
     let setting : h.setting ≡ f.setting = setting_stays g h d c' ∙ setting_stays f g own c in
     let mem : (a : ℕ) → h.mem a ≡ mem_by (flat_view m i) (m.hart i).tx m.mem r.0.act a = λ a. sym (act_leaves (flat_view m i) (m.hart i) (m.hart i).tx m.mem r.0.act a open_now) in
     let hart : (j : ℕ) → h.hart j ≡ put_at i (hart_after (flat_view m i) (m.hart i) r.0) m.hart j = put_last m h i (hart_after (flat_view m i) (m.hart i) r.0) (moved ∙ sym still) others in
-    subst (λ n. IsOkAnd n (λ z. Retires m i w z own h)) (sym (ap (next_of f.setting) here ∙ r.1)) (record {
+    subst (λ n. IsOkAnd n (λ z. Retires m i w z own h)) (sym (ap (done_next (is_some s) f.setting) here ∙ r.1)) (record {
       running = record { hart = r.2.running.hart; runs = ap (λ (y : FlatHart). y.status) here ∙ r.2.running.runs };
       fetched = ap (λ (y : FlatHart). word_at f.setting.segments y.pc) here ∙ r.2.fetched;
       no_abort = r.2.no_abort;

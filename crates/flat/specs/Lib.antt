@@ -5,6 +5,8 @@ pub mod Causes
 pub mod Effects
 pub mod Steps
 pub mod Reasons
+pub mod Reservation
+pub mod Reservations
 pub mod Isolation
 pub mod Attempts
 pub mod Boots

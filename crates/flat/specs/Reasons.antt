@@ -95,6 +95,7 @@ StandsAgainst f j b (Some s) = (has_read (f.hart j).tx b ≡ true) ⊎ (has_writ
 -- the act loads from or stores to block b, and hart j's transaction stands against it or has spilled
 abbrev pub WantsKept : Flat → ℕ → ℕ → Bool → Act → Type 0
 WantsKept f j b spilled (act.Memory m) = (m.addr / 32 ≡ b) × (StandsAgainst f j b m.store ⊎ (spilled ≡ true))
+WantsKept f j b spilled (act.Conditional rd m) = (m.addr / 32 ≡ b) × (StandsAgainst f j b m.store ⊎ (spilled ≡ true))
 WantsKept f j b spilled _ = ⊥
 
 -- why hart j may refuse block b to hart i: they are two of the harts; the word at i's pc wants the block, and it isn't allowed because

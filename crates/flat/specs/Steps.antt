@@ -14,7 +14,7 @@ use Rattle.table.specs.declared.effect.Act.TheVariants as act
 use Rattle.table.specs.Program.{word_at}
 use Rattle.flat.specs.Bytes.{put_at}
 use Rattle.flat.specs.State.{Flat, FlatHart, Tx, flat_view, IsAllowed}
-use Rattle.flat.specs.Causes.{next_of}
+use Rattle.flat.specs.Causes.{next_of, done_next}
 use Rattle.flat.specs.Effects.{retire_of, hart_after, mem_by}
 
 -- i is a hart, and it runs
@@ -45,6 +45,7 @@ pub record Retires (f : Flat) (i word : ℕ) (does : Effect) (e : Entry) (g : Fl
 
 abbrev pub is_store : Act → Bool
 is_store (act.Memory m) = is_some m.store
+is_store (act.Conditional rd m) = is_some m.store
 is_store _ = false
 
 -- what has to hold for an abort of this cause: the word is TABORT; the word is a store, and the transaction has retired at least as
@@ -86,9 +87,11 @@ pub record Traps (f : Flat) (i : ℕ) (c : Cause) (p : ℕ) (g : Flat) : Type 0 
   pub caused : next_of f.setting (f.hart i) ≡ Err c
   pub after : g ≡ stopped f i c p
 
--- an entry carries one flat state to another
+-- an entry carries one flat state to another. A conditional store has succeeded if the entry has a store; it may fail at any time, and what it needs to succeed lies
+-- in the entries before
 abbrev pub Carries : Flat → Entry → Flat → Type 0
-Carries f (Retire i pc word write load store) g = IsOkAnd (next_of f.setting (f.hart i)) (λ does. Retires f i word does (Retire i pc word write load store) g)
+Carries f (Retire i pc word write load store) g =
+    IsOkAnd (done_next (is_some store) f.setting (f.hart i)) (λ does. Retires f i word does (Retire i pc word write load store) g)
 Carries f (Abort i cause) g = IsSomeAnd (f.hart i).tx (λ t. Aborts f i cause t g)
 Carries f (Trap i c p) g = Traps f i c p g
 Carries f (Refuse i j b) g = g ≡ f

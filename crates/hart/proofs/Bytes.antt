@@ -4,7 +4,6 @@ use Rattle.std.proofs.lemmas.List.{take-append-drop, append-nil}
 use Rattle.std.specs.Prelude.{OnOk, OnErr}
 use Rattle.std.specs.List.{flat_map}
 use Rattle.undo_log.specs.Bytes.{overwritten}
-use Rattle.undo_log.specs.Value.{Log}
 use Rattle.undo_log.specs.declared.record.Record.{Record}
 use Rattle.undo_log.specs.Log.{records, appended}
 use Rattle.transaction.specs.Value.{Transaction}

@@ -13,12 +13,14 @@ use Rattle.table.specs.declared.effect.Effect.{Effect}
 use Rattle.table.specs.declared.effect.MemoryAct.{MemoryAct}
 use Rattle.table.specs.declared.effect.Act.{Act}
 use Rattle.table.specs.declared.effect.Act.TheVariants as act
+use Rattle.table.specs.Effects.{resolved}
 use Rattle.flat.specs.State.{Setting}
+use Rattle.flat.specs.Reservation.{is_reserved}
 use Rattle.flat.specs.Causes.{next_of}
 use Rattle.protocol.specs.Lines.{Line, is_enough}
 use Rattle.protocol.specs.Hart.{Hart, Transaction, LogRecord, is_running, has_put_of, flat_hart}
 use Rattle.protocol.specs.Caches.{Geometry, MayName}
-use Rattle.protocol.specs.Core.{Move, Rests, Makes, Lacks, abort_move, access_move, access_row, ask_with_room, core_move, core_row, effect_move, instruction_move, kind_of, move_row, no_longer_fresh, transaction_move, tx_move, undo_move, undo_row, victim_for, word_of}
+use Rattle.protocol.specs.Core.{Move, Rests, Makes, Lacks, abort_move, access_move, access_row, ask_with_room, conditional_move, core_move, core_row, effect_move, instruction_move, kind_of, move_row, no_longer_fresh, no_memory, reserved_with, retire_row, transaction_move, tx_move, undo_move, undo_row, victim_for, word_of}
 use Rattle.protocol.specs.Evict.{evict_by, evict_line}
 use Rattle.protocol.specs.Machine.{MayLack}
 use Rattle.hart.proofs.Victims.{may_lack}
@@ -35,13 +37,19 @@ either m n true first second = first
 either m n false first second = second
 
 module _ (s : Setting) (i taken : ℕ) where
-  access_moves : (w : ℕ) (e : Effect) (m : MemoryAct) (o : Option Line) (h : Hart) → IsMove (access_move i w e m o h)
-  access_moves w e m None h = tt
-  access_moves w e m (Some l) h = either (Makes (access_row i w e m l h.tx h)) (Lacks (kind_of m) (m.addr / 32)) (is_enough (kind_of m) (Some l)) tt tt
+  access_moves : (w : ℕ) (e : Effect) (m : MemoryAct) (kept : Option ℕ) (o : Option Line) (h : Hart) → IsMove (access_move i w e m kept o h)
+  access_moves w e m kept None h = tt
+  access_moves w e m kept (Some l) h = either (Makes (access_row i w e m kept l h.tx h)) (Lacks (kind_of m) (m.addr / 32)) (is_enough (kind_of m) (Some l)) tt tt
+
+  conditional_moves : (w : ℕ) (e : Effect) (m : MemoryAct) (h : Hart) → IsMove (conditional_move i w e m h)
+  conditional_moves w e m h =
+      either (access_move i w (resolved true e) m None (h.lines (m.addr / 32)) h) (Makes (retire_row i no_memory w (resolved false e) (record h { reserved = None })))
+      (is_reserved (m.addr / 32) h.reserved) (access_moves w (resolved true e) m None (h.lines (m.addr / 32)) h) tt
 
   effect_moves : (w : ℕ) (e : Effect) (a : Act) (h : Hart) → IsMove (effect_move i taken w e a h)
   effect_moves w e act.Nothing h = tt
-  effect_moves w e (act.Memory m) h = access_moves w e m (h.lines (m.addr / 32)) h
+  effect_moves w e (act.Memory m) h = access_moves w e m (reserved_with m m.load h.reserved) (h.lines (m.addr / 32)) h
+  effect_moves w e (act.Conditional rd m) h = conditional_moves w e m h
   effect_moves w e (act.Begin p) h = tt
   effect_moves w e act.Commit h = tt
   effect_moves w e act.Abort h = tt

@@ -23,7 +23,7 @@ use Rattle.words.specs.declared.cause.AbortCause.TheVariants.{LogFull}
 use Rattle.words.specs.declared.message.Kind.TheVariants.{Write}
 use Rattle.table.specs.declared.effect.MemoryAct.{MemoryAct}
 use Rattle.table.specs.declared.effect.Effect.{Effect}
-use Rattle.protocol.specs.HartMessages.{forward_row, refuse_row, acknowledge_row, content_held}
+use Rattle.protocol.specs.HartMessages.{forward_row, refuse_row, acknowledge_row, content_held, reserved_given}
 
 -- what isn't there isn't shown
 pub none_shown : {A B : Type 0} (f : A → B) (o : Option A) → is_some o ≡ false → option_map f o ≡ None
@@ -86,7 +86,7 @@ pub granted : (i b : ℕ) (l : Line) (back : Option Block) (h k : Hart) (m : Mes
     → sends (Done i b true back) (with_line b (Some l) (record h { request = None; fresh = true })) ≡ record { hart = record k { request = None; fresh = true }; sent = Some m; entry = None; stamped = false }
 granted i b l back h k m hart sent = λ j. record { hart = record (sym hart j) { request = None; fresh = true }; sent = Some (sym sent j); entry = None; stamped = false }
 
-pub acknowledged : (i b : ℕ) (kind : Kind) (r : ℕ) (h k : Hart) (content : Option Block) → k ≡ with_line b (line_given kind (h.lines b)) h → content ≡ content_held b h
+pub acknowledged : (i b : ℕ) (kind : Kind) (r : ℕ) (h k : Hart) (content : Option Block) → k ≡ with_line b (line_given kind (h.lines b)) (record h { reserved = reserved_given kind b h.reserved }) → content ≡ content_held b h
     → acknowledge_row i b kind r h ≡ record { hart = k; sent = Some (Ack i r b content); entry = None; stamped = false }
 acknowledged i b kind r h k content hart is = λ j. record { hart = sym hart j; sent = Some (Ack i r b (sym is j)); entry = None; stamped = false }
 
@@ -103,7 +103,7 @@ undone t r rest l h tx kept lines is stamp at = λ j. record {
 -- the end of a transaction
 
 pub commits-outer : (i w : ℕ) (e : Effect) (o : Option Transaction) (h k : Hart) → (o ≡ None → ⊥)
-    → ((t : Transaction) → o ≡ Some t → ((t.depth == 1) ≡ true) × (k ≡ record h { tx = None; lines = λ b. line_cleared (h.lines b) }))
+    → ((t : Transaction) → o ≡ Some t → ((t.depth == 1) ≡ true) × (k ≡ record h { tx = None; reserved = None; lines = λ b. line_cleared (h.lines b) }))
     → commit_row i w e o h ≡ retire_row i no_memory w e k
 commits-outer i w e None h k inside is = absurd (inside refl)
 commits-outer i w e (Some t) h k inside is = let f = is t refl in rw (f.0, f.1) refl
@@ -117,7 +117,7 @@ commits-inner i w e (Some t) h k outside is = let f = is t refl in rw (f.0, f.1)
 -- a begin
 
 pub begins : (i taken w p : ℕ) (e : Effect) (o : Option Transaction) (h k : Hart) (stamped : Bool)
-    → (o ≡ None → (k ≡ record h { tx = Some (tx_begun i taken p h); kept_stamp = None }) × (stamped ≡ is_none h.kept_stamp))
+    → (o ≡ None → (k ≡ record h { tx = Some (tx_begun i taken p h); kept_stamp = None; reserved = None }) × (stamped ≡ is_none h.kept_stamp))
     → ((t : Transaction) → o ≡ Some t → (k ≡ record h { tx = Some (record t { depth = t.depth + 1 }) }) × (stamped ≡ false))
     → begin_row i taken w e p o h ≡ record (retire_row i no_memory w e k) { stamped = stamped }
 begins i taken w p e None h k stamped outside is = let f = outside refl in rw (f.0, f.1) refl
@@ -125,13 +125,13 @@ begins i taken w p e (Some t) h k stamped outside is = let f = is t refl in rw (
 
 -- an access in a transaction, with and without room in the log
 
-pub access-full : (i w : ℕ) (e : Effect) (m : MemoryAct) (l : Line) (t : Transaction) (h : Hart) → is_log_due m l && nat_le log_records (length t.log) ≡ true
-    → access_row i w e m l (Some t) h ≡ start_abort_row LogFull t h
-access-full i w e m l t h full = rw full refl
+pub access-full : (i w : ℕ) (e : Effect) (m : MemoryAct) (kept : Option ℕ) (l : Line) (t : Transaction) (h : Hart) → is_log_due m l && nat_le log_records (length t.log) ≡ true
+    → access_row i w e m kept l (Some t) h ≡ start_abort_row LogFull t h
+access-full i w e m kept l t h full = rw full refl
 
-pub access-fits : (i w : ℕ) (e : Effect) (m : MemoryAct) (l : Line) (t : Transaction) (h : Hart) → is_log_due m l && nat_le log_records (length t.log) ≡ false
-    → access_row i w e m l (Some t) h ≡ retire_row i (byte_in l.content) w e (with_line (m.addr / 32) (Some (line_used true m l)) (record h { tx = Some (tx_used m l t) }))
-access-fits i w e m l t h fits = rw fits refl
+pub access-fits : (i w : ℕ) (e : Effect) (m : MemoryAct) (kept : Option ℕ) (l : Line) (t : Transaction) (h : Hart) → is_log_due m l && nat_le log_records (length t.log) ≡ false
+    → access_row i w e m kept l (Some t) h ≡ retire_row i (byte_in l.content) w e (with_line (m.addr / 32) (Some (line_used true m l)) (record h { tx = Some (tx_used m l t); reserved = kept }))
+access-fits i w e m kept l t h fits = rw fits refl
 
 -- a step of an abort
 

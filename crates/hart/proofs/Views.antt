@@ -13,6 +13,7 @@ parts a = record {
   status = a.status;
   tx = a.tx;
   cache = a.cache;
+  reserved = a.reserved;
   request = a.request;
   put = a.put;
   fresh = a.fresh;

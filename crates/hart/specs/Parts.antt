@@ -8,7 +8,7 @@ use Rattle.conflict.specs.declared.request.Request.{Request}
 use Rattle.conflict.specs.declared.request.PutOut.{PutOut}
 
 -- the hart's number, how many harts the machine has, and how many bytes memory; registers, pc and status; the transaction, with
--- its undo log; the cache's sets; the request and the Put that are out; and whether the hart is fresh
+-- its undo log; the cache's sets; the block that is reserved; the request and the Put that are out; and whether the hart is fresh
 pub record Parts : Type 0 where
   pub index : ℕ
   pub harts : ℕ
@@ -18,6 +18,7 @@ pub record Parts : Type 0 where
   pub status : Status
   pub tx : Transaction
   pub cache : Sets
+  pub reserved : Option ℕ
   pub request : Option Request
   pub put : Option PutOut
   pub fresh : Bool

@@ -65,5 +65,6 @@ is_access _ = false
 -- what is known of an act that has no cause: an access is at a multiple of its width, and a transaction can go one deeper
 abbrev pub Fits : Transaction → Act → Type 0
 Fits tx (act.Memory m) = m.addr % bytes_in m.width ≡ 0
+Fits tx (act.Conditional rd m) = m.addr % bytes_in m.width ≡ 0
 Fits tx (act.Begin p) = tx.depth < 255
 Fits tx _ = Unit {0}

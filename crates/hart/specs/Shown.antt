@@ -70,6 +70,7 @@ shown_hart sets output p = record {
   status = p.status;
   tx = shown_tx p.tx;
   kept_stamp = kept_stamp p.tx;
+  reserved = p.reserved;
   lines = lines_of sets p.cache;
   request = option_map shown_request p.request;
   put = option_map shown_put p.put;

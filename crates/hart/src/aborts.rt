@@ -46,7 +46,7 @@ impl<const SETS: usize, const WAYS: usize> Hart<SETS, WAYS> {
         self.start_abort(AbortCause::Asked)
     }
 
-    /// The word can't be retired: the hart stops, or in a transaction starts an abort, whose end stops it.
+    /// The word can't be retired: the hart stops and has reserved no block, or in a transaction starts an abort, whose end stops it.
     #[inline(never)]
     pub(crate) fn trap(&mut self, cause: Cause) -> CoreStep
         ensures row { (output : List ℕ) → trap_row self.old.index cause (shown_tx self.old.tx) (shown_hart SETS output self.old)
@@ -58,6 +58,7 @@ impl<const SETS: usize, const WAYS: usize> Hart<SETS, WAYS> {
             return self.start_abort(AbortCause::Trapped(cause, self.pc));
         }
         self.status = Status::Stopped(cause, self.pc);
+        self.reserved = None;
         self.fresh = false;
         CoreStep::gives(Entry::Trap {
             hart: self.index,
@@ -66,7 +67,8 @@ impl<const SETS: usize, const WAYS: usize> Hart<SETS, WAYS> {
         })
     }
 
-    /// The log is undone: registers and pc are those of the begin, no line has marks, and the next transaction keeps the stamp.
+    /// The log is undone: registers and pc are those of the begin, no line has marks, no block is reserved, and the next transaction keeps the
+    /// stamp.
     pub(crate) fn end_abort(&mut self) -> CoreStep
         requires free { self.old.request ≡ None }
         requires aborting { IsSome self.old.tx.aborting }
@@ -83,6 +85,7 @@ impl<const SETS: usize, const WAYS: usize> Hart<SETS, WAYS> {
         self.pc = restart.pc;
         self.status = status_for(restart.cause);
         self.cache.clear_marks();
+        self.reserved = None;
         self.fresh = false;
         CoreStep::gives(Entry::Abort {
             hart: self.index,

@@ -2,13 +2,13 @@ ghost use Rattle.std.specs.Prelude.{◌≡◌, ◌<◌, ◌/◌, ◌%◌, ◌^�
 ghost use Rattle.words.specs.Limits.{block_words};
 ghost use Rattle.words.specs.Bytes.{bytes_in, cut};
 ghost use Rattle.table.specs.declared.effect.Act.TheVariants.{Memory};
-ghost use Rattle.flat.specs.Effects.{old_of, put_by, load_by, store_by, loaded_by};
+ghost use Rattle.flat.specs.Effects.{old_of, put_by, load_by, store_by, write_by};
 ghost use Rattle.protocol.specs.Lines.{byte_in, words_put, marks_used, is_enough};
 ghost use Rattle.protocol.specs.Core.{kind_of, is_log_due};
 ghost use Rattle.hart.specs.Shown.{shown_line};
 
 use cache::{Line, with_bytes};
-use table::{MemoryAct, extend_load, finish_load, finish_store, write_to};
+use table::{Effect, MemoryAct, extend_load, finish_load, finish_store, write_to};
 use words::{Access, BLOCK_WORDS, Block, Kind, Marks, Reg, Width};
 
 /// An access needs what a store needs, if it is also one.
@@ -74,18 +74,18 @@ pub(crate) fn put_by(content: &Block, m: &MemoryAct) -> Option<u32>
     }
 }
 
-/// The register that an access writes.
+/// The register that an access writes: that of its load, or without one what the effect says.
 #[inline(always)]
-pub(crate) fn loaded_by(content: &Block, m: &MemoryAct) -> Option<(Reg, u32)>
+pub(crate) fn written_by(content: &Block, effect: &Effect, m: &MemoryAct) -> Option<(Reg, u32)>
     requires { m.now.addr % bytes_in m.now.width ≡ 0 }
-    ensures { result ≡ loaded_by (byte_in content.now) m.now }
+    ensures { result ≡ write_by (byte_in content.now) effect.now (Memory m.now) }
 {
     match &m.load {
         Some(load) => write_to(
             load.rd,
             extend_load(load.signed, m.width, number(content, m)),
         ),
-        None => None,
+        None => effect.write,
     }
 }
 

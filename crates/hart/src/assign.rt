@@ -16,6 +16,7 @@ impl<const SETS: usize, const WAYS: usize> Hart<SETS, WAYS> {
         self.pc = other.pc;
         self.status = other.status;
         self.fresh = other.fresh;
+        self.reserved = other.reserved;
         self.request = other.request;
         self.put = other.put;
         self.regs = other.regs;

@@ -115,7 +115,7 @@ impl<const SETS: usize, const WAYS: usize> Hart<SETS, WAYS> {
         let depth = self.tx.depth();
         match act {
             Act::Nothing => None,
-            Act::Memory(m) => self.memory_cause(text, m),
+            Act::Memory(m) | Act::Conditional(_, m) => self.memory_cause(text, m),
             Act::Begin(_) => {
                 if depth == 255 {
                     Some(Cause::TooDeep)

@@ -1,5 +1,5 @@
 //! Whether a hart has a step to make, found without making it.
-ghost use Rattle.std.specs.Prelude.{◌≡◌, ◌/◌, ℕ, List, Some, None, IfSome, IfNone, IsSome, is_some};
+ghost use Rattle.std.specs.Prelude.{◌≡◌, ◌/◌, ℕ, List, Option, Some, None, IfSome, IfNone, IsSome, is_some};
 ghost use Rattle.table.specs.Program.{Segment};
 ghost use Rattle.table.specs.declared.effect.Effect.{Effect as EffectValue};
 ghost use Rattle.protocol.specs.Caches.{Geometry, MayName};
@@ -88,14 +88,16 @@ impl<const SETS: usize, const WAYS: usize> Hart<SETS, WAYS> {
     {
         match act {
             Act::Memory(m) => self.can_access(m),
+            // Without the reservation it fails at once.
+            Act::Conditional(_, m) => !self.has_reserved(m.addr.block()) || self.can_access(m),
             _ => true,
         }
     }
 
     /// Whether an access can be made, or its block be asked for.
     fn can_access(&self, m: &MemoryAct) -> bool
-        ensures { (output : List ℕ) (word : ℕ) (effect : EffectValue) → let h = shown_hart SETS output self.now in
-            let move = access_move self.now.index word effect m.now (lines_of SETS self.now.cache (m.now.addr / 32)) h in
+        ensures { (output : List ℕ) (word : ℕ) (effect : EffectValue) (kept : Option ℕ) → let h = shown_hart SETS output self.now in
+            let move = access_move self.now.index word effect m.now kept (lines_of SETS self.now.cache (m.now.addr / 32)) h in
             result ≡ is_some (move_row self.now.index (victim_of SETS self.now.cache) move h) }
     {
         let block = m.addr.block();

@@ -5,6 +5,7 @@ ghost use Rattle.protocol.specs.Evict.{evict_row, without_line, drop_row, write_
 
 use crate::hart::Hart;
 use crate::reply::Reply;
+use crate::reservation::without_block;
 use crate::transactions::note_spill;
 use cache::Line;
 use conflict::PutOut;
@@ -49,7 +50,7 @@ impl<const SETS: usize, const WAYS: usize> Hart<SETS, WAYS> {
         }
     }
 
-    /// Takes a line out. If it was marked, the transaction has overflowed.
+    /// Takes a line out, and a reservation of its block with it. If it was marked, the transaction has overflowed.
     fn remove(&mut self, line: &Line)
         requires { line_at SETS self.old.cache line.now.block ≡ Some line.now }
         ensures hart { (output : List ℕ) → shown_hart SETS output self.new
@@ -58,6 +59,7 @@ impl<const SETS: usize, const WAYS: usize> Hart<SETS, WAYS> {
         ensures stays { StaysPut self.old self.new }
     {
         self.cache.invalidate(line.block);
+        self.reserved = without_block(line.block, self.reserved);
         note_spill(&mut self.tx, line.marks.is_marked());
     }
 

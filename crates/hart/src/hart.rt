@@ -23,6 +23,8 @@ pub struct Hart<const SETS: usize, const WAYS: usize> {
     pub(crate) pc: Addr,
     pub(crate) status: Status,
     pub(crate) fresh: bool,
+    /// The block that LR has reserved.
+    pub(crate) reserved: Option<BlockNo>,
     pub(crate) request: Option<Request>,
     pub(crate) put: Option<PutOut>,
     pub(crate) regs: Regs,
@@ -47,6 +49,7 @@ impl<const SETS: usize, const WAYS: usize> Model for Hart<SETS, WAYS> {
       status = h.status;
       tx = h.tx;
       cache = h.cache;
+      reserved = h.reserved;
       request = h.request;
       put = h.put;
       fresh = h.fresh;
@@ -61,6 +64,7 @@ impl<const SETS: usize, const WAYS: usize> Model for Hart<SETS, WAYS> {
       status = h.status;
       tx = h.tx;
       cache = h.cache;
+      reserved = h.reserved;
       request = h.request;
       put = h.put;
       fresh = h.fresh;
@@ -74,6 +78,7 @@ impl<const SETS: usize, const WAYS: usize> Model for Hart<SETS, WAYS> {
       pc = p.pc;
       status = p.status;
       fresh = p.fresh;
+      reserved = p.reserved;
       request = p.request;
       put = p.put;
       regs = p.regs;
@@ -89,6 +94,7 @@ impl<const SETS: usize, const WAYS: usize> Model for Hart<SETS, WAYS> {
       pc = h.pc;
       status = h.status;
       fresh = h.fresh;
+      reserved = h.reserved;
       request = h.request;
       put = h.put;
       regs = h.regs;
@@ -139,6 +145,7 @@ impl<const SETS: usize, const WAYS: usize> Hart<SETS, WAYS> {
             pc: entry,
             status: Status::Running,
             fresh: false,
+            reserved: None,
             request: None,
             put: None,
             regs: first_regs(index, harts, size),

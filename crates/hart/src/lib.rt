@@ -15,6 +15,7 @@ mod local;
 mod messages;
 mod reads;
 mod reply;
+mod reservation;
 mod retire;
 mod step;
 mod transactions;

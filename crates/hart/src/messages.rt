@@ -5,10 +5,11 @@ ghost use Rattle.protocol.specs.Messages.{shown, Done};
 ghost use Rattle.protocol.specs.Lines.{refuses, line_given, line_filled, state_given};
 ghost use Rattle.protocol.specs.Hart.{Request as ProtocolRequest, quiet, sends, with_line, overflow_of};
 ghost use Rattle.protocol.specs.Requests.{granted_so_far, gives_way, grant_row, ack_row, nack_row};
-ghost use Rattle.protocol.specs.HartMessages.{message_row, forward_row, refuse_row, acknowledge_row, put_ack_row, content_held};
+ghost use Rattle.protocol.specs.HartMessages.{message_row, forward_row, refuse_row, acknowledge_row, put_ack_row, content_held, reserved_given};
 
 use crate::hart::Hart;
 use crate::reply::Reply;
+use crate::reservation::reserved_given;
 use crate::transactions::{give_way, note_refusal};
 use cache::Line;
 use conflict::{
@@ -154,17 +155,18 @@ impl<const SETS: usize, const WAYS: usize> Hart<SETS, WAYS> {
         }
     }
 
-    /// Shares a block's line, or gives it up. Without a line there is nothing to do.
+    /// Shares a block's line, or gives it up, and a reservation of the block with it. Without a line only that is to be done.
     #[inline(always)]
     fn give(&mut self, block: BlockNo, line: &Option<Line>, kind: Kind)
         requires line { line.now ≡ line_at SETS self.old.cache block }
         requires block { IfSome line.now (λ line. line.block ≡ block) }
         requires meets { refuses (option_map shown_line line.now) (overflow_of (shown_tx self.old.tx)) kind ≡ false }
         ensures hart { (output : List ℕ) → let h = shown_hart SETS output self.old in
-            shown_hart SETS output self.new ≡ with_line block (line_given kind (h.lines block)) h }
+            shown_hart SETS output self.new ≡ with_line block (line_given kind (h.lines block)) (record h { reserved = reserved_given kind block h.reserved }) }
         ensures ways { KeepsWays SETS self.old.cache self.new.cache }
         ensures stays { StaysPut self.old self.new }
     {
+        self.reserved = reserved_given(kind, block, self.reserved);
         let Some(line) = line else {
             return;
         };

@@ -106,6 +106,13 @@ impl<const SETS: usize, const WAYS: usize> Hart<SETS, WAYS> {
         self.fresh
     }
 
+    /// The block that LR has reserved.
+    pub fn reserved(&self) -> Option<BlockNo>
+        ensures { result ≡ self.now.reserved }
+    {
+        self.reserved
+    }
+
     /// The content of a block's E or M line.
     pub fn owned_content(&self, block: BlockNo) -> Option<Block>
         ensures { result ≡ owned_content (lines_of SETS self.now.cache block) }
@@ -177,6 +184,7 @@ impl<const SETS: usize, const WAYS: usize> Hart<SETS, WAYS> {
             && self.pc == other.pc
             && self.status == other.status
             && self.fresh == other.fresh
+            && self.reserved == other.reserved
             && same_request(&self.request, &other.request)
             && same_put(&self.put, &other.put)
             && same_regs(&self.regs, &other.regs)

@@ -5,15 +5,16 @@ ghost use Rattle.words.specs.Limits.{log_records};
 ghost use Rattle.words.specs.declared.entry.Entry.TheVariants.{Retire};
 ghost use Rattle.table.specs.declared.effect.Act.TheVariants as act;
 ghost use Rattle.cache.specs.Sets.{line_at};
-ghost use Rattle.flat.specs.Effects.{output_by, status_by, loaded_by, load_by, store_by};
+ghost use Rattle.flat.specs.Effects.{output_by, status_by, write_by, load_by, store_by};
 ghost use Rattle.protocol.specs.Hart.{with_line};
 ghost use Rattle.protocol.specs.Lines.{byte_in, line_used};
 ghost use Rattle.hart.specs.Rows.{with_byte};
 ghost use Rattle.protocol.specs.Core.{retire_row, no_memory, begin_row, commit_row, access_row, is_log_due, tx_used};
 
-use crate::access::{is_log_due, load_by, loaded_by, marks_after, put_by, store_by, word_put};
+use crate::access::{is_log_due, load_by, marks_after, put_by, store_by, word_put, written_by};
 use crate::hart::Hart;
 use crate::reply::CoreStep;
+use crate::reservation::reserved_begun;
 use crate::step::is_running;
 use crate::transactions::{append_record, begin, commit};
 use cache::Line;
@@ -100,17 +101,17 @@ impl<const SETS: usize, const WAYS: usize> Hart<SETS, WAYS> {
 
     /// The entry of an access to a block that has these words.
     #[inline(always)]
-    fn access_entry(&self, word: u32, m: &MemoryAct, content: &Block) -> Entry
+    fn access_entry(&self, word: u32, effect: &Effect, m: &MemoryAct, content: &Block) -> Entry
         requires { m.now.addr % bytes_in m.now.width ≡ 0 }
         ensures { let view = byte_in content.now in
             result ≡ Retire self.now.index self.now.pc word
-            (loaded_by view m.now) (load_by view (act.Memory m.now)) (store_by view (act.Memory m.now)) }
+            (write_by view effect.now (act.Memory m.now)) (load_by view (act.Memory m.now)) (store_by view (act.Memory m.now)) }
     {
         Entry::Retire {
             hart: self.index,
             pc: self.pc,
             word,
-            write: loaded_by(content, m),
+            write: written_by(content, effect, m),
             load: load_by(content, m),
             store: store_by(content, m),
         }
@@ -134,22 +135,22 @@ impl<const SETS: usize, const WAYS: usize> Hart<SETS, WAYS> {
         ensures tx { self.new.tx ≡ self.old.tx }
         ensures stays { StaysPut self.old self.new }
     {
-        self.retire_loaded(word, effect, m, content, loaded_by(content, m))
+        self.retire_written(word, effect, m, content, written_by(content, effect, m))
     }
 
     /// Retires an access that writes this register.
     #[inline(always)]
-    pub(crate) fn retire_loaded(
+    pub(crate) fn retire_written(
         &mut self,
         word: u32,
         effect: &Effect,
         m: &MemoryAct,
         content: &Block,
-        loaded: Option<(Reg, u32)>,
+        written: Option<(Reg, u32)>,
     ) -> CoreStep
         requires act { effect.now.act ≡ act.Memory m.now }
         requires aligned { m.now.addr % bytes_in m.now.width ≡ 0 }
-        requires loaded { loaded ≡ loaded_by (byte_in content.now) m.now }
+        requires written { written ≡ write_by (byte_in content.now) effect.now (act.Memory m.now) }
         ensures row { (output : List ℕ) →
             retire_row self.old.index (byte_in content.now) word effect.now (shown_hart SETS output self.old)
             ≡ stepped SETS output self.new result }
@@ -157,16 +158,16 @@ impl<const SETS: usize, const WAYS: usize> Hart<SETS, WAYS> {
         ensures tx { self.new.tx ≡ self.old.tx }
         ensures stays { StaysPut self.old self.new }
     {
-        let entry = self.access_entry(word, m, content);
+        let entry = self.access_entry(word, effect, m, content);
         self.put_status(Status::Running);
         self.pc = effect.next;
-        write_register(&mut self.regs, loaded);
+        write_register(&mut self.regs, written);
         self.fresh = false;
         CoreStep::gives(entry)
     }
 
-    /// A transaction begins, or goes one deeper. An outermost one takes a new stamp, where so many were taken, unless an abort has
-    /// left one.
+    /// A transaction begins, or goes one deeper. An outermost one leaves no block reserved, and takes a new stamp, where so many were taken,
+    /// unless an abort has left one.
     #[inline(always)]
     pub(crate) fn begin(
         &mut self,
@@ -188,12 +189,13 @@ impl<const SETS: usize, const WAYS: usize> Hart<SETS, WAYS> {
             count: taken,
             hart: self.index,
         };
+        self.reserved = reserved_begun(&self.tx, self.reserved);
         let stamped = begin(&mut self.tx, &self.regs, abort_pc, stamp);
         let step = self.retire(word, effect);
         CoreStep { stamped, ..step }
     }
 
-    /// The innermost transaction ends; the end of the outermost takes all marks away.
+    /// The innermost transaction ends; the end of the outermost takes all marks and the reservation away.
     #[inline(always)]
     pub(crate) fn commit(&mut self, word: u32, effect: &Effect) -> CoreStep
         requires act { effect.now.act ≡ act.Commit }
@@ -207,18 +209,20 @@ impl<const SETS: usize, const WAYS: usize> Hart<SETS, WAYS> {
     {
         if commit(&mut self.tx) {
             self.cache.clear_marks();
+            self.reserved = None;
             return self.retire(word, effect);
         }
         self.retire(word, effect)
     }
 
-    /// An access to a line that is enough.
+    /// An access to a line that is enough. Where it is retired, it leaves this block reserved.
     #[inline(never)]
     pub(crate) fn access_line(
         &mut self,
         word: u32,
         effect: &Effect,
         m: &MemoryAct,
+        kept: Option<BlockNo>,
         line: &Line,
     ) -> CoreStep
         requires act { effect.now.act ≡ act.Memory m.now }
@@ -228,16 +232,16 @@ impl<const SETS: usize, const WAYS: usize> Hart<SETS, WAYS> {
         requires block { line.now.block ≡ m.now.addr / 32 }
         requires owned { IsTrue line.now.marks.written → line.now.state ≡ Modified }
         ensures row { (output : List ℕ) →
-            access_row self.old.index word effect.now m.now (shown_line line.now) (shown_tx self.old.tx)
+            access_row self.old.index word effect.now m.now kept (shown_line line.now) (shown_tx self.old.tx)
             (shown_hart SETS output self.old)
             ≡ stepped SETS output self.new result }
         ensures ways { KeepsWays SETS self.old.cache self.new.cache }
         ensures stays { StaysPut self.old self.new }
     {
         if self.tx.depth() == 0 {
-            self.access_logged(word, effect, m, line, false)
+            self.access_logged(word, effect, m, kept, line, false)
         } else {
-            self.access_in_transaction(word, effect, m, line)
+            self.access_in_transaction(word, effect, m, kept, line)
         }
     }
 
@@ -248,6 +252,7 @@ impl<const SETS: usize, const WAYS: usize> Hart<SETS, WAYS> {
         word: u32,
         effect: &Effect,
         m: &MemoryAct,
+        kept: Option<BlockNo>,
         line: &Line,
         in_transaction: bool,
     ) -> CoreStep
@@ -257,7 +262,8 @@ impl<const SETS: usize, const WAYS: usize> Hart<SETS, WAYS> {
         requires block { line.now.block ≡ m.now.addr / 32 }
         requires owned { IsTrue line.now.marks.written → line.now.state ≡ Modified }
         ensures row { (output : List ℕ) →
-            let used = with_line (m.now.addr / 32) (Some (line_used in_transaction m.now (shown_line line.now))) (shown_hart SETS output self.old) in
+            let h = record (shown_hart SETS output self.old) { reserved = kept } in
+            let used = with_line (m.now.addr / 32) (Some (line_used in_transaction m.now (shown_line line.now))) h in
             retire_row self.old.index (byte_in line.now.content) word effect.now used
             ≡ stepped SETS output self.new result }
         ensures ways { KeepsWays SETS self.old.cache self.new.cache }
@@ -265,6 +271,7 @@ impl<const SETS: usize, const WAYS: usize> Hart<SETS, WAYS> {
         ensures stays { StaysPut self.old self.new }
     {
         self.use_line(m, line, in_transaction);
+        self.reserved = kept;
         self.retire_access(word, effect, m, &line.content)
     }
 
@@ -276,6 +283,7 @@ impl<const SETS: usize, const WAYS: usize> Hart<SETS, WAYS> {
         word: u32,
         effect: &Effect,
         m: &MemoryAct,
+        kept: Option<BlockNo>,
         line: &Line,
     ) -> CoreStep
         requires act { effect.now.act ≡ act.Memory m.now }
@@ -285,7 +293,7 @@ impl<const SETS: usize, const WAYS: usize> Hart<SETS, WAYS> {
         requires block { line.now.block ≡ m.now.addr / 32 }
         requires owned { IsTrue line.now.marks.written → line.now.state ≡ Modified }
         ensures row { (output : List ℕ) → let h = shown_hart SETS output self.old in
-            access_row self.old.index word effect.now m.now (shown_line line.now) (Some (running self.old.tx)) h
+            access_row self.old.index word effect.now m.now kept (shown_line line.now) (Some (running self.old.tx)) h
             ≡ stepped SETS output self.new result }
         ensures ways { KeepsWays SETS self.old.cache self.new.cache }
         ensures stays { StaysPut self.old self.new }
@@ -293,7 +301,7 @@ impl<const SETS: usize, const WAYS: usize> Hart<SETS, WAYS> {
         if !self.log_line(m, line) {
             return self.start_abort(AbortCause::LogFull);
         }
-        self.access_logged(word, effect, m, line, true)
+        self.access_logged(word, effect, m, kept, line, true)
     }
 
     /// Appends a line's words to the log, if that is due before an access. The answer is whether there was room for them.

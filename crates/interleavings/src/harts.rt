@@ -175,7 +175,7 @@ impl Rules<'_> {
             Act::Begin(abort_pc) => begin(alloc, core, *abort_pc),
             Act::Commit => self.commit(core, memory)?,
             Act::Call => call(core)?,
-            Act::Nothing | Act::Abort | Act::Break => {}
+            Act::Nothing | Act::Conditional(_, _) | Act::Abort | Act::Break => {}
         }
         if let Some((rd, value)) = effect.write {
             write(core, rd, value);

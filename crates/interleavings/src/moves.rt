@@ -2,21 +2,59 @@
 
 use crate::harts::FULL;
 use crate::rules::{Next, Order, Rules};
-use crate::states::Whole;
+use crate::states::{Core, Whole};
 use std::alloc::{AllocError, Global};
-use table::{Act, Effect};
+use table::{Act, Effect, MemoryAct};
 use words::{Addr, Cause, Status};
 
-/// Whether an effect loads or stores.
+/// Whether an effect loads or stores, or may.
 fn is_access(effect: &Effect) -> bool {
-    matches!(&effect.act, Act::Memory(_))
+    matches!(&effect.act, Act::Memory(_) | Act::Conditional(_, _))
 }
 
-/// Whether an effect stores.
+/// Whether an effect stores, or may.
 fn is_store(effect: &Effect) -> bool {
     match &effect.act {
-        Act::Memory(m) => m.store.is_some(),
+        Act::Memory(m) | Act::Conditional(_, m) => m.store.is_some(),
         _ => false,
+    }
+}
+
+/// The block of an access.
+fn block_of(m: &MemoryAct) -> u32 {
+    m.addr.value() / 32
+}
+
+/// The block that an act stores to.
+fn block_stored(act: &Act) -> Option<u32> {
+    match act {
+        Act::Memory(m) if m.store.is_some() => Some(block_of(m)),
+        _ => None,
+    }
+}
+
+/// The block that a hart has reserved after its own word.
+fn reserved_after(core: &Core, act: &Act) -> Option<u32> {
+    match act {
+        Act::Memory(m) => match m.load {
+            Some(load) if load.reserves => Some(block_of(m)),
+            _ => core.reserved,
+        },
+        Act::Conditional(_, _) => None,
+        Act::Begin(_) if core.depth() == 0 => None,
+        Act::Commit if core.depth() == 1 => None,
+        _ => core.reserved,
+    }
+}
+
+/// Ends the reservations of a block, but for this hart's.
+fn end_reservations(cores: &mut Vec<Core>, this: usize, block: u32) {
+    for k in 0..cores.len() {
+        if let Some(core) = cores.get_mut(k) {
+            if k != this && core.reserved == Some(block) {
+                core.reserved = None;
+            }
+        }
     }
 }
 
@@ -27,6 +65,7 @@ fn rolled_back(state: &Whole, i: usize, cause: Option<Cause>) -> Result<Whole, A
         if let Some(cause) = cause {
             core.status = Status::Stopped(cause, Addr::new(core.pc));
         }
+        core.reserved = None;
         if let Some(attempt) = core.attempt.take() {
             let checkpoint = attempt.checkpoint;
             core.regs = checkpoint;
@@ -48,7 +87,17 @@ impl Rules<'_> {
     /// Whether an effect is kept out by another hart's transaction.
     fn is_kept_out(&self, state: &Whole, i: usize, effect: &Effect) -> bool {
         match &effect.act {
-            Act::Memory(m) => state.is_kept_from(i, m.addr.value() / 32, m.store.is_some()),
+            Act::Memory(m) | Act::Conditional(_, m) => {
+                state.is_kept_from(i, block_of(m), m.store.is_some())
+            }
+            _ => false,
+        }
+    }
+
+    /// Whether an effect is a conditional store to a block that its hart hasn't reserved.
+    fn has_lost(&self, state: &Whole, i: usize, effect: &Effect) -> bool {
+        match (&effect.act, state.cores.get(i)) {
+            (Act::Conditional(_, m), Some(core)) => core.reserved != Some(block_of(m)),
             _ => false,
         }
     }
@@ -92,20 +141,27 @@ impl Rules<'_> {
 
 // The moves.
 impl Rules<'_> {
-    /// The state after an effect of a hart.
+    /// The state after an effect of a hart, where a conditional store succeeds or fails.
     fn retired(
         &self,
         alloc: Global,
         state: &Whole,
         i: usize,
         effect: &Effect,
+        succeeds: bool,
     ) -> Result<Whole, AllocError> {
+        let done = effect.resolved(succeeds);
         let Whole {
             mut cores,
             mut memory,
         } = state.copy()?;
         if let Some(core) = cores.get_mut(i) {
-            self.retire(alloc, core, &mut memory, effect)?;
+            let reserved = reserved_after(core, &effect.act);
+            self.retire(alloc, core, &mut memory, &done)?;
+            core.reserved = reserved;
+        }
+        if let Some(block) = block_stored(&done.act) {
+            end_reservations(&mut cores, i, block);
         }
         Ok(Whole { cores, memory })
     }
@@ -125,8 +181,12 @@ impl Rules<'_> {
                 moves.push(rolled_back(state, i, None)?)?;
             }
             Next::Does(effect) => {
-                if !self.is_kept_out(state, i, &effect) {
-                    moves.push(self.retired(alloc, state, i, &effect)?)?;
+                let is_failure = self.has_lost(state, i, &effect);
+                if !is_failure && !self.is_kept_out(state, i, &effect) {
+                    moves.push(self.retired(alloc, state, i, &effect, true)?)?;
+                }
+                if let Act::Conditional(_, _) = effect.act {
+                    moves.push(self.retired(alloc, state, i, &effect, false)?)?;
                 }
             }
         }

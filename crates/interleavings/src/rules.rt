@@ -131,7 +131,7 @@ impl Rules<'_> {
     fn act_cause(&self, core: &Core, act: &Act) -> Option<Cause> {
         match act {
             Act::Nothing => None,
-            Act::Memory(m) => self.access_cause(m),
+            Act::Memory(m) | Act::Conditional(_, m) => self.access_cause(m),
             Act::Begin(_) => cause_if(core.depth() == 255, Cause::TooDeep),
             Act::Commit | Act::Abort => cause_if(core.depth() == 0, Cause::OutsideTransaction),
             Act::Call => call_cause(core),
@@ -183,6 +183,7 @@ impl Rules<'_> {
                 output: Vec::new(alloc),
                 status: Status::Running,
                 attempt: None,
+                reserved: None,
             })?;
         }
         Ok(Whole {

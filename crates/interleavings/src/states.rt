@@ -26,6 +26,8 @@ pub(crate) struct Core {
     #[derive_where(skip(Hash))]
     pub(crate) status: Status,
     pub(crate) attempt: Option<Attempt>,
+    /// The block that it has reserved.
+    pub(crate) reserved: Option<u32>,
 }
 
 /// A state: the harts, and the bytes of memory that differ from those that it began with.

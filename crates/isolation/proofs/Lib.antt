@@ -20,3 +20,5 @@ pub mod Together
 pub mod Beside
 pub mod Reached
 pub mod Leading
+pub mod Reserving
+pub mod Reserved

@@ -1,6 +1,6 @@
 -- A word that nobody else sees may go before the others' moves.
 use Rattle.std.proofs.Common.{◌≡◌, ◌≢◌, ◌⊎◌, ℕ, Bool, true, false, cond, Option, Some, None, Result, Ok, Err, List, [], ◌∷◌, inl, inr, refl, sym, ap, ◌∙◌, subst}
-use Rattle.std.specs.Prelude.{◌==◌, IsSome, IsOkAnd}
+use Rattle.std.specs.Prelude.{is_some, ◌==◌, IsSome, IsOkAnd}
 use Rattle.words.specs.declared.cause.Cause.{Cause}
 use Rattle.words.specs.declared.cause.Status.TheVariants.{Running}
 use Rattle.words.specs.declared.cause.AbortCause.TheVariants.{Asked, Conflict, LogFull, Trapped}
@@ -10,14 +10,20 @@ use Rattle.table.specs.declared.effect.Effect.{Effect}
 use Rattle.table.specs.declared.effect.Act.TheVariants as act
 use Rattle.table.specs.Effects.{with_reg}
 use Rattle.flat.specs.State.{Flat, FlatHart, Tx, flat_view}
-use Rattle.flat.specs.Causes.{next_of}
-use Rattle.flat.specs.Effects.{mem_by, tx_by}
+use Rattle.flat.specs.Causes.{next_of, done_next}
+use Rattle.flat.specs.Effects.{mem_by, tx_by, retire_of}
 use Rattle.flat.specs.Steps.{Carries, IsRunning, Retires, retired, is_abort, is_store, hart_of}
 use Rattle.flat.specs.Attempts.{with_hart}
 use Rattle.flat.proofs.Maps.{one_number, two_numbers, put_elsewhere}
 use Rattle.flat.proofs.Entries.{retired_by, aborted_by, others_stay}
-use Rattle.isolation.proofs.Words.NextWord.{word_next}
-use Rattle.isolation.specs.Moves.{is_access, IsAtAccess, IsBeside, MayGiveWay, MovesBy, MoveTogether, Moves}
+use Rattle.isolation.proofs.Words.NextWord.{word_next, next_done}
+use Rattle.isolation.proofs.Words.Decoding.{Reserves, next_reserves}
+use Rattle.flat.specs.Order.{store_in}
+use Rattle.flat.specs.Reservations.{Reservations, reserved_by, reserved_beside, reserved_after}
+use Rattle.words.specs.declared.entry.Access.{Access}
+use Rattle.table.specs.Table.{decoded}
+use Rattle.std.specs.Option.{unwrap_or}
+use Rattle.isolation.specs.Moves.{depths, reserved_behind, is_access, IsAtAccess, IsBeside, MayGiveWay, MovesBy, MoveTogether, Moves}
 use Rattle.isolation.proofs.Walked.{by_move, moves_carry}
 use Rattle.isolation.proofs.Unseen.{other_entry, claims_same}
 
@@ -68,7 +74,7 @@ local_retires f i next write here =
     let a = word_next f.setting (f.hart i) (local next write) here.word in
     let entry = Retire i (f.hart i).pc a.0 write None None in (
       a.0,
-      subst (λ n. IsOkAnd n (λ d. Retires f i a.0 d entry (went f i next write))) (sym here.word) (record {
+      subst (λ n. IsOkAnd n (λ d. Retires f i a.0 d entry (went f i next write))) (sym (next_done f.setting (f.hart i) (local next write) false here.word)) (record {
         running = here.running;
         fetched = a.1;
         no_abort = refl;
@@ -149,8 +155,9 @@ module _ (f : Flat) (i next : ℕ) (write : Option (ℕ × ℕ)) (here : IsAtLoc
   own_move : (g : Flat) (e : Entry) → hart_of e ≡ i → MovesBy f e g → g ≡ went f i next write
   own_move g (Retire k pc w y l s) own m =
       let r = retired_by f g k pc w y l s m in
-      let word : next_of f.setting (f.hart k) ≡ Ok (local next write) = ap (λ n. next_of f.setting (f.hart n)) own ∙ here.word in
-      let same : r.0 ≡ local next write = same_ok r.0 (local next write) (next_of f.setting (f.hart k)) r.1 word in
+      let word : done_next (is_some s) f.setting (f.hart k) ≡ Ok (local next write) =
+      ap (λ n. done_next (is_some s) f.setting (f.hart n)) own ∙ next_done f.setting (f.hart i) (local next write) (is_some s) here.word in
+      let same : r.0 ≡ local next write = same_ok r.0 (local next write) (done_next (is_some s) f.setting (f.hart k)) r.1 word in
       r.2.after ∙ (λ p. retired f (own p) (same p)) ∙ retired_local f i next write
   own_move g (Abort k Asked) own m =
       let r = aborted_by f g k Asked m in
@@ -166,9 +173,45 @@ module _ (f : Flat) (i next : ℕ) (write : Option (ℕ × ℕ)) (here : IsAtLoc
   own_move g (Refuse k j b) own m = absurd m
   own_move g (Spill k b) own m = absurd m
 
+  -- and leaves the reservations
+  retire_leaves : (g : Flat) (k pc w : ℕ) (y : Option (ℕ × ℕ)) (l s : Option Access) → k ≡ i → Carries f (Retire k pc w y l s) g → (r : Reservations) → reserved_after (depths f) (Retire k pc w y l s) r ≡ r
+  retire_leaves g k pc w y l s own m r =
+      let a = retired_by f g k pc w y l s m in
+      let word : done_next (is_some s) f.setting (f.hart k) ≡ Ok (local next write) =
+      ap (λ n. done_next (is_some s) f.setting (f.hart n)) own ∙ next_done f.setting (f.hart i) (local next write) (is_some s) here.word in
+      let same : a.0 ≡ local next write = same_ok a.0 (local next write) (done_next (is_some s) f.setting (f.hart k)) a.1 word in
+      let no_store : s ≡ None = ap store_in (a.2.entry ∙ ap (λ (d : Effect). retire_of (flat_view f k) k (f.hart k) w d) same) in
+      let tells : Reserves (decoded w) act.Nothing =
+      subst (λ o. Reserves (decoded (unwrap_or o 0)) act.Nothing) a.2.fetched (next_reserves f.setting (f.hart k) (local next write) (ap (λ n. next_of f.setting (f.hart n)) own ∙ here.word)) in
+      let at : (j : ℕ) (b : Bool) → (j == k) ≡ b → cond b (reserved_by (decoded w) (depths f k) l (r k)) (reserved_beside s (r j)) ≡ r j = λ j b.
+      elim b as (λ (b : Bool). (j == k) ≡ b → cond b (reserved_by (decoded w) (depths f k) l (r k)) (reserved_beside s (r j)) ≡ r j) [
+        | true ↦ λ e. tells.reserved (depths f k) l (r k) ∙ ap r (sym (one_number j k e))
+        | false ↦ λ e. ap (λ z. reserved_beside z (r j)) no_store
+      ] in
+      λ p j. at j (j == k) refl p
+
+  own_leaves : (g : Flat) (e : Entry) → hart_of e ≡ i → MovesBy f e g → (r : Reservations) → reserved_after (depths f) e r ≡ r
+  own_leaves g (Retire k pc w y l s) own m = retire_leaves g k pc w y l s own m
+  own_leaves g (Abort k Asked) own m =
+      let r = aborted_by f g k Asked m in
+      absurd (no_other (λ e. is_abort e.act ≡ true) (λ z. cc) (subst (λ n. IsOkAnd (next_of f.setting (f.hart n)) (λ e. is_abort e.act ≡ true)) own r.2.due))
+  own_leaves g (Abort k Conflict) own m = absurd (no_access (subst (IsAtAccess f) own m.0.access))
+  own_leaves g (Abort k LogFull) own m =
+      let r = aborted_by f g k LogFull m in
+      absurd (no_other (λ e. is_store e.act ≡ true) (λ z. cc) (subst (λ n. IsOkAnd (next_of f.setting (f.hart n)) (λ e. is_store e.act ≡ true)) own r.2.due.0))
+  own_leaves g (Abort k (Trapped c p)) own m =
+      let r = aborted_by f g k (Trapped c p) m in
+      absurd (no_cause c (ap (λ n. next_of f.setting (f.hart n)) (sym own) ∙ r.2.due.1))
+  own_leaves g (Trap k c p) own m = absurd (no_cause c (ap (λ n. next_of f.setting (f.hart n)) (sym own) ∙ m.caused))
+  own_leaves g (Refuse k j b) own m = absurd m
+  own_leaves g (Spill k b) own m = absurd m
+
+  pub local_leaves : (pc w : ℕ) → Carries f (Retire i pc w write None None) (went f i next write) → (r : Reservations) → reserved_after (depths f) (Retire i pc w write None None) r ≡ r
+  local_leaves pc w m r = retire_leaves (went f i next write) i pc w write None None refl m r
+
   -- a move is this word's, or goes on after it, and leaves the hart where it is
   abbrev pub IsLater : Flat → List Entry → Type 0
-  IsLater g es = (g ≡ went f i next write) ⊎ (Moves (went f i next write) es (went g i next write) × (g.hart i ≡ f.hart i))
+  IsLater g es = ((g ≡ went f i next write) × ((r : Reservations) → reserved_behind f r es ≡ r)) ⊎ (Moves (went f i next write) es (went g i next write) × (g.hart i ≡ f.hart i))
 
   later : (g : Flat) (es : List Entry) → g.hart i ≡ f.hart i → Moves (went f i next write) es (with_hart g i (advanced (f.hart i) next write)) → IsLater g es
   later g es still m = inr (subst (λ h. Moves (went f i next write) es (with_hart g i (advanced h next write))) (sym still) m, still)
@@ -178,7 +221,7 @@ module _ (f : Flat) (i next : ℕ) (write : Option (ℕ × ℕ)) (here : IsAtLoc
     one : (e : Entry) → MovesBy f e g → IsLater g (e ∷ [])
     one e k = by (hart_of e == i) refl where
       by : (t : Bool) → (hart_of e == i) ≡ t → IsLater g (e ∷ [])
-      by true z = inl (own_move g e (one_number (hart_of e) i z) k)
+      by true z = inl (own_move g e (one_number (hart_of e) i z) k, own_leaves g e (one_number (hart_of e) i z) k)
       by false z =
           let ne = two_numbers (hart_of e) i z in
           later g (e ∷ []) (others_stay f g e (moves_carry f g e k) i (λ y. ne (sym y))) (one_still f i (advanced (f.hart i) next write) refl g e ne k)

@@ -14,15 +14,15 @@ use Rattle.table.specs.declared.effect.Act.{Act}
 use Rattle.table.specs.declared.effect.Act.TheVariants as act
 use Rattle.table.specs.Table.{decoded}
 use Rattle.flat.specs.State.{Setting, Flat, FlatHart, Tx, flat_view}
-use Rattle.flat.specs.Causes.{next_of, act_cause, depth_of, is_known_call}
+use Rattle.flat.specs.Causes.{done_next, act_cause, depth_of, is_known_call}
 use Rattle.flat.specs.Effects.{tx_by, tx_got, tx_put, put_by, hart_after, status_by}
 use Rattle.flat.specs.Steps.{Carries, Retires, hart_of}
 use Rattle.flat.specs.Reasons.{Past, History, told, past_begun, past_retired}
 use Rattle.flat.proofs.Maps.{one_number, two_numbers, put_there, put_elsewhere}
-use Rattle.flat.proofs.Next.{next_ok}
+use Rattle.flat.proofs.Next.{done_ok}
 use Rattle.flat.proofs.Entries.{retired_by, aborted_by, hart_retired, hart_back, others_stay, setting_stays}
 use Rattle.flat.proofs.Grows.{some_none}
-use Rattle.isolation.proofs.Words.Decoding.{past_after, decoded_past}
+use Rattle.isolation.proofs.Words.Decoding.{past_after, done_past}
 
 -- a hart's depth is that of the entries, and in a transaction it runs
 pub record Agrees (s : Setting) (i : ℕ) (x : FlatHart) (p : Past) : Type 0 where
@@ -65,6 +65,7 @@ depth_after view h None taken i (act.Begin x) p e = let more = begun_depth taken
 depth_after view h None taken i act.Commit p e = omega (arith, e)
 depth_after view h None taken i act.Nothing p e = e
 depth_after view h None taken i (act.Memory m) p e = e
+depth_after view h None taken i (act.Conditional rd m) p e = e
 depth_after view h None taken i act.Abort p e = e
 depth_after view h None taken i act.Call p e = e
 depth_after view h None taken i act.Break p e = e
@@ -72,6 +73,7 @@ depth_after view h (Some t) taken i (act.Begin x) p e = ap (λ d. d + 1) e ∙ b
 depth_after view h (Some t) taken i act.Commit p e = commit_depth t p.depth e
 depth_after view h (Some t) taken i act.Nothing p e = e
 depth_after view h (Some t) taken i (act.Memory m) p e = access_depth t m m.load (put_by view m) ∙ e
+depth_after view h (Some t) taken i (act.Conditional rd m) p e = e
 depth_after view h (Some t) taken i act.Abort p e = e
 depth_after view h (Some t) taken i act.Call p e = e
 depth_after view h (Some t) taken i act.Break p e = e
@@ -87,10 +89,10 @@ runs_after s h view a e k = refl
 -- One entry
 
 -- a retired word tells the history what its act does
-pub retired_past : (f g : Flat) (i word : ℕ) (d : Effect) (e : Entry) (h : History) → next_of f.setting (f.hart i) ≡ Ok d → Retires f i word d e g
+pub retired_past : (f g : Flat) (i word : ℕ) (b : Bool) (d : Effect) (e : Entry) (h : History) → done_next b f.setting (f.hart i) ≡ Ok d → Retires f i word d e g
     → past_retired h.taken i (decoded word) (h.past i) ≡ past_after h.taken i d.act (h.past i)
-retired_past f g i word d e h next r =
-    ap (λ o. past_retired h.taken i (decoded (unwrap_or o 0)) (h.past i)) (sym r.fetched) ∙ decoded_past f.setting (f.hart i) d next h.taken i (h.past i)
+retired_past f g i word b d e h done r =
+    ap (λ o. past_retired h.taken i (decoded (unwrap_or o 0)) (h.past i)) (sym r.fetched) ∙ done_past f.setting (f.hart i) b d done h.taken i (h.past i)
 
 -- what holds at one hart and at each other holds at all
 each_hart : (P : ℕ → Type 0) (i : ℕ) → P i → ((j : ℕ) → j ≢ i → P j) → (j : ℕ) → P j
@@ -127,9 +129,9 @@ agree_next f g h (Retire i pc w x l s) k all =
     each_hart (λ j. Agrees g.setting j (g.hart j) ((told h (Retire i pc w x l s)).past j)) i
     (subst (λ (z : Setting). Agrees z i (g.hart i) ((told h (Retire i pc w x l s)).past i)) (sym setting)
     (subst (λ y. Agrees f.setting i y ((told h (Retire i pc w x l s)).past i)) (sym (hart_retired f g i r.0 r.2.after))
-    (subst (λ p. Agrees f.setting i (hart_after (flat_view f i) (f.hart i) r.0) p) (sym (put_there i (past_retired h.taken i (decoded w) (h.past i)) h.past ∙ retired_past f g i w r.0 (Retire i pc w x l s) h r.1 r.2)) (record {
+    (subst (λ p. Agrees f.setting i (hart_after (flat_view f i) (f.hart i) r.0) p) (sym (put_there i (past_retired h.taken i (decoded w) (h.past i)) h.past ∙ retired_past f g i w (is_some s) r.0 (Retire i pc w x l s) h r.1 r.2)) (record {
       depth = depth_after (flat_view f i) (f.hart i) (f.hart i).tx h.taken i r.0.act (h.past i) (all i).depth;
-      inside = λ inside. (r.2.running.hart, runs_after f.setting (f.hart i) (flat_view f i) r.0.act (next_ok f.setting (f.hart i) r.0 r.1) inside);
+      inside = λ inside. (r.2.running.hart, runs_after f.setting (f.hart i) (flat_view f i) r.0.act (done_ok f.setting (f.hart i) (is_some s) r.0 r.1) inside);
     }))))
     (λ j ne. rest f g h (Retire i pc w x l s) k j ne (put_elsewhere i j (past_retired h.taken i (decoded w) (h.past i)) h.past ne) (all j))
 agree_next f g h (Abort i c) k all =

@@ -3,7 +3,7 @@ use Rattle.std.proofs.Common.{◌≡◌, ◌≢◌, ◌<◌, ℕ, List, ◌∷�
 use Rattle.words.specs.declared.cause.Status.TheVariants.{Running}
 use Rattle.words.specs.declared.cause.AbortCause.TheVariants.{Conflict}
 use Rattle.words.specs.declared.entry.Entry.{Entry}
-use Rattle.words.specs.declared.entry.Entry.TheVariants.{Abort, Refuse}
+use Rattle.words.specs.declared.entry.Entry.TheVariants.{Retire, Abort, Refuse}
 use Rattle.words.specs.declared.entry.Step.{Step}
 use Rattle.table.specs.Program.{AreBytes}
 use Rattle.flat.specs.State.{Setting, Flat}
@@ -17,16 +17,20 @@ use Rattle.protocol.specs.Start.{start}
 use Rattle.isolation.specs.Belongs.{Belongs}
 use Rattle.isolation.proofs.Belongs.Belonging.{belongs_after, answers_after, refusal_among, conflict_among}
 use Rattle.isolation.proofs.Rooms.StepsExist.{keys_of}
+use Rattle.isolation.specs.Moves.{first_place}
 use Rattle.isolation.specs.Walks.{IsEnded, WalksInOrder}
 use Rattle.isolation.specs.Reasons.{HasReason, HaveReasons}
+use Rattle.flat.specs.Reservations.{reservations_of}
+use Rattle.isolation.proofs.Reserved.{store_among}
 use Rattle.isolation.proofs.InOrder.{in_order}
 use Rattle.isolation.proofs.Beside.{walk_there}
 
 -- each entry of the coherent machine's has its reason
 pub reason_among : (g : Geometry) (s : Setting) (entry : ℕ) (steps : List Step) (w : Machine) (before after : List Entry) (e : Entry) (f : Flat)
-    → AreBytes s.segments → Runs g (start s entry) steps (before ++ e ∷ after) w → IsRun (first_state s entry) before f → HasReason f (history_of no_history before) e
+    → AreBytes s.segments → Runs g (start s entry) steps (before ++ e ∷ after) w → IsRun (first_state s entry) before f → HasReason f (history_of no_history before) (reservations_of before) e
 reason_among g s entry steps w before after (Refuse j i b) f bytes runs run = refusal_among g s entry steps before after f w j i b bytes runs run
 reason_among g s entry steps w before after (Abort i Conflict) f bytes runs run = conflict_among g s entry steps before after w i bytes runs
+reason_among g s entry steps w before after (Retire i pc word write load store) f bytes runs run = store_among g s entry bytes steps before after w i pc word write load store runs
 reason_among g s entry steps w before after e f bytes runs run = tt
 
 pub have_reasons : (g : Geometry) (s : Setting) (entry : ℕ) (steps : List Step) (es : List Entry) (w : Machine) → AreBytes s.segments → Runs g (start s entry) steps es w → HaveReasons (first_state s entry) es
@@ -41,11 +45,11 @@ ended_with g f w b stopped i lt runs =
 
 pub end_reached : (g : Geometry) (s : Setting) (entry : ℕ) (steps : List Step) (es : List Entry) (w : Machine)
     → AreBytes s.segments → Runs g (start s entry) steps es w → ((i : ℕ) → i < s.count → (w.harts i).status ≢ Running)
-    → (f : Flat) × (ess : List (List Entry)) × WalksInOrder (first_state s entry) ess f × IsEnded f × Belongs g f w
+    → (f : Flat) × (ess : List (List Entry)) × WalksInOrder (first_place s entry) ess (record { flat = f; reserved = reservations_of es }) × IsEnded f × Belongs g f w
 end_reached g s entry steps es w bytes runs stopped =
     let b = belongs_after g s entry steps es w bytes runs in
     let setting : b.0.setting ≡ s = run_setting (first_state s entry) b.0 es b.1 in
     let ended = ended_with g b.0 w b.2 (λ i lt. stopped i (subst (λ (z : Setting). i < z.count) setting lt)) in
     let walk = walk_there s entry es b.0 (have_reasons g s entry steps es w bytes runs) b.1 in
-    let order = in_order (first_state s entry) b.0 walk.0 walk.1 ended in
+    let order = in_order (first_place s entry) (record { flat = b.0; reserved = reservations_of es }) walk.0 walk.1 ended in
     (b.0, order.0, order.1, ended, b.2)

@@ -6,12 +6,14 @@ use Rattle.words.specs.declared.entry.Entry.TheVariants.{Abort}
 use Rattle.words.specs.declared.cause.AbortCause.TheVariants.{Conflict}
 use Rattle.flat.specs.State.{Setting, Flat, FlatHart, Tx}
 use Rattle.flat.specs.Steps.{Carries, IsRunning, aborted}
-use Rattle.flat.proofs.Maps.{one_number, two_numbers}
+use Rattle.flat.specs.Bytes.{put_at}
+use Rattle.flat.specs.Reservations.{Reservations}
+use Rattle.flat.proofs.Maps.{one_number, two_numbers, put_in_turn}
 use Rattle.flat.proofs.Entries.{others_stay, setting_stays}
 use Rattle.flat.proofs.Grows.{some_none}
-use Rattle.isolation.specs.Moves.{IsAtAccess, IsBeside, MoveTogether}
+use Rattle.isolation.specs.Moves.{IsAtAccess, IsBeside, MoveTogether, Place}
 use Rattle.isolation.proofs.Lowest.{lowest_below}
-use Rattle.isolation.proofs.Waits.{Reaches, Waits, rolls_back, reach_more, gives_way, access_stays, rolled_back_on}
+use Rattle.isolation.proofs.Waits.{Reaches, place, back_at, Waits, rolls_back, reach_more, gives_way, access_stays, rolled_back_on}
 
 -- a third hart is in a transaction
 record IsThird (f : Flat) (i j k : ℕ) : Type 0 where
@@ -32,7 +34,7 @@ beside : (f : Flat) (i j : ℕ) (t : Tx) → IsRunning f j → (f.hart j).tx ≡
 beside f i j t running is ne = record { other = j; hart = running.hart; apart = ne; inside = subst (λ o. IsSome o) (sym is) refl }
 
 -- hart i aborts, and hart j waits in its transaction
-module _ (start f g : Flat) (i j : ℕ) (k : Carries f (Abort i Conflict) g) (ne : j ≢ i) (t u : Tx)
+module _ (start : Place) (f g : Flat) (r : Reservations) (i j : ℕ) (k : Carries f (Abort i Conflict) g) (ne : j ≢ i) (t u : Tx)
     (runs : (n : ℕ) → IsSome (f.hart n).tx → IsRunning f n) (is : (f.hart i).tx ≡ Some t) (is_too : (f.hart j).tx ≡ Some u) where
   running : IsRunning f i
   running = runs i (subst (λ o. IsSome o) (sym is) refl)
@@ -78,14 +80,18 @@ module _ (start f g : Flat) (i j : ℕ) (k : Carries f (Abort i Conflict) g) (ne
     }
 
     -- of the two alone both may abort together
-    reach_together : Reaches start f → Reaches start (aborted g j Conflict u)
+    reach_together : Reaches start (place f r) → Reaches start (back_at g (put_at i None r) j u)
     reach_together reach = elim (cases_lt i j) [
-      | inl lt ↦ reach_more start f (aborted g j Conflict u) (Abort i Conflict ∷ Abort j Conflict ∷ []) reach (together_after lt)
-      | inr le ↦ reach_more start f (aborted g j Conflict u) (Abort j Conflict ∷ Abort i Conflict ∷ []) reach (together_before (omega (arith, le, ne)))
+      | inl lt ↦ reach_more start (place f r) (back_at g (put_at i None r) j u) (Abort i Conflict ∷ Abort j Conflict ∷ []) reach (record { moves = together_after lt; reason = tt; reserved = refl })
+      | inr le ↦ reach_more start (place f r) (back_at g (put_at i None r) j u) (Abort j Conflict ∷ Abort i Conflict ∷ []) reach (record {
+        moves = together_before (omega (arith, le, ne));
+        reason = tt;
+        reserved = λ p n. put_in_turn j i n None None r ne p;
+      })
     ]
 
   -- so hart j still waits
-  pub waits_beside : Reaches start f → IsAtAccess f i → Waits start f j u → Waits start g j u
+  pub waits_beside : Reaches start (place f r) → IsAtAccess f i → Waits start f r j u → Waits start g (put_at i None r) j u
   waits_beside reach access w = record {
     access = access_stays f g (Abort i Conflict) j k ne w.access;
     way = elim (lowest_below (IsThird f i j) (third_or_not f i j) f.setting.count) [

@@ -1,5 +1,5 @@
 -- What walks are made of: each move's entries are a run, and so are those of a walk.
-use Rattle.std.proofs.Common.{◌≡◌, ℕ, List, [], ◌∷◌, ◌++◌, refl, subst}
+use Rattle.std.proofs.Common.{◌≡◌, ℕ, List, [], ◌∷◌, ◌++◌, refl, ap, subst}
 use Rattle.words.specs.declared.entry.Entry.{Entry}
 use Rattle.words.specs.declared.entry.Entry.TheVariants.{Retire, Abort, Trap, Refuse, Spill}
 use Rattle.words.specs.declared.cause.AbortCause.TheVariants.{Asked, Conflict, LogFull, Trapped}
@@ -7,7 +7,7 @@ use Rattle.flat.specs.State.{Flat}
 use Rattle.flat.specs.Steps.{Carries, IsRun, IsRunning, hart_of}
 use Rattle.flat.proofs.Entries.{retired_by, aborted_by}
 use Rattle.flat.proofs.Runs.{run_then, run_setting}
-use Rattle.isolation.specs.Moves.{MovesBy, MoveTogether, Moves}
+use Rattle.isolation.specs.Moves.{MovesBy, MoveTogether, Moves, Place, Leads}
 use Rattle.isolation.specs.Walks.{IsEnded, Walks, WalksInOrder, entries_of}
 
 -- an entry that moves carries
@@ -37,27 +37,27 @@ move_runs f g es m =
     es m
 
 -- and so are those of a walk
-pub walk_runs : (f g : Flat) (ess : List (List Entry)) → Walks f ess g → IsRun f (entries_of ess) g
-walk_runs f g [] k = k
-walk_runs f g (es ∷ rest) k = run_then f k.0 g es (entries_of rest) (move_runs f k.0 es k.1) (walk_runs k.0 g rest k.2)
+pub walk_runs : (p q : Place) (ess : List (List Entry)) → Walks p ess q → IsRun p.flat (entries_of ess) q.flat
+walk_runs p q [] k = ap (λ (x : Place). x.flat) k
+walk_runs p q (es ∷ rest) k = run_then p.flat k.0.flat q.flat es (entries_of rest) (move_runs p.flat k.0.flat es k.1.moves) (walk_runs k.0 q rest k.2)
 
 -- a walk in order is a walk
-pub order_walks : (f g : Flat) (ess : List (List Entry)) → WalksInOrder f ess g → Walks f ess g
-order_walks f g [] k = k
-order_walks f g (es ∷ rest) k = (k.0, k.1.moves, order_walks k.0 g rest k.2)
+pub order_walks : (p q : Place) (ess : List (List Entry)) → WalksInOrder p ess q → Walks p ess q
+order_walks p q [] k = k
+order_walks p q (es ∷ rest) k = (k.0, record { moves = k.1.moves.moves; reason = k.1.reason; reserved = k.1.reserved }, order_walks k.0 q rest k.2)
 
 -- a walk goes on by one move
-pub walk_more : (f g h : Flat) (ess : List (List Entry)) (es : List Entry) → Walks f ess g → Moves g es h → Walks f (ess ++ es ∷ []) h
-walk_more f g h [] es k m = (h, subst (λ z. Moves z es h) k m, refl)
-walk_more f g h (ds ∷ rest) es k m = (k.0, k.1, walk_more k.0 g h rest es k.2 m)
+pub walk_more : (p q r : Place) (ess : List (List Entry)) (es : List Entry) → Walks p ess q → Leads q es r → Walks p (ess ++ es ∷ []) r
+walk_more p q r [] es k m = (r, subst (λ z. Leads z es r) k m, refl)
+walk_more p q r (ds ∷ rest) es k m = (k.0, k.1, walk_more k.0 q r rest es k.2 m)
 
 -- a move leaves the setting
 pub move_setting : (f g : Flat) (es : List Entry) → Moves f es g → g.setting ≡ f.setting
 move_setting f g es m = run_setting f g es (move_runs f g es m)
 
 -- and so does a walk
-pub walk_setting : (f g : Flat) (ess : List (List Entry)) → Walks f ess g → g.setting ≡ f.setting
-walk_setting f g ess k = run_setting f g (entries_of ess) (walk_runs f g ess k)
+pub walk_setting : (p q : Place) (ess : List (List Entry)) → Walks p ess q → q.flat.setting ≡ p.flat.setting
+walk_setting p q ess k = run_setting p.flat q.flat (entries_of ess) (walk_runs p q ess k)
 
 -- the hart of an entry that moves runs
 pub mover_runs : (f g : Flat) (e : Entry) → MovesBy f e g → IsRunning f (hart_of e)

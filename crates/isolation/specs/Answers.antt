@@ -1,10 +1,10 @@
 -- What a machine answers, beside the flat state that belongs to it.
-use Rattle.std.specs.Prelude.{ℕ, ◌≡◌, ◌<◌, ◌/◌, true, false, Option}
+use Rattle.std.specs.Prelude.{ℕ, ◌≡◌, ◌<◌, ◌/◌, true, false, Option, is_some}
 use Rattle.words.specs.declared.entry.Access.{Access}
 use Rattle.words.specs.declared.entry.Entry.TheVariants.{Retire}
 use Rattle.std.specs.Prelude.{Ok, Some}
 use Rattle.table.specs.declared.effect.Effect.{Effect}
-use Rattle.table.specs.Effects.{with_reg}
+use Rattle.table.specs.Effects.{with_reg, resolved}
 use Rattle.table.specs.Table.{effect_of}
 use Rattle.table.specs.Program.{word_at}
 use Rattle.flat.specs.State.{Flat, flat_view, has_written}
@@ -24,11 +24,11 @@ pub record AnswersAs (keys : ℕ) (w : Machine) (f : Flat) : Type 0 where
   pub raw_unwritten : (a : ℕ) → ((i : ℕ) → i < w.setting.count → has_written (f.hart i).tx (a / 32) ≡ false) → raw keys w a ≡ f.mem a
 
 -- hart i of v retired a word, with this entry, and became hart i of w: it is the text's word at its pc, with the effect that the
--- instruction table gives it at the hart's registers; the entry is that effect's, by what the hart sees in the flat machine, and so are the
--- registers and pc that it leaves
+-- instruction table gives it at the hart's registers (a conditional store succeeded if the entry has a store); the entry is that effect's, by what the hart sees
+-- in the flat machine, and so are the registers and pc that it leaves
 pub record IsRow (v w : Machine) (f : Flat) (i at word : ℕ) (write : Option (ℕ × ℕ)) (load store : Option Access) (does : Effect) : Type 0 where
   pub fetched : word_at v.setting.segments (v.harts i).pc ≡ Some word
-  pub effect : effect_of word (v.harts i).pc (v.harts i).regs ≡ Ok does
+  pub effect : (row : Effect) × (effect_of word (v.harts i).pc (v.harts i).regs ≡ Ok row) × (does ≡ resolved (is_some store) row)
   pub entry : Retire i at word write load store ≡ retire_of (flat_view f i) i (flat_hart (v.harts i)) word does
   pub regs : (w.harts i).regs ≡ with_reg (v.harts i).regs (write_by (flat_view f i) does does.act)
   pub pc : (w.harts i).pc ≡ does.next

@@ -1,17 +1,20 @@
 -- The moves by which all ends of a program are searched: those of the flat machine, but for the places where a conflict's abort may come.
 use Rattle.std.specs.Prelude.{ℕ, ◌≡◌, ◌≢◌, ◌<◌, ◌≤◌, Bool, true, false, None, List, [], ◌∷◌, IsSome, IsOkAnd}
 use Rattle.words.specs.declared.entry.Entry.{Entry}
-use Rattle.words.specs.declared.entry.Entry.TheVariants.{Abort, Refuse, Spill}
+use Rattle.words.specs.declared.entry.Entry.TheVariants.{Retire, Abort, Refuse, Spill}
 use Rattle.words.specs.declared.cause.AbortCause.TheVariants.{Conflict}
 use Rattle.table.specs.declared.effect.Act.{Act}
 use Rattle.table.specs.declared.effect.Act.TheVariants as act
-use Rattle.flat.specs.State.{Flat}
-use Rattle.flat.specs.Causes.{next_of}
+use Rattle.flat.specs.State.{Setting, Flat}
+use Rattle.flat.specs.Start.{first_state}
+use Rattle.flat.specs.Causes.{next_of, depth_of}
+use Rattle.flat.specs.Reservations.{Reservations, no_reservations, reserved_after, StoreHasReason}
 use Rattle.flat.specs.Steps.{Carries, IsRunning, hart_of}
 
 -- a load, a store, or both
 abbrev pub is_access : Act → Bool
 is_access (act.Memory m) = true
+is_access (act.Conditional rd m) = true
 is_access _ = false
 
 -- a register operation, a jump or a branch
@@ -78,3 +81,40 @@ AreOf i es = (e : Entry) × (es ≡ e ∷ []) × (hart_of e ≡ i)
 pub record MovesInOrder (f : Flat) (es : List Entry) (g : Flat) : Type 0 where
   pub moves : Moves f es g
   pub ordered : (i : ℕ) → IsFirstLocal f i → AreOf i es
+
+-- Places
+
+-- a flat state, and the block that each hart has reserved in it
+pub record Place : Type 0 where
+  pub flat : Flat
+  pub reserved : Reservations
+
+-- how deep the harts are in transactions
+abbrev pub depths : Flat → ℕ → ℕ
+depths f i = depth_of (f.hart i).tx
+
+-- the first entry of a move has its reason, if it is of a conditional store that succeeds
+abbrev pub IsReserved : Reservations → List Entry → Type 0
+IsReserved r (Retire i pc w x l s ∷ es) = StoreHasReason r i w s
+IsReserved r es = Unit {0}
+
+-- the reservations after the entries of a move
+abbrev pub reserved_behind : Flat → Reservations → List Entry → Reservations
+reserved_behind f r [] = r
+reserved_behind f r (e ∷ es) = reserved_behind f (reserved_after (depths f) e r) es
+
+-- a move leads from one place to another
+pub record Leads (p : Place) (es : List Entry) (q : Place) : Type 0 where
+  pub moves : Moves p.flat es q.flat
+  pub reason : IsReserved p.reserved es
+  pub reserved : q.reserved ≡ reserved_behind p.flat p.reserved es
+
+-- so does one that goes in order
+pub record LeadsInOrder (p : Place) (es : List Entry) (q : Place) : Type 0 where
+  pub moves : MovesInOrder p.flat es q.flat
+  pub reason : IsReserved p.reserved es
+  pub reserved : q.reserved ≡ reserved_behind p.flat p.reserved es
+
+-- where a program begins
+abbrev pub first_place : Setting → ℕ → Place
+first_place s entry = record { flat = first_state s entry; reserved = no_reservations }

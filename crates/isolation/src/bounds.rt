@@ -20,7 +20,9 @@ pub fn blocks_are_in_memory()
         Runs g (start s entry) steps es w → IsWithinMemory w }
 {}
 
-/// An access that has no cause against it is aligned, ends below the undo logs, and so lies within one block, which is in memory.
+/// An access that has no cause against it, also one of a conditional store, is aligned, ends below the undo logs, and so lies within one block, which is in
+/// memory.
 pub fn accesses_lie_in_memory()
-    ensures { (s : Setting) (h : FlatHart) (e : Effect) (m : MemoryAct) → next_of s h ≡ Ok e → e.act ≡ act.Memory m → IsAccessWithin s m }
+    ensures access { (s : Setting) (h : FlatHart) (e : Effect) (m : MemoryAct) → next_of s h ≡ Ok e → e.act ≡ act.Memory m → IsAccessWithin s m }
+    ensures conditional { (s : Setting) (h : FlatHart) (e : Effect) (rd : ℕ) (m : MemoryAct) → next_of s h ≡ Ok e → e.act ≡ act.Conditional rd m → IsAccessWithin s m }
 {}

@@ -1,4 +1,4 @@
-ghost use Rattle.std.specs.Prelude.{◌≡◌, ◌<◌, ◌++◌, ◌∷◌, ℕ, List, [], Option, Some, None, option_to_list};
+ghost use Rattle.std.specs.Prelude.{◌≡◌, ◌<◌, ◌++◌, ◌∷◌, ℕ, List, [], Option, Some, None, IsSome, option_to_list};
 ghost use Rattle.words.specs.declared.entry.Entry.{Entry};
 ghost use Rattle.words.specs.declared.entry.Entry.TheVariants.{Retire, Abort, Refuse};
 ghost use Rattle.words.specs.declared.entry.Access.{Access};
@@ -9,6 +9,7 @@ ghost use Rattle.flat.specs.State.{Setting, Flat};
 ghost use Rattle.flat.specs.Start.{first_state};
 ghost use Rattle.flat.specs.Steps.{CarriesSome, IsRun};
 ghost use Rattle.flat.specs.Reasons.{no_history, history_of, RefusalHasReason, ConflictHasReason};
+ghost use Rattle.flat.specs.Reservations.{reservations_of, StoreHasReason};
 ghost use Rattle.protocol.specs.Caches.{Geometry};
 ghost use Rattle.protocol.specs.Machine.{Machine, Steps, Runs};
 ghost use Rattle.protocol.specs.Network.{LiesBelow};
@@ -66,6 +67,23 @@ pub fn refusals_have_reasons()
     ensures next { (g : Geometry) (s : Setting) (entry : ℕ) (steps : List Step) (es : List Entry) (f : Flat) (v w : Machine) (next : Step) (j i b : ℕ) →
         AreBytes s.segments → Runs g (start s entry) steps es v → IsRun (first_state s entry) es f →
         Steps g v next (Some (Refuse j i b)) w → RefusalHasReason f (history_of no_history es) j i b }
+{}
+
+/// A conditional store (SC) that succeeds has its reason: it is to the block that its hart has reserved, by the entries before, and so no other hart has stored to
+/// that block since. So it is of each among the entries of a run, and of one that the next step gives.
+pub fn conditional_stores_have_reasons()
+    ensures each { (g : Geometry) (s : Setting) (entry : ℕ) (steps : List Step) (before after : List Entry) (w : Machine) (i pc word : ℕ) (write : Option (ℕ × ℕ)) (load store : Option Access) →
+        AreBytes s.segments → Runs g (start s entry) steps (before ++ Retire i pc word write load store ∷ after) w → StoreHasReason (reservations_of before) i word store }
+    ensures next { (g : Geometry) (s : Setting) (entry : ℕ) (steps : List Step) (es : List Entry) (v w : Machine) (next : Step) (i pc word : ℕ) (write : Option (ℕ × ℕ)) (load store : Option Access) →
+        AreBytes s.segments → Runs g (start s entry) steps es v →
+        Steps g v next (Some (Retire i pc word write load store)) w → StoreHasReason (reservations_of es) i word store }
+{}
+
+/// A hart's reservation is one that the entries so far know of, and its block has a line.
+pub fn reservations_are_known()
+    ensures { (g : Geometry) (s : Setting) (entry : ℕ) (steps : List Step) (es : List Entry) (w : Machine) (i b : ℕ) →
+        AreBytes s.segments → Runs g (start s entry) steps es w → i < w.setting.count → (w.harts i).reserved ≡ Some b →
+        (reservations_of es i ≡ Some b) × IsSome ((w.harts i).lines b) }
 {}
 
 /// A transaction that aborts for a conflict has refused an earlier one since its begin, and was refused by an earlier one since

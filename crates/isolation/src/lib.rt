@@ -22,6 +22,7 @@ pub use facts::{
     victims_make_room, who_acknowledged_has_given_up,
 };
 pub use laws::{
-    answers_are_the_flat_machines, conflicts_have_reasons, entries_are_a_flat_run,
-    entries_lead_on_with_reasons, refusals_have_reasons, retirements_are_rows, steps_exist,
+    answers_are_the_flat_machines, conditional_stores_have_reasons, conflicts_have_reasons,
+    entries_are_a_flat_run, entries_lead_on_with_reasons, refusals_have_reasons,
+    reservations_are_known, retirements_are_rows, steps_exist,
 };

@@ -10,7 +10,7 @@ use directory::DirEntry;
 use std::collections::BTreeMap;
 use words::{BlockNo, HartId};
 
-/// What waits for what, and which blocks are in use.
+/// What waits for what, and which blocks are reserved or in use.
 impl<const SETS: usize, const WAYS: usize> Machine<SETS, WAYS> {
     ghost use Rattle.machine.specs.States.{shown};
 
@@ -30,6 +30,13 @@ impl<const SETS: usize, const WAYS: usize> Machine<SETS, WAYS> {
     {
         let request = self.seats.get(id.index())?.hart.request()?;
         Some(request.block)
+    }
+
+    /// The block that a hart has reserved. `None` where there is no such hart.
+    pub fn reserved_by(&self, id: HartId) -> Option<BlockNo>
+        ensures { result ≡ ((shown SETS self.now).harts id).reserved }
+    {
+        self.seats.get(id.index())?.hart.reserved()
     }
 
     /// The entries of the directory that aren't the first one, by the numbers of their blocks.

@@ -6,13 +6,12 @@ use Rattle.std.proofs.lemmas.Option.{slice_get_within, slice_get-get_or}
 use Rattle.indexmap.specs.IndexSet.{insert_key}
 use Rattle.indexmap.proofs.CallerLemmas.{Contains-list_any}
 use Rattle.words.specs.declared.entry.Entry.{Entry}
-use Rattle.flat.specs.State.{Flat}
-use Rattle.isolation.specs.Moves.{MovesInOrder}
+use Rattle.isolation.specs.Moves.{LeadsInOrder}
 use Rattle.outcomes.specs.declared.pool.State.{State}
 use Rattle.outcomes.specs.declared.breadth_first.Origin.{Origin}
 use Rattle.outcomes.specs.declared.breadth_first.Outcomes.{Outcomes}
 use Rattle.outcomes.specs.Pools.{IsWithin, Grows}
-use Rattle.outcomes.specs.Searches.{flat_at, shown_by, Stands, IsMet, Came, IsSearch, Extends, IsBeyond}
+use Rattle.outcomes.specs.Searches.{place_at, shown_by, Stands, IsMet, Came, IsSearch, Extends, IsBeyond}
 use Rattle.outcomes.proofs.Same.{state_eq, decides_state, same_state}
 use Rattle.outcomes.proofs.Pooled.{stands}
 use Rattle.outcomes.proofs.Searched.{grows_none, get_more, get_last, get_left, length_more}
@@ -41,11 +40,11 @@ pub goes_last : (ks new : List State) (x : State) → new ≡ insert_key state_e
 goes_last ks new x is e = is ∙ ap (λ b. if b then ks else (ks ++ x ∷ [])) e
 
 -- one that was met already
-pub met_there : (o : Outcomes) (x : State) → list_any (state_eq x) o.states.keys ≡ true → IsMet o (flat_at o x)
+pub met_there : (o : Outcomes) (x : State) → list_any (state_eq x) o.states.keys ≡ true → IsMet o (place_at o x)
 met_there o x e = let p = place_of o.states.keys x e in record { place = p.0; state = x; stands = p.1; is = refl }
 
 module _ (o : Outcomes) (next : State) (origin : Origin) (s : IsSearch o) (w : IsWithin o.count o.pool next) (earlier : origin.from < length o.states.keys)
-    (moves : (x : State) → Stands o origin.from x → MovesInOrder (flat_at o x) (shown_by origin.shown) (flat_at o next)) where
+    (moves : (x : State) → Stands o origin.from x → LeadsInOrder (place_at o x) (shown_by origin.shown) (place_at o next)) where
   -- one state more than the limit
   pub beyond_limit : (limit : ℕ) → limit ≤ length o.states.keys → list_any (state_eq next) o.states.keys ≡ false → IsBeyond o limit
   beyond_limit limit full e =
@@ -63,8 +62,8 @@ module _ (o : Outcomes) (next : State) (origin : Origin) (s : IsSearch o) (w : I
 
   module _ (n : Outcomes) (program : n.program ≡ o.program) (image : n.image ≡ o.image) (count : n.count ≡ o.count) (pool : n.pool ≡ o.pool)
       (states : n.states.keys ≡ o.states.keys ++ next ∷ []) (origins : n.origins.items ≡ o.origins.items ++ origin ∷ []) where
-    same_flat : (x : State) → flat_at n x ≡ flat_at o x
-    same_flat x = λ k. flat_at (record o { program = program k; image = image k; count = count k; pool = pool k }) x
+    same_place : (x : State) → place_at n x ≡ place_at o x
+    same_place x = λ k. place_at (record o { program = program k; image = image k; count = count k; pool = pool k }) x
 
     pub added_extends : Extends o n
     added_extends = record {
@@ -81,8 +80,8 @@ module _ (o : Outcomes) (next : State) (origin : Origin) (s : IsSearch o) (w : I
     old_one : (k : ℕ) (x : State) → k < length o.states.keys → Stands n k x → Stands o k x
     old_one k x lt at = elim (which k x at) [ inl a ↦ a | inr b ↦ let e = b.0 in absurd (omega arith) ]
 
-    as_new : (x y : State) (es : List Entry) → MovesInOrder (flat_at o x) es (flat_at o y) → MovesInOrder (flat_at n x) es (flat_at n y)
-    as_new x y es m = subst (λ f. MovesInOrder f es (flat_at n y)) (sym (same_flat x)) (subst (λ g. MovesInOrder (flat_at o x) es g) (sym (same_flat y)) m)
+    as_new : (x y : State) (es : List Entry) → LeadsInOrder (place_at o x) es (place_at o y) → LeadsInOrder (place_at n x) es (place_at n y)
+    as_new x y es m = subst (λ f. LeadsInOrder f es (place_at n y)) (sym (same_place x)) (subst (λ g. LeadsInOrder (place_at o x) es g) (sym (same_place y)) m)
 
     still_came : (k : ℕ) (g : Origin) → slice_get o.origins.items k ≡ Some g → Came n k g
     still_came k g at =
@@ -105,7 +104,7 @@ module _ (o : Outcomes) (next : State) (origin : Origin) (s : IsSearch o) (w : I
             | inl a ↦ let lt = slice_get_within o.states.keys (k + 1) y a in absurd (omega arith)
             | inr b ↦
                 let m = moves x (old_one origin.from x earlier here) in
-                as_new x y (shown_by origin.shown) (subst (λ z. MovesInOrder (flat_at o x) (shown_by origin.shown) (flat_at o z)) (sym b.1) m)
+                as_new x y (shown_by origin.shown) (subst (λ z. LeadsInOrder (place_at o x) (shown_by origin.shown) (place_at o z)) (sym b.1) m)
           ];
         } in
         subst (λ g. Came n k g) (sym same) here
@@ -123,10 +122,10 @@ module _ (o : Outcomes) (next : State) (origin : Origin) (s : IsSearch o) (w : I
           came = λ k g at. elim (get_more o.origins.items origin k g (subst (λ l. slice_get l k ≡ Some g) origins at)) [ inl a ↦ still_came k g a | inr b ↦ new_came k g b.0 b.1 ];
         }
 
-    pub added_met : IsMet n (flat_at o next)
+    pub added_met : IsMet n (place_at o next)
     added_met = record {
       place = length o.states.keys;
       state = next;
       stands = subst (λ l. slice_get l (length o.states.keys) ≡ Some next) (sym states) (get_last o.states.keys next);
-      is = same_flat next;
+      is = same_place next;
     }

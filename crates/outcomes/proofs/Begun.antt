@@ -10,10 +10,12 @@ use Rattle.flat.specs.State.{Setting, Flat, FlatHart, idle}
 use Rattle.flat.specs.Start.{first_hart, first_state}
 use Rattle.outcomes.specs.declared.hart.Hart.{Hart}
 use Rattle.outcomes.specs.declared.memory.Memory.{Memory}
+use Rattle.outcomes.specs.declared.reservations.Reservations.{Reservations}
 use Rattle.outcomes.specs.declared.pool.Pool.{Pool}
 use Rattle.outcomes.specs.declared.pool.State.{State}
 use Rattle.outcomes.specs.Harts.{mem_at, hart_of}
-use Rattle.outcomes.specs.Pools.{flat_in, memory_in, IsWithin, Grows}
+use Rattle.outcomes.specs.Reservations.{reserved_of}
+use Rattle.outcomes.specs.Pools.{flat_in, reserved_in, memory_in, IsWithin, Grows}
 use Rattle.outcomes.proofs.Pooled.{length_set, inside, outside}
 use Rattle.outcomes.proofs.Together.{below_or_at}
 
@@ -23,12 +25,15 @@ pub record IsFirst (size entry count : ℕ) (p : Pool) (n j : ℕ) : Type 0 wher
   pub stands : slice_get p.harts.keys n ≡ Some hart
   pub is : (s : Setting) → s.size ≡ size → s.count ≡ count → hart_of size hart ≡ first_hart s entry j
 
--- the harts below i are there, and memory as it begins
+-- the harts below i are there, memory as it begins, and no reservation
 pub record AreBegun (size entry count : ℕ) (p : Pool) (x : State) (i : ℕ) : Type 0 where
   pub full : 8 ≤ length x.harts
   pub memory : Memory
   pub remembered : slice_get p.memories.keys x.memory ≡ Some memory
   pub blank : (image : List ℕ) (a : ℕ) → mem_at image memory a ≡ mem_of image a
+  pub reservations : Reservations
+  pub reserved : slice_get p.reservations.keys x.reserved ≡ Some reservations
+  pub none : (j : ℕ) → reserved_of reservations j ≡ None
   pub harts : (j : ℕ) → j < i → IsFirst size entry count p (slice_index x.harts j) j
 
 -- one hart more
@@ -39,6 +44,9 @@ begun_more size entry count p q x i n few g b first = record {
   memory = b.memory;
   remembered = g.memories x.memory b.memory b.remembered;
   blank = b.blank;
+  reservations = b.reservations;
+  reserved = g.reservations x.reserved b.reservations b.reserved;
+  none = b.none;
   harts = λ j lt. elim (below_or_at j i lt) [
     | inl lower ↦
         let old = b.harts j lower in
@@ -58,7 +66,11 @@ module _ (size entry count : ℕ) (p : Pool) (x : State) (few : count ≤ 8) (b 
     full = let f = b.full in omega arith;
     harts = λ i lt. let h = b.harts i lt in slice_get_within p.harts.keys (slice_index x.harts i) h.hart h.stands;
     memory = slice_get_within p.memories.keys x.memory b.memory b.remembered;
+    reserved = slice_get_within p.reservations.keys x.reserved b.reservations b.reserved;
   }
+
+  pub begun_reserved : (i : ℕ) → reserved_in p x i ≡ None
+  begun_reserved i = ap (λ o. option_map_or (λ r. reserved_of r i) o None) b.reserved ∙ b.none i
 
   pub begun_flat : (s : Setting) (image : List ℕ) → s.size ≡ size → length image ≡ size → s.count ≡ count → ((a : ℕ) → mem_of image a ≡ image_at s.segments a) → flat_in s image p x ≡ first_state s entry
   begun_flat s image size_is long count_is image_is =

@@ -1,26 +1,29 @@
 -- What a change makes of a flat state.
-use Rattle.std.proofs.Common.{◌≡◌, ◌≢◌, ℕ, Bool, true, false, cond, Option, Some, None, Result, Ok, Err, List, [], ◌∷◌, length, refl, sym, ap, subst, ◌∙◌}
-use Rattle.std.specs.Prelude.{◌==◌, IsOkAnd, IsSomeAnd, IfSome, IfNone}
+use Rattle.std.proofs.Common.{◌≡◌, ◌≢◌, ℕ, Bool, true, false, Option, Some, None, Result, Ok, List, [], ◌∷◌, length, refl, sym, ap, subst, ◌∙◌}
+use Rattle.std.specs.Prelude.{is_some, not, IsOkAnd, IsSomeAnd, IfSome, IfNone}
 use Rattle.words.specs.declared.cause.Cause.{Cause}
 use Rattle.words.specs.declared.cause.AbortCause.{AbortCause}
-use Rattle.words.specs.declared.cause.AbortCause.TheVariants.{Trapped}
 use Rattle.words.specs.declared.cause.Status.TheVariants.{Stopped}
 use Rattle.words.specs.declared.entry.Entry.{Entry}
-use Rattle.words.specs.declared.entry.Entry.TheVariants.{Retire, Abort, Trap}
+use Rattle.words.specs.declared.entry.Entry.TheVariants.{Abort}
 use Rattle.table.specs.declared.effect.Effect.{Effect}
+use Rattle.table.specs.Effects.{resolved}
 use Rattle.flat.specs.State.{Flat, FlatHart, Tx, flat_view, seen}
 use Rattle.flat.specs.Bytes.{put_at}
 use Rattle.flat.proofs.Maps.{put_elsewhere}
-use Rattle.flat.specs.Causes.{next_of}
-use Rattle.flat.specs.Effects.{retire_of, hart_after, mem_by}
-use Rattle.flat.specs.Steps.{Carries, IsRunning, Retires, Aborts, Traps, MayAbort, retired, aborted, stopped, hart_aborted}
+use Rattle.flat.specs.Causes.{next_of, done_next}
+use Rattle.flat.specs.Effects.{store_by, retire_of, hart_after, mem_by}
+use Rattle.flat.specs.Steps.{Carries, IsRunning, Retires, Aborts, MayAbort, retired, aborted, stopped, hart_aborted}
+use Rattle.flat.proofs.LoadsOrStores.{IsUseful, next_useful}
+use Rattle.isolation.proofs.Words.NextWord.{next_done}
 use Rattle.outcomes.specs.declared.hart.Hart.{Hart}
 use Rattle.outcomes.specs.declared.memory.Memory.{Memory}
 use Rattle.outcomes.specs.declared.change.Change.{Change}
 use Rattle.outcomes.specs.declared.change.Turn.{Turn}
 use Rattle.outcomes.specs.Harts.{hart_of, mem_at, mem_after}
 use Rattle.outcomes.specs.Standings.{changed}
-use Rattle.outcomes.specs.Turns.{entries_of, after, IsOf, IsBack, IsOwnMove}
+use Rattle.outcomes.specs.Turns.{entries_of, after, IsOf, IsBack, IsOwnMove, is_conditional}
+use Rattle.outcomes.proofs.Resolved.{done_shows, tells_so}
 
 -- what is said of an option's value is said of this one
 pub of_some : {A : Type 0} (o : Option A) (x : A) (P : A → Type 0) → o ≡ Some x → IfSome o P → P x
@@ -74,15 +77,28 @@ pub aborts_so : (f g : Flat) (i : ℕ) (cause : AbortCause) → IsRunning f i �
     → IsSomeAnd (f.hart i).tx (λ t. g ≡ aborted f i cause t) → Carries f (Abort i cause) g
 aborts_so f g i cause runs due back = some_weaker (f.hart i).tx (λ t. g ≡ aborted f i cause t) (λ t. Aborts f i cause t g) (λ t e. record { running = runs; due = due t; after = e }) back
 
--- a word is retired
-pub retires_so : (image : List ℕ) (f : Flat) (i w : ℕ) (does : Effect) (e : Entry) (t : Turn) → next_of f.setting (f.hart i) ≡ Ok does
-    → Retires f i w does e (after image f t) → IsOf f.setting.count t → entries_of t ≡ e ∷ [] → IsOwnMove image f i t
-retires_so image f i w does e t next r of shown =
-    let all = retire_of (flat_view f i) i (f.hart i) w does in
+-- a word is retired, and a conditional store succeeds or fails
+pub retires_so : (image : List ℕ) (f : Flat) (i w : ℕ) (b : Bool) (does : Effect) (e : Entry) (t : Turn) → next_of f.setting (f.hart i) ≡ Ok does
+    → (b ≡ false → is_conditional does.act ≡ true)
+    → Retires f i w (resolved b does) e (after image f t) → IsOf f.setting.count t → entries_of t ≡ e ∷ [] → IsOwnMove image f i (not b) t
+retires_so image f i w b does e t next fails r of shown =
+    let done = resolved b does in
+    let all = retire_of (flat_view f i) i (f.hart i) w done in
     let g = after image f t in
     let P = λ (n : Result Effect Cause). IsOkAnd n (λ d. Retires f i w d all g) in
-    let q : Retires f i w does all g = record { running = r.running; fetched = r.fetched; no_abort = r.no_abort; allowed = r.allowed; entry = refl; after = r.after } in
-    record { entry = all; shown = shown ∙ ap (λ x. x ∷ []) r.entry; own = tt; hart = refl; of = of; carries = subst P (sym next) q }
+    let q : Retires f i w done all g = record { running = r.running; fetched = r.fetched; no_abort = r.no_abort; allowed = r.allowed; entry = refl; after = r.after } in
+    let useful : IsUseful does.act = next_useful f.setting (f.hart i) does next in
+    let stores = is_some (store_by (flat_view f i) done.act) in
+    let is : done_next stores f.setting (f.hart i) ≡ Ok done = next_done f.setting (f.hart i) does stores next ∙ ap (λ d. Ok d) (done_shows (flat_view f i) b does useful) in
+    record {
+      entry = all;
+      shown = shown ∙ ap (λ x. x ∷ []) r.entry;
+      own = tt;
+      tells = tells_so f i w b does next useful fails;
+      hart = refl;
+      of = of;
+      carries = subst P (sym is) q;
+    }
 
 -- a change that rolled a hart back rolls it back in each state where it stands so
 pub back_there : (image : List ℕ) (f e : Flat) (i : ℕ) (cause : AbortCause) (c : Change) → IsBack image f i cause c → e.hart i ≡ f.hart i

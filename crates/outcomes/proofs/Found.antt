@@ -3,15 +3,15 @@ use Rattle.std.proofs.Common.{◌≡◌, ◌<◌, ◌≤◌, ◌+◌, ◌⊎◌,
 use Rattle.std.specs.Prelude.{slice_get}
 use Rattle.std.proofs.lemmas.Option.{slice_get_within}
 use Rattle.words.specs.declared.entry.Entry.{Entry}
-use Rattle.flat.specs.State.{Flat}
+use Rattle.isolation.specs.Moves.{Place}
 use Rattle.isolation.specs.Walks.{WalksInOrder}
 use Rattle.outcomes.specs.declared.pool.State.{State}
 use Rattle.outcomes.specs.declared.breadth_first.Outcomes.{Outcomes}
-use Rattle.outcomes.specs.Searches.{flat_at, Stands, IsMet, IsExpanded, IsSearch, Extends, IsBeyond, Finds}
+use Rattle.outcomes.specs.Searches.{place_at, Stands, IsMet, IsExpanded, IsSearch, Extends, IsBeyond, Finds}
 use Rattle.indexmap.specs.IndexSet.{insert_key}
 use Rattle.outcomes.specs.Pools.{IsWithin}
 use Rattle.outcomes.proofs.Same.{state_eq}
-use Rattle.outcomes.proofs.Searched.{one_there, flat_still}
+use Rattle.outcomes.proofs.Searched.{one_there, place_still}
 use Rattle.outcomes.proofs.Expanded.{all_met}
 use Rattle.outcomes.proofs.Traced.{reached}
 
@@ -46,8 +46,8 @@ retold n b s = record {
   came = λ k g at. let c = s.came k g at in record { earlier = c.earlier; moves = c.moves };
 }
 
-met_retold : (n : Outcomes) (b : Bool) (f : Flat) → IsMet n f → IsMet (record n { is_all = b }) f
-met_retold n b f m = record { place = m.place; state = m.state; stands = m.stands; is = m.is }
+met_retold : (n : Outcomes) (b : Bool) (p : Place) → IsMet n p → IsMet (record n { is_all = b }) p
+met_retold n b p m = record { place = m.place; state = m.state; stands = m.stands; is = m.is }
 
 beyond_retold : (n : Outcomes) (b : Bool) (limit : ℕ) → IsBeyond n limit → IsBeyond (record n { is_all = b }) limit
 beyond_retold n b limit m = record {
@@ -62,7 +62,7 @@ beyond_retold n b limit m = record {
   new = m.new;
 }
 
-module _ (o n : Outcomes) (b : Bool) (first : Flat) (x : State) (limit : ℕ) (begun : IsSearch o) (only : o.states.keys ≡ x ∷ []) (is : flat_at o x ≡ first)
+module _ (o n : Outcomes) (b : Bool) (first : Place) (x : State) (limit : ℕ) (begun : IsSearch o) (only : o.states.keys ≡ x ∷ []) (is : place_at o x ≡ first)
     (s : IsSearch n) (e : Extends o n) (expanded : b ≡ true → (k : ℕ) → k < length n.states.keys → IsExpanded n k)
     (more : b ≡ false → (limit < length n.states.keys) ⊎ IsBeyond n limit) (bound : length o.states.keys ≤ limit → length n.states.keys ≤ limit) where
   there : Stands o 0 x
@@ -71,8 +71,8 @@ module _ (o n : Outcomes) (b : Bool) (first : Flat) (x : State) (limit : ℕ) (b
   still : Stands n 0 x
   still = e.states 0 x there
 
-  first_is : flat_at n x ≡ first
-  first_is = flat_still o n 0 x begun e there ∙ is
+  first_is : place_at n x ≡ first
+  first_is = place_still o n 0 x begun e there ∙ is
 
   within_limit : 0 < limit → length n.states.keys ≤ limit
   within_limit some = let one : length o.states.keys ≡ 1 = ap length only in bound (omega arith)
@@ -80,12 +80,12 @@ module _ (o n : Outcomes) (b : Bool) (first : Flat) (x : State) (limit : ℕ) (b
   pub finds : Finds first limit (record n { is_all = b })
   finds = record {
     search = retold n b s;
-    start = λ y at. ap (flat_at n) (one_there n.states.keys 0 y x at still) ∙ first_is;
+    start = λ y at. ap (place_at n) (one_there n.states.keys 0 y x at still) ∙ first_is;
     sound = λ k y at.
         let w = reached n s k k (omega arith) x y still at in
-        (w.0, subst (λ f. WalksInOrder f w.0 (flat_at n y)) first_is w.1);
-    complete = λ all ess f w.
-        met_retold n b f (all_met n (λ k y at. expanded all k (slice_get_within n.states.keys k y at)) first (record { place = 0; state = x; stands = still; is = first_is }) ess f w);
+        (w.0, subst (λ p. WalksInOrder p w.0 (place_at n y)) first_is w.1);
+    complete = λ all ess q w.
+        met_retold n b q (all_met n (λ k y at. expanded all k (slice_get_within n.states.keys k y at)) first (record { place = 0; state = x; stands = still; is = first_is }) ess q w);
     within = within_limit;
     beyond = λ not_all. elim (more not_all) [ inl over ↦ inl (none over) | inr m ↦ inr (beyond_retold n b limit m) ];
   }

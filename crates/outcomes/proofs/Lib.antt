@@ -1,6 +1,7 @@
 mod Blanks
 mod Noted
 mod Fitting
+mod Resolved
 mod Laid
 mod Changed
 mod Owns
@@ -13,6 +14,7 @@ mod Same
 mod Kept
 mod Pooled
 mod Searched
+mod Led
 mod Added
 mod Expanded
 mod Listed

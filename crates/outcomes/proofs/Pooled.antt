@@ -10,10 +10,12 @@ use Rattle.flat.specs.Attempts.{with_hart}
 use Rattle.flat.proofs.Maps.{one_number, two_numbers}
 use Rattle.outcomes.specs.declared.hart.Hart.{Hart}
 use Rattle.outcomes.specs.declared.memory.Memory.{Memory}
+use Rattle.outcomes.specs.declared.reservations.Reservations.{Reservations}
 use Rattle.outcomes.specs.declared.pool.Pool.{Pool}
 use Rattle.outcomes.specs.declared.pool.State.{State}
 use Rattle.outcomes.specs.Harts.{hart_of, mem_at, mem_after}
-use Rattle.outcomes.specs.Pools.{flat_in, with_mem, memory_in, IsWithin, Grows}
+use Rattle.outcomes.specs.Reservations.{reserved_of}
+use Rattle.outcomes.specs.Pools.{flat_in, reserved_in, with_mem, memory_in, IsWithin, Grows}
 
 -- below the length something stands
 pub stands : {A : Type 0} (xs : List A) (n : ℕ) → n < length xs → (x : A) × (slice_get xs n ≡ Some x)
@@ -45,10 +47,17 @@ within_still c p q x w g = record {
   full = w.full;
   harts = λ i lt. let h = stands p.harts.keys (slice_index x.harts i) (w.harts i lt) in slice_get_within q.harts.keys (slice_index x.harts i) h.0 (g.harts (slice_index x.harts i) h.0 h.1);
   memory = let m = stands p.memories.keys x.memory w.memory in slice_get_within q.memories.keys x.memory m.0 (g.memories x.memory m.0 m.1);
+  reserved = let r = stands p.reservations.keys x.reserved w.reserved in slice_get_within q.reservations.keys x.reserved r.0 (g.reservations x.reserved r.0 r.1);
 }
 
 pub grows_on : (p q r : Pool) → Grows p q → Grows q r → Grows p r
-grows_on p q r a b = record { harts = λ n h e. b.harts n h (a.harts n h e); memories = λ n m e. b.memories n m (a.memories n m e) }
+grows_on p q r a b = record { harts = λ n h e. b.harts n h (a.harts n h e); memories = λ n m e. b.memories n m (a.memories n m e); reservations = λ n r e. b.reservations n r (a.reservations n r e) }
+
+-- a state of a pool that has grown has the same reservations
+pub reserved_still : (c : ℕ) (p q : Pool) (x : State) → IsWithin c p x → Grows p q → (i : ℕ) → reserved_in q x i ≡ reserved_in p x i
+reserved_still c p q x w g i =
+    let r = stands p.reservations.keys x.reserved w.reserved in
+    ap (λ o. option_map_or (λ r. reserved_of r i) o None) (g.reservations x.reserved r.0 r.1 ∙ sym r.1)
 
 module _ (s : Setting) (image : List ℕ) where
   abbrev size : ℕ
@@ -99,7 +108,7 @@ module _ (s : Setting) (image : List ℕ) where
     elsewhere i ne = get_or-set_other x.harts id i n 0 ne
 
     pub put_within : IsWithin s.count q put
-    put_within = record { full = full; harts = λ i l. by i l (i == id) refl; memory = (within_still s.count p q x w g).memory }
+    put_within = record { full = full; harts = λ i l. by i l (i == id) refl; memory = (within_still s.count p q x w g).memory; reserved = (within_still s.count p q x w g).reserved }
       where
         by : (i : ℕ) → i < s.count → (b : Bool) → (i == id) ≡ b → slice_index put.harts i < length q.harts.keys
         by i l true e = subst (λ m. m < length q.harts.keys) (sym (here i (one_number i id e))) (slice_get_within q.harts.keys n h there)
@@ -131,10 +140,18 @@ module _ (s : Setting) (image : List ℕ) where
     laid = record x { memory = n }
 
     pub laid_within : IsWithin s.count q laid
-    laid_within = record { full = w.full; harts = (within_still s.count p q x w g).harts; memory = slice_get_within q.memories.keys n m there }
+    laid_within = record { full = w.full; harts = (within_still s.count p q x w g).harts; memory = slice_get_within q.memories.keys n m there; reserved = (within_still s.count p q x w g).reserved }
 
     pub laid_there : flat_in s image q laid ≡ with_mem (flat_in s image p x) (mem_at image memory)
     laid_there =
         let S = state_still p q x w g in
         let M : (a : ℕ) → memory_in image q.memories.keys n a ≡ mem_at image memory a = λ a. ap (λ o. option_map_or (λ m. mem_at image m a) o 0) there ∙ same image a in
         λ k. record { setting = s; mem = λ a. M a k; hart = λ i. (S k).hart i }
+
+-- other reservations are put into a state
+module _ (c : ℕ) (p q : Pool) (x : State) (n : ℕ) (reservations : Reservations) (w : IsWithin c p x) (g : Grows p q) (there : slice_get q.reservations.keys n ≡ Some reservations) where
+  pub kept_within : IsWithin c q (record x { reserved = n })
+  kept_within = let v = within_still c p q x w g in record { full = v.full; harts = v.harts; memory = v.memory; reserved = slice_get_within q.reservations.keys n reservations there }
+
+  pub kept_there : (i : ℕ) → reserved_in q (record x { reserved = n }) i ≡ reserved_of reservations i
+  kept_there i = ap (λ o. option_map_or (λ r. reserved_of r i) o None) there

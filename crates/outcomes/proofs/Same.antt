@@ -1,4 +1,4 @@
--- What a test for equality says: harts that it finds equal are one hart of the flat machine, memories one memory, states one state.
+-- What a test for equality says: harts that it finds equal are one hart of the flat machine, memories one memory, reservations the same, states one state.
 use Rattle.std.proofs.Common.{◌≡◌, ℕ, Bool, true, false, Option, Some, None, List, refl, sym, ap, subst, ◌∙◌, true≢false}
 use Rattle.std.specs.Prelude.{◌&&◌, ◌==◌, ◌/◌, ◌%◌, nat_eq, nat_lt, cond}
 use Rattle.std.specs.Bool.{Decides}
@@ -19,12 +19,14 @@ use Rattle.outcomes.specs.declared.overlay.Overlay.{Overlay}
 use Rattle.outcomes.specs.declared.hart.Transaction.{Transaction}
 use Rattle.outcomes.specs.declared.hart.Hart.{Hart}
 use Rattle.outcomes.specs.declared.memory.Memory.{Memory}
+use Rattle.outcomes.specs.declared.reservations.Reservations.{Reservations}
 use Rattle.outcomes.specs.declared.pool.State.{State}
 use Rattle.outcomes.specs.contracts.overlay.FootprintPartialEq.TheImpl as footprint
 use Rattle.outcomes.specs.contracts.overlay.OverlayPartialEq.TheImpl as overlay
 use Rattle.outcomes.specs.contracts.hart.TransactionPartialEq.TheImpl as transaction
 use Rattle.outcomes.specs.contracts.hart.HartPartialEq.TheImpl as hart
 use Rattle.outcomes.specs.contracts.memory.MemoryPartialEq.TheImpl as memory
+use Rattle.outcomes.specs.contracts.reservations.ReservationsPartialEq.TheImpl as reservations
 use Rattle.outcomes.specs.contracts.pool.StatePartialEq.TheImpl as state
 use Rattle.outcomes.specs.Overlays.{reads_in, writes_in, byte_over, byte_at, within}
 use Rattle.outcomes.specs.Harts.{tx_of, hart_of}
@@ -43,6 +45,9 @@ hart_eq = (hart.ghosts).eq
 
 abbrev pub memory_eq : Memory → Memory → Bool
 memory_eq = (memory.ghosts).eq
+
+abbrev pub reservations_eq : Reservations → Reservations → Bool
+reservations_eq = (reservations.ghosts).eq
 
 abbrev pub state_eq : State → State → Bool
 state_eq = (state.ghosts).eq
@@ -148,10 +153,14 @@ same_hart a b e size =
 pub same_memory_by : (a b : Memory) → memory_eq a b ≡ true → a.bytes.entries ≡ b.bytes.entries
 same_memory_by a b e = (btree_map_eq-Decides Decides-eqb Decides-eqb a.bytes b.bytes (memory_eq a b) refl).0 e
 
+pub same_reservations : (a b : Reservations) → reservations_eq a b ≡ true → a ≡ b
+same_reservations a b e = let blocks = (decides_bytes a.blocks b.blocks).0 e in λ k. record { blocks = blocks k }
+
 pub decides_state : (a b : State) → Decides (state_eq a b) (a ≡ b)
 decides_state a b =
     Decides-like _ (λ h. search rules) (λ e. search rules)
-    (Decides-and _ _ (decides_numbers a.harts b.harts) (Decides-eqb a.memory b.memory))
+    (Decides-and _ _ (decides_numbers a.harts b.harts)
+    (Decides-and _ _ (Decides-eqb a.memory b.memory) (Decides-eqb a.reserved b.reserved)))
 
 pub same_state : (a b : State) → state_eq a b ≡ true → a ≡ b
 same_state a b e = (decides_state a b).0 e

@@ -4,22 +4,22 @@ use Rattle.std.specs.Prelude.{slice_get}
 use Rattle.std.proofs.lemmas.Option.{slice_get_within}
 use Rattle.words.specs.declared.entry.Entry.{Entry}
 use Rattle.flat.specs.State.{Setting, Flat}
-use Rattle.isolation.specs.Moves.{MovesInOrder}
+use Rattle.isolation.specs.Moves.{Place, LeadsInOrder}
 use Rattle.isolation.specs.Walks.{WalksInOrder}
 use Rattle.outcomes.specs.declared.pool.State.{State}
 use Rattle.outcomes.specs.declared.pool.Pool.{Pool}
 use Rattle.outcomes.specs.declared.breadth_first.Origin.{Origin}
 use Rattle.outcomes.specs.declared.breadth_first.Outcomes.{Outcomes}
 use Rattle.outcomes.specs.Pools.{flat_in, IsWithin, Grows}
-use Rattle.outcomes.specs.Searches.{setting_at, flat_at, shown_by, Stands, IsMet, IsExpanded, Came, IsSearch, Extends}
-use Rattle.outcomes.proofs.Pooled.{state_still, within_still, grows_on}
+use Rattle.outcomes.specs.Searches.{setting_at, flat_at, place_at, shown_by, Stands, IsMet, IsExpanded, Came, IsSearch, Extends}
+use Rattle.outcomes.proofs.Pooled.{state_still, reserved_still, within_still, grows_on}
 
 -- one place holds one thing
 pub one_there : {A : Type 0} (xs : List A) (k : ℕ) (x y : A) → slice_get xs k ≡ Some x → slice_get xs k ≡ Some y → x ≡ y
 one_there xs k x y a b = let e : Some x ≡ Some y = sym a ∙ b in cc
 
 pub grows_none : (p : Pool) → Grows p p
-grows_none p = record { harts = λ n h e. e; memories = λ n m e. e }
+grows_none p = record { harts = λ n h e. e; memories = λ n m e. e; reservations = λ n r e. e }
 
 pub extends_none : (o : Outcomes) → Extends o o
 extends_none o = record { setting = refl; image = refl; pool = grows_none o.pool; states = λ k x e. e }
@@ -41,12 +41,22 @@ flat_within old new x e w =
 pub flat_still : (old new : Outcomes) (k : ℕ) (x : State) → IsSearch old → Extends old new → Stands old k x → flat_at new x ≡ flat_at old x
 flat_still old new k x s e at = flat_within old new x e (s.within k x at)
 
-pub met_still : (old new : Outcomes) (g : Flat) → IsSearch old → Extends old new → IsMet old g → IsMet new g
-met_still old new g s e m = record {
+-- and has the same reservations
+pub place_within : (old new : Outcomes) (x : State) → Extends old new → IsWithin old.count old.pool x → place_at new x ≡ place_at old x
+place_within old new x e w =
+    let F = flat_within old new x e w in
+    let R : (i : ℕ) → (place_at new x).reserved i ≡ (place_at old x).reserved i = λ i. reserved_still old.count old.pool new.pool x w e.pool i in
+    λ k. record { flat = F k; reserved = λ i. R i k }
+
+pub place_still : (old new : Outcomes) (k : ℕ) (x : State) → IsSearch old → Extends old new → Stands old k x → place_at new x ≡ place_at old x
+place_still old new k x s e at = place_within old new x e (s.within k x at)
+
+pub met_still : (old new : Outcomes) (q : Place) → IsSearch old → Extends old new → IsMet old q → IsMet new q
+met_still old new q s e m = record {
   place = m.place;
   state = m.state;
   stands = e.states m.place m.state m.stands;
-  is = flat_still old new m.place m.state s e m.stands ∙ m.is;
+  is = place_still old new m.place m.state s e m.stands ∙ m.is;
 }
 
 -- a place stands in both, and so does what stands there
@@ -62,15 +72,15 @@ as_before old new k x e lt at =
     found (x ∷ xs) (suc n) lt = found xs n (omega arith)
 
 pub expanded_still : (old new : Outcomes) (k : ℕ) → IsSearch old → Extends old new → k < length old.states.keys → IsExpanded old k → IsExpanded new k
-expanded_still old new k s e lt all x at es g m =
+expanded_still old new k s e lt all x at es q m =
     let before = as_before old new k x e lt at in
-    met_still old new g s e (all x before es g (subst (λ f. MovesInOrder f es g) (flat_still old new k x s e before) m))
+    met_still old new q s e (all x before es q (subst (λ p. LeadsInOrder p es q) (place_still old new k x s e before) m))
 
 -- a move between states that stood is one still
 pub moves_still : (old new : Outcomes) (x y : State) (es : List Entry) → Extends old new → IsWithin old.count old.pool x → IsWithin old.count old.pool y
-    → MovesInOrder (flat_at old x) es (flat_at old y) → MovesInOrder (flat_at new x) es (flat_at new y)
+    → LeadsInOrder (place_at old x) es (place_at old y) → LeadsInOrder (place_at new x) es (place_at new y)
 moves_still old new x y es e w v m =
-    subst (λ f. MovesInOrder f es (flat_at new y)) (sym (flat_within old new x e w)) (subst (λ g. MovesInOrder (flat_at old x) es g) (sym (flat_within old new y e v)) m)
+    subst (λ p. LeadsInOrder p es (place_at new y)) (sym (place_within old new x e w)) (subst (λ q. LeadsInOrder (place_at old x) es q) (sym (place_within old new y e v)) m)
 
 -- a pool that grows
 module _ (o : Outcomes) (p : Pool) (s : IsSearch o) (g : Grows o.pool p) where

@@ -1,5 +1,5 @@
 -- All moves of a state: those that the search takes.
-use Rattle.std.proofs.Common.{◌≡◌, ◌≤◌, ◌<◌, ◌+◌, ◌⊎◌, inl, inr, ℕ, arith, true, Option, Some, None, List, [], ◌∷◌, ◌++◌, refl, sym, ap, subst, ◌∙◌}
+use Rattle.std.proofs.Common.{◌≡◌, ◌<◌, ◌+◌, inl, inr, ℕ, arith, false, Option, Some, None, List, [], ◌∷◌, ◌++◌, sym, subst, ◌∙◌}
 use Rattle.std.specs.Prelude.{IfSome, IfNone, option_to_list}
 use Rattle.std.specs.List.{Contains}
 use Rattle.std.proofs.lemmas.List.Elements.{Contains-push_cases}
@@ -7,14 +7,14 @@ use Rattle.words.specs.declared.cause.AbortCause.TheVariants.{Conflict}
 use Rattle.words.specs.declared.entry.Entry.{Entry}
 use Rattle.words.specs.declared.entry.Entry.TheVariants.{Abort}
 use Rattle.flat.specs.State.{Flat}
-use Rattle.flat.specs.Steps.{Carries, hart_of}
-use Rattle.flat.proofs.Determined.{one_next}
-use Rattle.isolation.specs.Moves.{Moves, MovesBy, MoveTogether, MovesInOrder, IsLocal, IsFirstLocal, AreOf}
+use Rattle.flat.specs.Steps.{hart_of}
+use Rattle.isolation.specs.Moves.{Moves, MovesBy, MoveTogether, MovesInOrder, IsLocal, IsFirstLocal}
 use Rattle.isolation.proofs.Walked.{by_move, moves_carry}
 use Rattle.outcomes.specs.declared.change.Turn.{Turn}
-use Rattle.outcomes.specs.Turns.{entries_of, after, IsOwn, IsOwnMove, IsMove, IsMoveInOrder, Has, Adds}
-use Rattle.outcomes.proofs.Owns.{one_own, own_moves, local_own, mover_runs}
-use Rattle.outcomes.proofs.Lists.{adds_then, has_still, has_added, if_some_so, if_none_so}
+use Rattle.outcomes.specs.Turns.{after, IsOwnMove, IsMove, IsMoveInOrder, Has, Adds}
+use Rattle.outcomes.proofs.Owns.{own_moves, local_own, local_succeeds, mover_runs}
+use Rattle.outcomes.proofs.Alone.{HasNone, own_there}
+use Rattle.outcomes.proofs.Lists.{adds_then, has_still}
 use Rattle.outcomes.proofs.Together.{below_or_at}
 
 nowhere : (t : Turn) → Contains [] t → ⊥
@@ -66,7 +66,7 @@ module _ (image : List ℕ) (f : Flat) where
     only_first : (j : ℕ) → IsFirstLocal f j → i ≡ j
     only_first j other = let a = first.lowest j other.here in let b = other.lowest i first.here in omega (arith, a, b)
 
-    own_in_order : (t : Turn) → IsOwnMove image f i t → IsMoveInOrder image f t
+    own_in_order : (t : Turn) → IsOwnMove image f i false t → IsMoveInOrder image f t
     own_in_order t w = (
       w.of,
       record {
@@ -75,24 +75,19 @@ module _ (image : List ℕ) (f : Flat) where
       },
     )
 
-    pub first_in_order : IfSome o (IsOwnMove image f i) → (t : Turn) → Contains turns t → IsMoveInOrder image f t
+    pub first_in_order : IfSome o (IsOwnMove image f i false) → (t : Turn) → Contains turns t → IsMoveInOrder image f t
     first_in_order some t c = by o some (subst (λ l. Contains l t) is c)
       where
-        by : (o : Option Turn) → IfSome o (IsOwnMove image f i) → Contains ([] ++ option_to_list o) t → IsMoveInOrder image f t
+        by : (o : Option Turn) → IfSome o (IsOwnMove image f i false) → Contains ([] ++ option_to_list o) t → IsMoveInOrder image f t
         by None some c = absurd (nowhere t c)
-        by (Some x) some c = elim (Contains-push_cases [] x t c) [ inl k ↦ absurd (nowhere t k) | inr same ↦ own_in_order t (subst (IsOwnMove image f i) same some) ]
+        by (Some x) some c = elim (Contains-push_cases [] x t c) [ inl k ↦ absurd (nowhere t k) | inr same ↦ own_in_order t (subst (IsOwnMove image f i false) same some) ]
 
-    pub first_there : IfSome o (IsOwnMove image f i) → IfNone o ((e : Entry) (g : Flat) → IsOwn e → hart_of e ≡ i → Carries f e g → ⊥)
+    pub first_there : IfSome o (IsOwnMove image f i false) → IfNone o (HasNone image f i false)
         → (es : List Entry) (g : Flat) → MovesInOrder f es g → Has image f turns es g
     first_there some none es g m =
         let one = m.ordered i first in
         let e = one.0 in
         let M : MovesBy f e g = subst (λ es. Moves f es g) one.1 m.moves in
-        let own : IsOwn e = local_own f g e (subst (IsLocal f) (sym one.2) first.here) M in
-        let k : Carries f e g = moves_carry f g e M in
+        let here : IsLocal f (hart_of e) = subst (IsLocal f) (sym one.2) first.here in
         subst (λ es. Has image f turns es g) (sym one.1)
-        (has_added image f [] turns o (e ∷ []) g is
-        (if_some_so o (IsOwnMove image f i) (λ t. (entries_of t ≡ e ∷ []) × (after image f t ≡ g)) (λ t w.
-        let same : w.entry ≡ e = one_own f (after image f t) g w.entry e i w.own own w.hart one.2 w.carries k in
-        (w.shown ∙ ap (λ x. x ∷ []) same, one_next f (after image f t) g e (subst (λ x. Carries f x (after image f t)) same w.carries) k)) some)
-        (if_none_so o _ ⊥ (λ n. n e g own one.2 k) none))
+        (own_there image f i false [] turns o is some none e g (local_own f g e here M) (local_succeeds f e here) one.2 (moves_carry f g e M))

@@ -1,5 +1,6 @@
 pub mod Overlays
 pub mod Harts
+pub mod Reservations
 pub mod Standings
 pub mod Turns
 pub mod Pools

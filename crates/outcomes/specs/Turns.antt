@@ -1,13 +1,18 @@
 -- The moves that a search makes of a state.
-use Rattle.std.specs.Prelude.{ℕ, ◌≡◌, ◌<◌, ◌⊎◌, None, List, [], ◌∷◌, length, IsSomeAnd}
+use Rattle.std.specs.Prelude.{ℕ, ◌≡◌, ◌<◌, ◌⊎◌, Bool, true, false, ◌&&◌, None, Result, Ok, Err, List, [], ◌∷◌, length, is_none, IsSomeAnd}
 use Rattle.std.specs.List.{Contains}
 use Rattle.words.specs.declared.entry.Entry.{Entry}
-use Rattle.words.specs.declared.entry.Entry.TheVariants.{Retire, Abort, Trap, Refuse, Spill}
+use Rattle.words.specs.declared.entry.Entry.TheVariants.{Retire, Abort, Trap}
+use Rattle.words.specs.declared.cause.Cause.{Cause}
 use Rattle.words.specs.declared.cause.AbortCause.{AbortCause}
-use Rattle.words.specs.declared.cause.AbortCause.TheVariants.{Asked, Conflict, LogFull, Trapped}
+use Rattle.words.specs.declared.cause.AbortCause.TheVariants.{Asked, Conflict, Trapped}
+use Rattle.table.specs.declared.effect.Effect.{Effect}
+use Rattle.table.specs.declared.effect.Act.{Act}
+use Rattle.table.specs.declared.effect.Act.TheVariants as act
 use Rattle.flat.specs.State.{Flat}
+use Rattle.flat.specs.Causes.{next_of}
 use Rattle.flat.specs.Steps.{Carries, hart_aborted, hart_of as entry_hart}
-use Rattle.isolation.specs.Moves.{Moves, MovesBy, MovesInOrder}
+use Rattle.isolation.specs.Moves.{Moves, MovesInOrder}
 use Rattle.outcomes.specs.declared.change.Turn.{Turn}
 use Rattle.outcomes.specs.declared.change.Turn.TheVariants.{Alone, Together}
 use Rattle.outcomes.specs.declared.change.Change.{Change}
@@ -43,11 +48,27 @@ IsOwn (Abort i (Trapped c p)) = Unit {0}
 IsOwn (Trap i c p) = Unit {0}
 IsOwn _ = ⊥
 
--- what is made is a move of hart i by its word alone
-pub record IsOwnMove (image : List ℕ) (f : Flat) (i : ℕ) (t : Turn) : Type 0 where
+-- whether an act is a conditional store
+abbrev pub is_conditional : Act → Bool
+is_conditional (act.Conditional rd m) = true
+is_conditional _ = false
+
+-- whether what a hart does next is one
+abbrev pub is_next_conditional : Result Effect Cause → Bool
+is_next_conditional (Ok e) = is_conditional e.act
+is_next_conditional (Err c) = false
+
+-- whether the entry tells of a conditional store that failed: its hart is at one, and nothing is stored
+abbrev pub is_failure : Flat → Entry → Bool
+is_failure f (Retire i pc word write load store) = is_next_conditional (next_of f.setting (f.hart i)) && is_none store
+is_failure f _ = false
+
+-- what is made is a move of hart i by its word alone, and tells of a failure or not
+pub record IsOwnMove (image : List ℕ) (f : Flat) (i : ℕ) (failed : Bool) (t : Turn) : Type 0 where
   pub entry : Entry
   pub shown : entries_of t ≡ entry ∷ []
   pub own : IsOwn entry
+  pub tells : is_failure f entry ≡ failed
   pub hart : entry_hart entry ≡ i
   pub of : IsOf f.setting.count t
   pub carries : Carries f entry (after image f t)

@@ -4,19 +4,21 @@ ghost use Rattle.flat.specs.State.{Setting, Flat};
 ghost use Rattle.flat.specs.Start.{first_hart};
 ghost use Rattle.flat.specs.Boots.{boot_fault, booted, fits_below};
 ghost use Rattle.flat.specs.declared.boot_fault.BootFault.{BootFault};
-ghost use Rattle.isolation.specs.Moves.{MovesInOrder};
+ghost use Rattle.isolation.specs.Moves.{Place, LeadsInOrder, IsReserved, reserved_behind};
 ghost use Rattle.isolation.specs.Walks.{IsEnded, WalksInOrder, entries_of};
 ghost use Rattle.outcomes.specs.Harts.{hart_of};
 ghost use Rattle.outcomes.specs.Turns.{after, entries_of as entries_of_turn, IsMoveInOrder};
 ghost use Rattle.std.specs.List.{Contains};
 ghost use Rattle.outcomes.specs.Standings.{setting_of, flat_of};
-ghost use Rattle.outcomes.specs.Pools.{flat_in, IsWithin};
-ghost use Rattle.outcomes.specs.Searches.{setting_at, flat_at, shown_by, Stands, IsMet, IsExpanded, IsSearch, Extends, IsBeyond, IsEnd, IsBegun, Finds};
+ghost use Rattle.outcomes.specs.Reservations.{reserved_of};
+ghost use Rattle.outcomes.specs.Pools.{flat_in, reserved_in, IsWithin};
+ghost use Rattle.outcomes.specs.Searches.{setting_at, flat_at, place_at, shown_by, Stands, IsMet, IsExpanded, IsSearch, Extends, IsBeyond, IsEnd, IsBegun, Finds};
 
 use crate::change::Turn;
 use crate::gauge::{Gauge, tell_if_due};
 use crate::list::{push, push_if};
 use crate::pool::{Pool, State};
+use crate::reservations::Reservations;
 use crate::scene::Scene;
 use crate::standing::Standing;
 use indexmap::IndexSet;
@@ -84,10 +86,10 @@ impl Outcomes {
         requires search { IsSearch self.old }
         requires within { IsWithin self.old.count self.old.pool next }
         requires earlier { origin.from < length self.old.states.keys }
-        requires moves { (x : State) → Stands self.old origin.from x → MovesInOrder (flat_at self.old x) (shown_by origin.shown) (flat_at self.old next) }
+        requires moves { (x : State) → Stands self.old origin.from x → LeadsInOrder (place_at self.old x) (shown_by origin.shown) (place_at self.old next) }
         ensures search { OnOk result (IsSearch self.new) }
         ensures extends { OnOk result (Extends self.old self.new) }
-        ensures met { IfOk result (λ yes. IsTrue yes → IsMet self.new (flat_at self.old next)) }
+        ensures met { IfOk result (λ yes. IsTrue yes → IsMet self.new (place_at self.old next)) }
         ensures more { IfOk result (λ yes. yes ≡ false → IsBeyond self.new limit) }
         ensures bound { OnOk result (length self.old.states.keys ≤ limit → length self.new.states.keys ≤ limit) }
     {
@@ -102,7 +104,18 @@ impl Outcomes {
         Ok(true)
     }
 
-    /// Notes the state that a move leads to. False where it would be one more than the limit.
+    /// The reservations behind a move from a state. None where an SC would succeed without a reservation.
+    fn reserved_behind(&self, state: &State, shown: &Move) -> Option<Reservations>
+        requires few { self.now.count ≤ 8 }
+        requires within { IsWithin self.now.count self.now.pool state.now }
+        ensures some { IfSome result (λ r. IsReserved (place_at self.now state.now).reserved (shown_by shown.now) × ((k : ℕ) → reserved_of r k ≡ reserved_behind (flat_at self.now state.now) (place_at self.now state.now).reserved (shown_by shown.now) k)) }
+        ensures none { IfNone result (IsReserved (place_at self.now state.now).reserved (shown_by shown.now) → ⊥) }
+    {
+        let standing = self.pool.standing(self.scene(), state);
+        self.pool.reserved(state).behind(&standing, shown)
+    }
+
+    /// Notes the state that a move leads to, if the move has its reason. False where it would be one more than the limit.
     fn visit(
         &mut self,
         from: usize,
@@ -115,12 +128,15 @@ impl Outcomes {
         requires moves { IsMoveInOrder self.old.image.items (flat_at self.old state) turn }
         ensures search { OnOk result (IsSearch self.new) }
         ensures extends { OnOk result (Extends self.old self.new) }
-        ensures met { IfOk result (λ yes. IsTrue yes → IsMet self.new (after self.old.image.items (flat_at self.old state) turn)) }
+        ensures met { IfOk result (λ yes. IsTrue yes → (q : Place) → q.flat ≡ after self.old.image.items (flat_at self.old state) turn → LeadsInOrder (place_at self.old state) (entries_of_turn turn) q → IsMet self.new q) }
         ensures more { IfOk result (λ yes. yes ≡ false → IsBeyond self.new limit) }
         ensures bound { OnOk result (length self.old.states.keys ≤ limit → length self.new.states.keys ≤ limit) }
     {
         let shown = move_of(&turn);
-        let next = self.pool.after(self.count, state, turn)?;
+        let Some(reserved) = self.reserved_behind(&state, &shown) else {
+            return Ok(true);
+        };
+        let next = self.pool.after(self.count, state, turn, reserved)?;
         self.note(next, Origin { from, shown }, limit)
     }
 
@@ -182,7 +198,7 @@ impl Outcomes {
         gauge: &mut G,
     ) -> Result<(), AllocError>
         requires { IsSearch self.old }
-        ensures { (first : Flat) → IsBegun first self.old → OnOk result (Finds first limit self.new) }
+        ensures { (first : Place) → IsBegun first self.old → OnOk result (Finds first limit self.new) }
     {
         self.is_all = self.explore(alloc, limit, gauge)?;
         Ok(())

@@ -165,7 +165,7 @@ impl Hart {
         ensures { result ≡ write_by (view_of image.now memory.now self.now) effect.now effect.now.act }
     {
         match &effect.act {
-            Act::Memory(m) => self.loaded(image, memory, m),
+            Act::Memory(m) if m.load.is_some() => self.loaded(image, memory, m),
             _ => effect.write,
         }
     }
@@ -335,7 +335,7 @@ impl Hart {
             }
             Act::Commit => self.commit(image, memory),
             Act::Call => self.call(),
-            Act::Nothing | Act::Abort | Act::Break => Ok(()),
+            Act::Nothing | Act::Conditional(_, _) | Act::Abort | Act::Break => Ok(()),
         }
     }
 

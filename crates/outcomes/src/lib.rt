@@ -14,6 +14,7 @@ mod list;
 mod memory;
 mod overlay;
 mod pool;
+mod reservations;
 mod scene;
 mod standing;
 mod start;
@@ -29,6 +30,7 @@ pub use laws::{all_ends_are_listed, end_is_told, listed_ends_are_reached, lists_
 pub use memory::Memory;
 pub use overlay::{Footprint, Overlay};
 pub use pool::{Pool, State};
+pub use reservations::Reservations;
 pub use scene::Scene;
 pub use standing::Standing;
 pub use start::begin;

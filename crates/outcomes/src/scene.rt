@@ -90,7 +90,7 @@ impl Scene<'_> {
     {
         match act {
             Act::Nothing => None,
-            Act::Memory(m) => self.memory_cause(m),
+            Act::Memory(m) | Act::Conditional(_, m) => self.memory_cause(m),
             Act::Begin(_) => match &hart.tx {
                 Some(tx) if tx.depth == 255 => Some(Cause::TooDeep),
                 _ => None,

@@ -2,14 +2,14 @@ ghost use Rattle.std.specs.Prelude.{◌≡◌, ◌≢◌, ◌<◌, ◌/◌, ◌&
 ghost use Rattle.flat.specs.State.{IsAllowed, has_read, has_written};
 ghost use Rattle.flat.specs.Causes.{next_of};
 ghost use Rattle.flat.specs.Steps.{IsRunning};
-ghost use Rattle.isolation.specs.Moves.{is_access, is_local, IsAtAccess, IsBeside, MayGiveWay, IsLocal, IsFirstLocal};
+ghost use Rattle.isolation.specs.Moves.{depths, is_access, is_local, IsAtAccess, IsBeside, MayGiveWay, IsLocal, IsFirstLocal};
 ghost use Rattle.isolation.specs.Walks.{IsEnded};
 
 use crate::hart::Hart;
 use crate::memory::Memory;
 use crate::scene::{NextMove, Scene};
 use table::Act;
-use words::Status;
+use words::{HartId, Status};
 
 /// A state of a search, looked up: the harts of these numbers, and memory.
 #[derive(Clone, Copy)]
@@ -27,7 +27,7 @@ fn is_access(act: &Act) -> bool
     ensures { result ≡ is_access act.now }
 {
     match act {
-        Act::Memory(_) => true,
+        Act::Memory(_) | Act::Conditional(_, _) => true,
         _ => false,
     }
 }
@@ -52,6 +52,19 @@ impl Standing<'_> {
         ensures { (flat_of self.now).hart i ≡ hart_of (length self.now.scene.image.now) result.now }
     {
         &self.pool[self.ids[i] as usize]
+    }
+
+    /// How deep a hart is in transactions.
+    pub fn depth(&self, id: HartId) -> u8
+        ensures { result ≡ depths (flat_of self.now) id }
+    {
+        if id.index() >= self.scene.count {
+            return 0;
+        }
+        match &self.hart(id.index()).tx {
+            Some(tx) => tx.depth,
+            None => 0,
+        }
     }
 
     /// What hart i is about to do.

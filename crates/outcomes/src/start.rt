@@ -1,18 +1,19 @@
 ghost use Rattle.std.specs.Prelude.{◌≡◌, ◌<◌, ◌≤◌, ◌+◌, ◌*◌, ◌^◌, ℕ, List, Some, None, Err, true, IfOk, IfErr, length, slice_get};
 ghost use Rattle.flat.specs.State.{Setting};
 ghost use Rattle.flat.specs.Start.{first_hart, first_state};
-ghost use Rattle.flat.specs.Boots.{boot_fault, booted, fits_below};
+ghost use Rattle.flat.specs.Boots.{boot_fault, fits_below};
 ghost use Rattle.flat.specs.declared.boot_fault.BootFault.{BootFault};
 ghost use Rattle.table.specs.Program.{image_at, AreBytes};
 ghost use Rattle.loader.specs.Memory.{mem_of};
 ghost use Rattle.outcomes.specs.Harts.{hart_of};
-ghost use Rattle.outcomes.specs.Pools.{flat_in, IsWithin};
-ghost use Rattle.outcomes.specs.Searches.{IsBegun};
+ghost use Rattle.outcomes.specs.Pools.{flat_in, reserved_in, IsWithin};
+ghost use Rattle.outcomes.specs.Searches.{booted_place, IsBegun};
 
 use crate::breadth_first::Outcomes;
 use crate::hart::Hart;
 use crate::memory::Memory;
 use crate::pool::{Pool, State};
+use crate::reservations::Reservations;
 use flat::BootFault;
 use indexmap::IndexSet;
 use loader::{Program, boot_fault, first_regs, image};
@@ -49,10 +50,12 @@ fn first_state(
     requires room { 8192 * count ≤ size }
     ensures within { IfOk result (IsWithin count pool.new) }
     ensures flat { IfOk result (λ x. (s : Setting) (image : List ℕ) → s.size ≡ size → length image ≡ size → s.count ≡ count → ((a : ℕ) → mem_of image a ≡ image_at s.segments a) → flat_in s image pool.new x ≡ first_state s entry) }
+    ensures reserved { IfOk result (λ x. (i : ℕ) → reserved_in pool.new x i ≡ None) }
 {
     let mut state = State {
         harts: [0; HARTS],
         memory: pool.keep_memory(Memory::new(alloc))?,
+        reserved: pool.keep_reservations(Reservations::none())?,
     };
     for i in 0..count {
         state.harts[i] = pool.keep_hart(first_hart(alloc, i, count, size, entry))?;
@@ -72,7 +75,7 @@ fn begin_booted(
     requires room { 8192 * count ≤ size }
     requires fits { fits_below size count program.segments ≡ true }
     ensures bytes { IfOk result (λ _. AreBytes program.segments) }
-    ensures begun { IfOk result (IsBegun (booted program.segments program.entry count size)) }
+    ensures begun { IfOk result (IsBegun (booted_place program.segments program.entry count size)) }
 {
     let image = image(alloc, &program, size)?;
     let mut pool = Pool::new(alloc);
@@ -96,7 +99,7 @@ pub fn begin(alloc: Global, program: Program, harts: u32, size: u32) -> Result<O
     ensures refused { (e : BootFault) → boot_fault program.segments harts size ≡ Some e → result ≡ Err e }
     ensures memory { boot_fault program.segments harts size ≡ None → IfErr result (λ e. e ≡ BootFault.NoMemory) }
     ensures bytes { IfOk result (λ _. AreBytes program.segments) }
-    ensures begun { IfOk result (IsBegun (booted program.segments program.entry harts size)) }
+    ensures begun { IfOk result (IsBegun (booted_place program.segments program.entry harts size)) }
 {
     if let Some(fault) = boot_fault(&program, harts, size) {
         return Err(fault);

@@ -1,15 +1,16 @@
-ghost use Rattle.std.specs.Prelude.{◌≡◌, ◌≢◌, ◌<◌, ◌≤◌, ◌++◌, [], ◌∷◌, ℕ, List, true, false, Ok, Err, Some, None, IsTrue, IfOk, OnOk, IfSome, IfNone, IsOkAnd, IsSomeAnd, IsSome, length, option_to_list, vec_len, ◌&&◌, nat_le, is_some};
+ghost use Rattle.std.specs.Prelude.{◌≡◌, ◌≢◌, ◌<◌, ◌≤◌, ◌++◌, [], ◌∷◌, ℕ, List, true, false, Ok, Err, Some, None, IsTrue, IfOk, OnOk, IfSome, IfNone, IsOkAnd, IsSomeAnd, IsSome, length, option_to_list, vec_len, ◌&&◌, nat_le, is_some, not};
 ghost use Rattle.std.specs.Option.{option_map, option_map_or};
 ghost use Rattle.words.specs.declared.entry.Entry.{Entry};
 ghost use Rattle.words.specs.Limits.{log_records};
 ghost use Rattle.flat.specs.State.{Flat, IsAllowed};
 ghost use Rattle.flat.specs.Causes.{next_of};
 ghost use Rattle.flat.specs.Steps.{IsRunning, is_abort, is_store, hart_of, aborted, stopped, retired, Carries};
+ghost use Rattle.table.specs.Effects.{resolved};
 ghost use Rattle.table.specs.Program.{word_at};
 ghost use Rattle.isolation.specs.Moves.{Moves, MovesBy, MoveTogether, MovesInOrder};
 ghost use Rattle.outcomes.specs.Harts.{tx_of};
 ghost use Rattle.outcomes.specs.Standings.{setting_of, flat_of, changed};
-ghost use Rattle.outcomes.specs.Turns.{entries_of, after, IsBack, IsOf, IsOwn, IsOwnMove, IsMove, IsMoveInOrder, Has, Adds};
+ghost use Rattle.outcomes.specs.Turns.{entries_of, after, IsBack, IsOf, IsOwn, IsOwnMove, is_conditional, is_failure, IsMove, IsMoveInOrder, Has, Adds};
 ghost use Rattle.outcomes.specs.declared.change.Turn.{Turn};
 ghost use Rattle.std.specs.List.{Contains};
 
@@ -31,12 +32,22 @@ fn is_abort(act: &Act) -> bool
     }
 }
 
-/// Whether an act stores.
+/// Whether an act stores, or may.
 fn is_store(act: &Act) -> bool
     ensures { result ≡ is_store act.now }
 {
     match act {
-        Act::Memory(m) => m.store.is_some(),
+        Act::Memory(m) | Act::Conditional(_, m) => m.store.is_some(),
+        _ => false,
+    }
+}
+
+/// Whether an act is a conditional store.
+fn is_conditional(act: &Act) -> bool
+    ensures { result ≡ is_conditional act.now }
+{
+    match act {
+        Act::Conditional(_, _) => true,
         _ => false,
     }
 }
@@ -75,26 +86,29 @@ impl Standing<'_> {
         }
     }
 
-    /// Hart i retires an effect.
+    /// Hart i retires what its word does. A conditional store succeeds or fails.
     fn retires(
         &self,
         alloc: Global,
         id: HartId,
         word: u32,
         effect: &Effect,
+        succeeds: bool,
     ) -> Result<Turn, AllocError>
         requires running { IsRunning (flat_of self.now) id }
         requires fetched { word_at (flat_of self.now).setting.segments ((flat_of self.now).hart id).pc ≡ Some word }
         requires next { next_of (flat_of self.now).setting ((flat_of self.now).hart id) ≡ Ok effect.now }
         requires no_abort { is_abort effect.now.act ≡ false }
-        requires allowed { IsAllowed (flat_of self.now) id effect.now.act }
-        ensures { IfOk result (IsOwnMove self.now.scene.image.now (flat_of self.now) id) }
+        requires allowed { IsAllowed (flat_of self.now) id (resolved succeeds effect.now).act }
+        requires fails { succeeds ≡ false → is_conditional effect.now.act ≡ true }
+        ensures { IfOk result (IsOwnMove self.now.scene.image.now (flat_of self.now) id (not succeeds)) }
     {
         let image = self.scene.image;
+        let done = effect.resolved(succeeds);
         let mut hart = self.hart(id.index()).copy(alloc)?;
         let mut memory = self.memory.copy()?;
-        let entry = hart.entry(image, self.memory, id, word, effect);
-        hart.retire(alloc, image, &mut memory, effect)?;
+        let entry = hart.entry(image, self.memory, id, word, &done);
+        hart.retire(alloc, image, &mut memory, &done)?;
         Ok(Turn::Alone(
             entry,
             Change {
@@ -109,7 +123,7 @@ impl Standing<'_> {
     fn gives_up(&self, alloc: Global, id: HartId, cause: Cause) -> Result<Turn, AllocError>
         requires running { IsRunning (flat_of self.now) id }
         requires next { next_of (flat_of self.now).setting ((flat_of self.now).hart id) ≡ Err cause }
-        ensures { IfOk result (IsOwnMove self.now.scene.image.now (flat_of self.now) id) }
+        ensures { IfOk result (IsOwnMove self.now.scene.image.now (flat_of self.now) id false) }
     {
         let hart = self.hart(id.index());
         let pc = Addr::new(hart.pc);
@@ -160,12 +174,12 @@ impl Standing<'_> {
         }
     }
 
-    /// What hart i does by its word alone: it retires it if that is allowed, or aborts as the word asks, or for its cause, or is
-    /// stopped.
+    /// What hart i does by its word alone, where a conditional store succeeds: it retires it if that is allowed, or aborts as the
+    /// word asks, or for its cause, or is stopped.
     fn own(&self, alloc: Global, id: HartId) -> Result<Option<Turn>, AllocError>
         requires { id < self.now.scene.count }
-        ensures some { IfOk result (λ r. IfSome r (IsOwnMove self.now.scene.image.now (flat_of self.now) id)) }
-        ensures none { IfOk result (λ r. IfNone r ((e : Entry) (g : Flat) → IsOwn e → hart_of e ≡ id → Carries (flat_of self.now) e g → ⊥)) }
+        ensures some { IfOk result (λ r. IfSome r (IsOwnMove self.now.scene.image.now (flat_of self.now) id false)) }
+        ensures none { IfOk result (λ r. IfNone r ((e : Entry) (g : Flat) → IsOwn e → is_failure (flat_of self.now) e ≡ false → hart_of e ≡ id → Carries (flat_of self.now) e g → ⊥)) }
     {
         match self.next_move(id.index()) {
             NextMove::Idle => Ok(None),
@@ -173,12 +187,30 @@ impl Standing<'_> {
             NextMove::Goes(word, effect) => {
                 if is_abort(&effect.act) {
                     self.aborts_for(alloc, id, &AbortCause::Asked)
-                } else if self.is_allowed(id.index(), &effect.act) {
-                    Ok(Some(self.retires(alloc, id, word, &effect)?))
+                } else if self.is_allowed(id.index(), &effect.resolved(true).act) {
+                    Ok(Some(self.retires(alloc, id, word, &effect, true)?))
                 } else {
                     Ok(None)
                 }
             }
+        }
+    }
+
+    /// Hart i's conditional store fails, if its word is one.
+    fn fails(&self, alloc: Global, id: HartId) -> Result<Option<Turn>, AllocError>
+        requires { id < self.now.scene.count }
+        ensures some { IfOk result (λ r. IfSome r (IsOwnMove self.now.scene.image.now (flat_of self.now) id true)) }
+        ensures none { IfOk result (λ r. IfNone r ((e : Entry) (g : Flat) → IsOwn e → is_failure (flat_of self.now) e ≡ true → hart_of e ≡ id → Carries (flat_of self.now) e g → ⊥)) }
+    {
+        match self.next_move(id.index()) {
+            NextMove::Goes(word, effect) => {
+                if is_conditional(&effect.act) {
+                    Ok(Some(self.retires(alloc, id, word, &effect, false)?))
+                } else {
+                    Ok(None)
+                }
+            }
+            NextMove::Idle | NextMove::Stops(_) => Ok(None),
         }
     }
 
@@ -263,6 +295,7 @@ impl Standing<'_> {
         ensures all { OnOk result ((e : Entry) (g : Flat) → hart_of e ≡ id → MovesBy (flat_of self.now) e g → Has self.now.scene.image.now (flat_of self.now) turns.new.items (e ∷ []) g) }
     {
         push_some(turns, self.own(alloc, id)?)?;
+        push_some(turns, self.fails(alloc, id)?)?;
         push_some(turns, self.overflows(alloc, id)?)?;
         push_some(turns, self.gives_way(alloc, id)?)
     }

@@ -2,7 +2,7 @@ ghost use Rattle.std.specs.Prelude.{◌≡◌, ◌<◌, ◌++◌, ℕ, List, IfO
 ghost use Rattle.words.specs.declared.entry.Entry.{Entry};
 ghost use Rattle.isolation.specs.Walks.{WalksInOrder, entries_of};
 ghost use Rattle.outcomes.specs.declared.pool.State.{State};
-ghost use Rattle.outcomes.specs.Searches.{flat_at, shown_by, Stands, IsSearch};
+ghost use Rattle.outcomes.specs.Searches.{place_at, shown_by, Stands, IsSearch};
 
 use crate::breadth_first::{Move, Outcomes};
 use crate::list::{push, turn_round};
@@ -38,7 +38,7 @@ impl Outcomes {
     pub fn witness(&self, alloc: Global, place: usize) -> Result<Vec<Entry>, AllocError>
         requires search { IsSearch self.now }
         requires place { place < length self.now.states.keys }
-        ensures { IfOk result (λ es. (x y : State) → Stands self.now 0 x → Stands self.now place y → (ess : List (List Entry)) × (es.items ≡ entries_of ess) × WalksInOrder (flat_at self.now x) ess (flat_at self.now y)) }
+        ensures { IfOk result (λ es. (x y : State) → Stands self.now 0 x → Stands self.now place y → (ess : List (List Entry)) × (es.items ≡ entries_of ess) × WalksInOrder (place_at self.now x) ess (place_at self.now y)) }
     {
         let mut entries = Vec::new(alloc);
         let mut at = place;

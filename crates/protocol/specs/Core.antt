@@ -22,12 +22,14 @@ use Rattle.table.specs.declared.effect.Effect.{Effect}
 use Rattle.table.specs.declared.effect.MemoryAct.{MemoryAct}
 use Rattle.table.specs.declared.effect.Act.{Act}
 use Rattle.table.specs.declared.effect.Act.TheVariants as act
-use Rattle.table.specs.Effects.{with_reg}
+use Rattle.table.specs.declared.effect.Load.{Load}
+use Rattle.table.specs.Effects.{with_reg, resolved}
 use Rattle.table.specs.Program.{word_at}
 use Rattle.flat.specs.State.{Setting}
 use Rattle.flat.specs.Causes.{next_of}
 use Rattle.flat.specs.Effects.{retire_of, write_by, output_by, status_by}
 use Rattle.flat.specs.Steps.{status_for}
+use Rattle.flat.specs.Reservation.{is_reserved}
 use Rattle.words.specs.Limits.{log_records}
 use Rattle.words.specs.LineStates.{is_owned}
 use Rattle.protocol.specs.Lines.{Line, is_enough, byte_in, line_used, line_undone, line_cleared}
@@ -55,6 +57,7 @@ end_abort_row i cause t h = gives (Abort i cause) (record h {
   status = status_for cause;
   tx = None;
   kept_stamp = Some t.stamp;
+  reserved = None;
   lines = λ b. line_cleared (h.lines b);
   fresh = false;
 })
@@ -77,7 +80,7 @@ abort_move i cause t (r ∷ rest) h = undo_move t r rest (h.lines r.block) h
 
 -- a trap stops the hart; in a transaction it starts an abort, and the abort's end stops it
 abbrev pub trap_row : ℕ → Cause → Option Transaction → Hart → HartResult
-trap_row i c None h = gives (Trap i c h.pc) (record h { status = Stopped c h.pc; fresh = false })
+trap_row i c None h = gives (Trap i c h.pc) (record h { status = Stopped c h.pc; reserved = None; fresh = false })
 trap_row i c (Some t) h = start_abort_row (Trapped c h.pc) t h
 
 -- the word w is retired with its effect: registers, pc, output, status and entry, by the bytes that the hart sees. The hart h has
@@ -109,7 +112,7 @@ tx_begun i taken abort_pc h = record {
 }
 
 abbrev pub begin_row : ℕ → ℕ → ℕ → Effect → ℕ → Option Transaction → Hart → HartResult
-begin_row i taken w e p None h = record (retire_row i no_memory w e (record h { tx = Some (tx_begun i taken p h); kept_stamp = None })) {
+begin_row i taken w e p None h = record (retire_row i no_memory w e (record h { tx = Some (tx_begun i taken p h); kept_stamp = None; reserved = None })) {
   stamped = is_none h.kept_stamp;
 }
 begin_row i taken w e p (Some t) h = retire_row i no_memory w e (record h { tx = Some (record t { depth = t.depth + 1 }) })
@@ -119,7 +122,7 @@ abbrev pub commit_row : ℕ → ℕ → Effect → Option Transaction → Hart �
 commit_row i w e None h = retire_row i no_memory w e h
 commit_row i w e (Some t) h =
     cond (t.depth == 1)
-    (retire_row i no_memory w e (record h { tx = None; lines = λ b. line_cleared (h.lines b) }))
+    (retire_row i no_memory w e (record h { tx = None; reserved = None; lines = λ b. line_cleared (h.lines b) }))
     (retire_row i no_memory w e (record h { tx = Some (record t { depth = t.depth - 1 }) }))
 
 -- TABORT starts an abort (outside a transaction it traps: that case never occurs)
@@ -141,27 +144,40 @@ log_used m l log = cond (is_log_due m l) (record { block = m.addr / 32; before =
 abbrev pub tx_used : MemoryAct → Line → Transaction → Transaction
 tx_used m l t = record t { log = log_used m l t.log }
 
--- an access to a line that is enough: in a transaction it logs and marks, and on a full log an abort starts
--- instead
-abbrev pub access_row : ℕ → ℕ → Effect → MemoryAct → Line → Option Transaction → Hart → HartResult
-access_row i w e m l None h = retire_row i (byte_in l.content) w e (with_line (m.addr / 32) (Some (line_used false m l)) h)
-access_row i w e m l (Some t) h =
+-- an access to a line that is enough, which leaves this block reserved: in a transaction it logs and marks, and on a full log an abort
+-- starts instead
+abbrev pub access_row : ℕ → ℕ → Effect → MemoryAct → Option ℕ → Line → Option Transaction → Hart → HartResult
+access_row i w e m kept l None h = retire_row i (byte_in l.content) w e (with_line (m.addr / 32) (Some (line_used false m l)) (record h { reserved = kept }))
+access_row i w e m kept l (Some t) h =
     cond (is_log_due m l && nat_le log_records (length t.log))
     (start_abort_row LogFull t h)
-    (retire_row i (byte_in l.content) w e (with_line (m.addr / 32) (Some (line_used true m l)) (record h { tx = Some (tx_used m l t) })))
+    (retire_row i (byte_in l.content) w e (with_line (m.addr / 32) (Some (line_used true m l)) (record h { tx = Some (tx_used m l t); reserved = kept })))
 
 -- if the line is enough
-abbrev pub access_move : ℕ → ℕ → Effect → MemoryAct → Option Line → Hart → Move
-access_move i w e m None h = Lacks (kind_of m) (m.addr / 32)
-access_move i w e m (Some l) h =
+abbrev pub access_move : ℕ → ℕ → Effect → MemoryAct → Option ℕ → Option Line → Hart → Move
+access_move i w e m kept None h = Lacks (kind_of m) (m.addr / 32)
+access_move i w e m kept (Some l) h =
     cond (is_enough (kind_of m) (Some l))
-    (Makes (access_row i w e m l h.tx h))
+    (Makes (access_row i w e m kept l h.tx h))
     (Lacks (kind_of m) (m.addr / 32))
+
+-- the block that is reserved after an access: LR reserves that which it loads from
+abbrev pub reserved_with : MemoryAct → Option Load → Option ℕ → Option ℕ
+reserved_with m None r = r
+reserved_with m (Some l) r = cond l.reserves (Some (m.addr / 32)) r
+
+-- a conditional store: an access where the hart has reserved the block, which leaves it not reserved; elsewhere it fails at once
+abbrev pub conditional_move : ℕ → ℕ → Effect → MemoryAct → Hart → Move
+conditional_move i w e m h =
+    cond (is_reserved (m.addr / 32) h.reserved)
+    (access_move i w (resolved true e) m None (h.lines (m.addr / 32)) h)
+    (Makes (retire_row i no_memory w (resolved false e) (record h { reserved = None })))
 
 -- a word with an effect (EBREAK always traps: that case never occurs)
 abbrev pub effect_move : ℕ → ℕ → ℕ → Effect → Act → Hart → Move
 effect_move i taken w e act.Nothing h = Makes (retire_row i no_memory w e h)
-effect_move i taken w e (act.Memory m) h = access_move i w e m (h.lines (m.addr / 32)) h
+effect_move i taken w e (act.Memory m) h = access_move i w e m (reserved_with m m.load h.reserved) (h.lines (m.addr / 32)) h
+effect_move i taken w e (act.Conditional rd m) h = conditional_move i w e m h
 effect_move i taken w e (act.Begin p) h = Makes (begin_row i taken w e p h.tx h)
 effect_move i taken w e act.Commit h = Makes (commit_row i w e h.tx h)
 effect_move i taken w e act.Abort h = Makes (tabort_row h.tx h)

@@ -10,6 +10,7 @@ use Rattle.words.specs.declared.entry.Entry.{Entry}
 use Rattle.words.specs.declared.entry.Entry.TheVariants.{Spill}
 use Rattle.words.specs.declared.message.LineState.{LineState}
 use Rattle.words.specs.declared.message.LineState.TheVariants.{Shared, Exclusive, Modified}
+use Rattle.flat.specs.Reservation.{without_block}
 use Rattle.protocol.specs.Messages.{Put}
 use Rattle.words.specs.Marks.{is_marked}
 use Rattle.protocol.specs.Lines.{Line}
@@ -19,9 +20,9 @@ use Rattle.protocol.specs.Hart.{Hart, Transaction, PutOut, HartResult, with_line
 abbrev pub tx_spilled : Bool → Transaction → Transaction
 tx_spilled marked t = record t { overflow = t.overflow || marked }
 
--- the hart without its line of block b
+-- the hart without its line of block b. A reservation goes with its line
 abbrev pub without_line : ℕ → Line → Hart → Hart
-without_line b l h = with_line b None (record h { tx = option_map (tx_spilled (is_marked l.marks)) h.tx })
+without_line b l h = with_line b None (record h { tx = option_map (tx_spilled (is_marked l.marks)) h.tx; reserved = without_block b h.reserved })
 
 -- the entry for a marked line
 abbrev pub spill_of : ℕ → ℕ → Line → Option Entry

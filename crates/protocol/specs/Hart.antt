@@ -52,8 +52,8 @@ pub record PutOut : Type 0 where
   pub content : Block
   pub marked : Bool
 
--- a hart: the kept stamp is the one that an abort has left for the next transaction, and a hart is fresh that was granted a
--- request and has made no core step since. How many lines it can hold is said in Caches
+-- a hart: the kept stamp is the one that an abort has left for the next transaction, the reserved block the one that LR has reserved, and a hart is fresh that was
+-- granted a request and has made no core step since. How many lines it can hold is said in Caches
 pub record Hart : Type 0 where
   pub regs : List ℕ
   pub pc : ℕ
@@ -61,6 +61,7 @@ pub record Hart : Type 0 where
   pub status : Status
   pub tx : Option Transaction
   pub kept_stamp : Option Stamp
+  pub reserved : Option ℕ
   pub lines : ℕ → Option Line
   pub request : Option Request
   pub put : Option PutOut

@@ -9,6 +9,8 @@ use Rattle.std.specs.Option.{option_map, option_or}
 use Rattle.words.specs.declared.stamp.Stamp.{Stamp}
 use Rattle.words.specs.declared.entry.Entry.TheVariants.{Refuse}
 use Rattle.words.specs.declared.message.Kind.{Kind}
+use Rattle.words.specs.declared.message.Kind.TheVariants.{Read, Write}
+use Rattle.flat.specs.Reservation.{without_block}
 use Rattle.protocol.specs.Messages.{Block, Message, Get, Put, Done, Grant, Forward, PutAck, Ack, Nack}
 use Rattle.protocol.specs.Lines.{refuses, line_given, owned_content}
 use Rattle.words.specs.Stamps.{earlier}
@@ -32,9 +34,14 @@ refuse_row i b r stamp h = record {
 abbrev pub content_held : ℕ → Hart → Option Block
 content_held b h = option_or (owned_content (h.lines b)) (put_content b h.put)
 
+-- what a forward that is met leaves of a reservation: it goes with its line
+abbrev pub reserved_given : Kind → ℕ → Option ℕ → Option ℕ
+reserved_given Read b r = r
+reserved_given Write b r = without_block b r
+
 -- hart i acknowledges hart r's request
 abbrev pub acknowledge_row : ℕ → ℕ → Kind → ℕ → Hart → HartResult
-acknowledge_row i b kind r h = sends (Ack i r b (content_held b h)) (with_line b (line_given kind (h.lines b)) h)
+acknowledge_row i b kind r h = sends (Ack i r b (content_held b h)) (with_line b (line_given kind (h.lines b)) (record h { reserved = reserved_given kind b h.reserved }))
 
 abbrev pub forward_row : ℕ → ℕ → Kind → ℕ → Option Stamp → Hart → HartResult
 forward_row i b kind r stamp h = cond (refuses (h.lines b) (overflow_of h.tx) kind) (refuse_row i b r stamp h) (acknowledge_row i b kind r h)

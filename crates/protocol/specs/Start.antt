@@ -17,6 +17,7 @@ first_hart h = record {
   status = h.status;
   tx = None;
   kept_stamp = None;
+  reserved = None;
   lines = λ b. None;
   request = None;
   put = None;

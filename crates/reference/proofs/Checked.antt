@@ -1,6 +1,6 @@
 -- What the plain machine finds out about an entry is whether the entry can come.
 use Rattle.std.proofs.Common.{◌≡◌, ℕ, Option, Some, None, Result, Ok, Err, List, [], ◌∷◌, ◌++◌, refl, sym, ap, subst, ◌∙◌}
-use Rattle.std.specs.Prelude.{IsOkAnd, IsSomeAnd, IfOk}
+use Rattle.std.specs.Prelude.{is_some, IsOkAnd, IsSomeAnd, IfOk}
 use Rattle.words.specs.declared.cause.Cause.{Cause}
 use Rattle.words.specs.declared.cause.AbortCause.{AbortCause}
 use Rattle.words.specs.declared.entry.Access.{Access}
@@ -8,12 +8,12 @@ use Rattle.words.specs.declared.entry.Entry.{Entry}
 use Rattle.words.specs.declared.entry.Entry.TheVariants.{Retire}
 use Rattle.table.specs.declared.effect.Effect.{Effect}
 use Rattle.flat.specs.State.{Flat, FlatHart, Tx, flat_view}
-use Rattle.flat.specs.Causes.{next_of}
+use Rattle.flat.specs.Causes.{next_of, done_next}
 use Rattle.flat.specs.Effects.{retire_of}
 use Rattle.flat.specs.Steps.{Retires, Carries, IsRun, MayAbort, retired}
 use Rattle.reference.specs.declared.machine.NextMove.{NextMove}
 use Rattle.reference.specs.declared.machine.NextMove.TheVariants.{Idle, Stops, Goes}
-use Rattle.reference.specs.Machines.{IsNextMove, CanRetire, RetiresAs, CanAbort, IsDueAbort}
+use Rattle.reference.specs.Machines.{IsNextMove, has_store, CanRetire, RetiresAs, CanAbort, IsDueAbort}
 
 -- a transaction is rolled back for a cause that is due
 some_due : (f : Flat) (i : ℕ) (cause : AbortCause) (h : FlatHart) (t : Tx) (r : Result Effect Cause)
@@ -60,7 +60,7 @@ none_retires f i e g (Ok x) n p = n p.0 e g p.1
 none_retires f i e g (Err c) n p = p
 
 -- no other entry is retired than the planned one
-pub only_planned : (f g : Flat) (i w : ℕ) (does : Effect) (e planned : Entry) → CanRetire f i w does planned → RetiresAs f i e g → planned ≡ e
+pub only_planned : (f g : Flat) (i w : ℕ) (does : Effect) (e planned : Entry) → CanRetire f i (has_store e) w does planned → RetiresAs f i e g → planned ≡ e
 only_planned f g i w does e planned can had =
     let P = λ (r : Result Effect Cause). IsOkAnd r (λ does. (w : ℕ) × Retires f i w does e g) in
     let p = subst P can.0 had in
@@ -68,7 +68,7 @@ only_planned f g i w does e planned can had =
     let k : p.0 ≡ w = cc in
     can.1.entry ∙ ap (λ w. retire_of (flat_view f i) i (f.hart i) w does) (sym k) ∙ sym p.1.entry
 
-pub planned_retires : (f g : Flat) (i w : ℕ) (does : Effect) (e planned : Entry) → CanRetire f i w does planned → planned ≡ e → g ≡ retired f i does → RetiresAs f i e g
+pub planned_retires : (f g : Flat) (i w : ℕ) (does : Effect) (e planned : Entry) → CanRetire f i (has_store e) w does planned → planned ≡ e → g ≡ retired f i does → RetiresAs f i e g
 planned_retires f g i w does e planned can same new =
     let P = λ (r : Result Effect Cause). IsOkAnd r (λ does. (w : ℕ) × Retires f i w does e g) in
     subst P (sym can.0) (w, record { running = can.1.running; fetched = can.1.fetched; no_abort = can.1.no_abort; allowed = can.1.allowed; entry = sym same ∙ can.1.entry; after = new })
@@ -89,11 +89,11 @@ carries_as f g i pc w x l s (Err c) p = p
 
 pub to_carries : (f g : Flat) (e : Entry) (i pc w : ℕ) (x : Option (ℕ × ℕ)) (l s : Option Access) → e ≡ Retire i pc w x l s → RetiresAs f i e g → Carries f e g
 to_carries f g e i pc w x l s k p =
-    subst (λ e. Carries f e g) (sym k) (as_carries f g i pc w x l s (next_of f.setting (f.hart i)) (subst (λ e. RetiresAs f i e g) k p))
+    subst (λ e. Carries f e g) (sym k) (as_carries f g i pc w x l s (done_next (is_some s) f.setting (f.hart i)) (subst (λ e. RetiresAs f i e g) k p))
 
 pub from_carries : (f g : Flat) (e : Entry) (i pc w : ℕ) (x : Option (ℕ × ℕ)) (l s : Option Access) → e ≡ Retire i pc w x l s → Carries f e g → RetiresAs f i e g
 from_carries f g e i pc w x l s k p =
-    subst (λ e. RetiresAs f i e g) (sym k) (carries_as f g i pc w x l s (next_of f.setting (f.hart i)) (subst (λ e. Carries f e g) k p))
+    subst (λ e. RetiresAs f i e g) (sym k) (carries_as f g i pc w x l s (done_next (is_some s) f.setting (f.hart i)) (subst (λ e. Carries f e g) k p))
 
 pub if_ok : {T E : Type 0} (r : Result T E) (P Q : T → Type 0) → ((x : T) → P x → Q x) → IfOk r P → IfOk r Q
 if_ok (Ok x) P Q f p = f x p

@@ -13,7 +13,7 @@ use Rattle.table.specs.declared.effect.Act.{Act}
 use Rattle.table.specs.declared.effect.Act.TheVariants as act
 use Rattle.table.specs.Program.{word_at}
 use Rattle.flat.specs.State.{Setting, Tx, FlatHart, Flat, has_read, has_written, idle}
-use Rattle.flat.specs.Causes.{next_of}
+use Rattle.flat.specs.Causes.{next_of, done_next}
 use Rattle.flat.specs.Steps.{IsRunning, Retires, retired, MayAbort, CarriesSome, IsRun}
 use Rattle.reference.specs.declared.machine.Machine.{Machine}
 use Rattle.reference.specs.declared.machine.NextMove.{NextMove}
@@ -46,13 +46,18 @@ IsNextMove f i Idle = IsRunning f i → ⊥
 IsNextMove f i (Stops c) = IsRunning f i × (next_of f.setting (f.hart i) ≡ Err c)
 IsNextMove f i (Goes word e) = IsRunning f i × (word_at f.setting.segments (f.hart i).pc ≡ Some word) × (next_of f.setting (f.hart i) ≡ Ok e)
 
--- hart i can retire its word with this effect, and the entry shows it
-abbrev pub CanRetire : Flat → ℕ → ℕ → Effect → Entry → Type 0
-CanRetire f i word does e = (next_of f.setting (f.hart i) ≡ Ok does) × Retires f i word does e (retired f i does)
+-- hart i can retire its word with this effect, where a conditional store succeeds or doesn't, and the entry shows it
+abbrev pub CanRetire : Flat → ℕ → Bool → ℕ → Effect → Entry → Type 0
+CanRetire f i succeeds word does e = (done_next succeeds f.setting (f.hart i) ≡ Ok does) × Retires f i word does e (retired f i does)
+
+-- whether an entry has a store
+abbrev pub has_store : Entry → Bool
+has_store (Retire i pc word write load store) = is_some store
+has_store e = false
 
 -- hart i retires, and this entry shows it
 abbrev pub RetiresAs : Flat → ℕ → Entry → Flat → Type 0
-RetiresAs f i e g = IsOkAnd (next_of f.setting (f.hart i)) (λ does. (w : ℕ) × Retires f i w does e g)
+RetiresAs f i e g = IsOkAnd (done_next (has_store e) f.setting (f.hart i)) (λ does. (w : ℕ) × Retires f i w does e g)
 
 -- hart i's transaction can be rolled back for this cause
 abbrev pub CanAbort : Flat → ℕ → AbortCause → Type 0

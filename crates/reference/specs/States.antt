@@ -52,6 +52,7 @@ pub record FitsIn (size : ℕ) (m : MemoryAct) : Type 0 where
 -- the access of an act, if it has one
 abbrev pub Fits : ℕ → Act → Type 0
 Fits size (act.Memory m) = FitsIn size m
+Fits size (act.Conditional rd m) = FitsIn size m
 Fits size _ = Unit {0}
 
 -- a transaction can go one deeper

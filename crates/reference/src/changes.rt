@@ -1,5 +1,5 @@
-ghost use Rattle.std.specs.Prelude.{◌≡◌, Ok, OnOk, OnErr, IfSome};
-ghost use Rattle.flat.specs.Causes.{next_of};
+ghost use Rattle.std.specs.Prelude.{◌≡◌, None, OnOk, OnErr, IfSome};
+ghost use Rattle.flat.specs.Causes.{act_cause};
 ghost use Rattle.flat.specs.Steps.{IsRunning, retired, aborted, stopped};
 ghost use Rattle.reference.specs.Machines.{setting_of, flat_of};
 
@@ -17,7 +17,7 @@ impl Machine {
         effect: &Effect,
     ) -> Result<(), AllocError>
         requires running { IsRunning (flat_of self.old) i }
-        requires next { next_of (setting_of self.old) ((flat_of self.old).hart i) ≡ Ok effect.now }
+        requires uncaused { act_cause (setting_of self.old) ((flat_of self.old).hart i) effect.now.act ≡ None }
         ensures ok { OnOk result (flat_of self.new ≡ retired (flat_of self.old) i effect.now) }
         ensures err { OnErr result (flat_of self.new ≡ flat_of self.old) }
     {

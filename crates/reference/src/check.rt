@@ -1,10 +1,10 @@
 ghost use Rattle.std.specs.Prelude.{◌≡◌, ◌≢◌, ◌<◌, ◌≤◌, ◌↔◌, ℕ, true, false, IsTrue, IfOk, IfErr, IfSome, IfNone, OnErr, Ok, length, take, vec_len, slice_get, IsOkAnd};
 ghost use Rattle.words.specs.declared.entry.Entry.{Entry};
 ghost use Rattle.flat.specs.State.{Flat, idle};
-ghost use Rattle.flat.specs.Causes.{next_of};
+ghost use Rattle.flat.specs.Causes.{done_next};
 ghost use Rattle.flat.specs.Steps.{Carries, Retires, IsRun, MayAbort, is_store};
 ghost use Rattle.reference.specs.States.{hart_of, tx_of};
-ghost use Rattle.reference.specs.Machines.{setting_of, flat_of, CanRetire, RetiresAs, CanAbort, CanTrap, IsDueAbort};
+ghost use Rattle.reference.specs.Machines.{setting_of, flat_of, has_store, CanRetire, RetiresAs, CanAbort, CanTrap, IsDueAbort};
 
 use crate::hart::{Hart, MOST_STORES, Transaction};
 use crate::machine::{Machine, NextMove};
@@ -17,7 +17,7 @@ fn is_store(act: &Act) -> bool
     ensures { result ≡ is_store act.now }
 {
     match act {
-        Act::Memory(m) => m.store.is_some(),
+        Act::Memory(m) | Act::Conditional(_, m) => m.store.is_some(),
         _ => false,
     }
 }
@@ -27,6 +27,16 @@ fn is_same(a: &Entry, b: &Entry) -> bool
     ensures no { result ≡ false → a.now ≢ b.now }
 {
     a == b
+}
+
+/// Whether an entry has a store.
+fn has_store(entry: &Entry) -> bool
+    ensures { result ≡ has_store entry.now }
+{
+    match entry {
+        Entry::Retire { store, .. } => store.is_some(),
+        _ => false,
+    }
 }
 
 /// Whether an abort for this cause is due, by what the hart is about to do.
@@ -50,14 +60,15 @@ fn is_due(cause: &AbortCause, hart: &Hart, tx: &Transaction, next: &NextMove) ->
 }
 
 impl Machine {
-    /// What hart i can retire next, and the entry that shows it.
-    fn plan(&self, id: HartId) -> Option<(u32, Effect, Entry)>
-        ensures some { IfSome result (λ x. CanRetire (flat_of self.now) id x.0 x.1 x.2) }
-        ensures none { IfNone result ((w : ℕ) (e : Entry) (g : Flat) → IsOkAnd (next_of (setting_of self.now) ((flat_of self.now).hart id)) (λ does. Retires (flat_of self.now) id w does e g) → ⊥) }
+    /// What hart i can retire next, where a conditional store succeeds or doesn't, and the entry that shows it.
+    fn plan(&self, id: HartId, succeeds: bool) -> Option<(u32, Effect, Entry)>
+        ensures some { IfSome result (λ x. CanRetire (flat_of self.now) id succeeds x.0 x.1 x.2) }
+        ensures none { IfNone result ((w : ℕ) (e : Entry) (g : Flat) → IsOkAnd (done_next succeeds (setting_of self.now) ((flat_of self.now).hart id)) (λ does. Retires (flat_of self.now) id w does e g) → ⊥) }
     {
         match self.next_move(id.index()) {
             NextMove::Idle | NextMove::Stops(_) => None,
             NextMove::Goes(word, effect) => {
+                let effect = effect.resolved(succeeds);
                 if is_abort(&effect.act) || self.kept_out_by(id.index(), &effect.act).is_some() {
                     None
                 } else {
@@ -75,7 +86,7 @@ impl Machine {
         ensures same { IfOk result (λ yes. yes ≡ false → flat_of self.new ≡ flat_of self.old) }
         ensures err { OnErr result (flat_of self.new ≡ flat_of self.old) }
     {
-        let (effect, planned) = match self.plan(id) {
+        let (effect, planned) = match self.plan(id, has_store(entry)) {
             Some((_, effect, planned)) => (effect, planned),
             None => return Ok(false),
         };

@@ -44,9 +44,13 @@ impl Machine {
                     None => None,
                 }
             }
-            Act::Nothing | Act::Begin(_) | Act::Commit | Act::Abort | Act::Call | Act::Break => {
-                None
-            }
+            Act::Nothing
+            | Act::Conditional(..)
+            | Act::Begin(_)
+            | Act::Commit
+            | Act::Abort
+            | Act::Call
+            | Act::Break => None,
         }
     }
 }

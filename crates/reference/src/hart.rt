@@ -140,7 +140,7 @@ impl Hart {
         ensures { result ≡ write_by (view_of memory.now self.now) effect.now effect.now.act }
     {
         match &effect.act {
-            Act::Memory(m) => self.loaded(memory, m),
+            Act::Memory(m) if m.load.is_some() => self.loaded(memory, m),
             _ => effect.write,
         }
     }
@@ -289,7 +289,7 @@ impl Hart {
                 Ok(())
             }
             Act::Call => self.call(),
-            Act::Nothing | Act::Abort | Act::Break => Ok(()),
+            Act::Nothing | Act::Conditional(..) | Act::Abort | Act::Break => Ok(()),
         }
     }
 

@@ -1,8 +1,9 @@
-ghost use Rattle.std.specs.Prelude.{◌≡◌, ◌<◌, ◌≤◌, ◌++◌, [], ◌∷◌, is_some, Ok, Err, Some, true, false, IfOk, IfErr, OnOk, OnErr, List, vec_len, vec_capacity, option_to_list, length, take, IsOkAnd, IsSome};
+ghost use Rattle.std.specs.Prelude.{◌≡◌, ◌<◌, ◌≤◌, ◌++◌, [], ◌∷◌, is_some, Ok, Err, Some, None, true, false, IfOk, IfErr, OnOk, OnErr, List, vec_len, vec_capacity, option_to_list, length, take, IsOkAnd, IsSome};
 ghost use Rattle.words.specs.declared.entry.Entry.{Entry};
 ghost use Rattle.table.specs.declared.effect.Act.{Act};
-ghost use Rattle.flat.specs.State.{IsAllowed};
-ghost use Rattle.flat.specs.Causes.{next_of};
+ghost use Rattle.flat.specs.State.{flat_view};
+ghost use Rattle.flat.specs.Causes.{next_of, act_cause};
+ghost use Rattle.flat.specs.Effects.{retire_of};
 ghost use Rattle.flat.specs.Steps.{Carries, IsRunning, is_abort};
 ghost use Rattle.table.specs.Program.{word_at};
 ghost use Rattle.reference.specs.States.{hart_of, Fits};
@@ -25,14 +26,11 @@ pub(crate) fn is_abort(act: &Act) -> bool
 }
 
 impl Machine {
-    /// The entry of a hart's word, which it can retire.
+    /// The entry of a hart's word, which has this effect.
     pub(crate) fn entry(&self, id: HartId, word: u32, effect: &Effect) -> Entry
         requires running { IsRunning (flat_of self.now) id }
-        requires fetched { word_at (setting_of self.now).segments ((flat_of self.now).hart id).pc ≡ Some word }
-        requires next { next_of (setting_of self.now) ((flat_of self.now).hart id) ≡ Ok effect.now }
-        requires no_abort { is_abort effect.now.act ≡ false }
-        requires allowed { IsAllowed (flat_of self.now) id effect.now.act }
-        ensures { CanRetire (flat_of self.now) id word effect.now result }
+        requires uncaused { act_cause (setting_of self.now) ((flat_of self.now).hart id) effect.now.act ≡ None }
+        ensures { result ≡ retire_of (flat_view (flat_of self.now) id) id ((flat_of self.now).hart id) word effect.now }
     {
         self.harts[id.index()].entry(&self.memory, id, word, effect)
     }
@@ -95,7 +93,8 @@ impl Machine {
         }
     }
 
-    /// Goes on by an effect, as far as the other harts' transactions allow.
+    /// Goes on by an effect, as far as the other harts' transactions allow. There are no reservations here, so a conditional store fails, as it may at any
+    /// time.
     fn go_on(
         &mut self,
         alloc: Global,
@@ -113,15 +112,16 @@ impl Machine {
         if is_abort(&effect.act) {
             return Ok(self.roll_back(id));
         }
-        match self.kept_out_by(id.index(), &effect.act) {
+        let done = effect.resolved(false);
+        match self.kept_out_by(id.index(), &done.act) {
             Some((hart, block)) => Ok(Entry::Refuse {
                 hart,
                 requester: id,
                 block,
             }),
             None => {
-                let entry = self.entry(id, word, effect);
-                self.retire(alloc, id.index(), effect)?;
+                let entry = self.entry(id, word, &done);
+                self.retire(alloc, id.index(), &done)?;
                 Ok(entry)
             }
         }

@@ -3,9 +3,9 @@ use Rattle.std.proofs.Common.{◌≡◌, ◌<◌, ℕ, List, [], ◌∷◌, Some
 use Rattle.std.specs.Prelude.{slice_get, Result, Err, IfErr}
 use Rattle.loader.specs.Programs.{Program}
 use Rattle.flat.specs.Boots.{boot_fault}
-use Rattle.flat.specs.State.{Flat}
 use Rattle.flat.specs.declared.boot_fault.BootFault.{BootFault}
 use Rattle.flat.specs.declared.boot_fault.BootFault.TheVariants as boot
+use Rattle.isolation.specs.Moves.{Place}
 use Rattle.outcomes.specs.declared.breadth_first.Outcomes.{Outcomes}
 use Rattle.outcomes.specs.declared.pool.State.{State}
 use Rattle.outcomes.specs.Searches.{setting_at, Stands, IsSearch, IsBegun, Finds}
@@ -41,13 +41,13 @@ pub first_there : (o : Outcomes) → IsSearch o → (x : State) × Stands o 0 x
 first_there o s = first_of o.states.keys s.some
 
 -- its setting is that of the state that it begins with
-pub begun-setting : (first : Flat) (o : Outcomes) → IsBegun first o → setting_at o ≡ first.setting
-begun-setting first o b = ap (λ (f : Flat). f.setting) b.is
+pub begun-setting : (first : Place) (o : Outcomes) → IsBegun first o → setting_at o ≡ first.flat.setting
+begun-setting first o b = ap (λ (p : Place). p.flat.setting) b.is
 
-pub found-setting : (first : Flat) (limit : ℕ) (o : Outcomes) → Finds first limit o → setting_at o ≡ first.setting
+pub found-setting : (first : Place) (limit : ℕ) (o : Outcomes) → Finds first limit o → setting_at o ≡ first.flat.setting
 found-setting first limit o f =
     let x = first_there o f.search in
-    ap (λ (g : Flat). g.setting) (f.start x.0 x.1)
+    ap (λ (p : Place). p.flat.setting) (f.start x.0 x.1)
 
 -- a search that could not be begun wanted memory, or had this fault
 pub begin-fault : (o : Option BootFault) (r : Result Outcomes BootFault) (b : BootFault) → r ≡ Err b → ((e : BootFault) → o ≡ Some e → r ≡ Err e)

@@ -6,7 +6,6 @@ use Rattle.words.specs.declared.cause.Status.TheVariants.{Running}
 use Rattle.words.specs.declared.entry.Entry.{Entry}
 use Rattle.words.specs.declared.entry.Step.{Step}
 use Rattle.flat.specs.State.{Flat}
-use Rattle.flat.specs.Boots.{booted}
 use Rattle.flat.specs.Steps.{IsRun}
 use Rattle.protocol.specs.Caches.{Geometry}
 use Rattle.protocol.specs.Machine.{Machine, Runs}
@@ -14,15 +13,16 @@ use Rattle.protocol.specs.Start.{start}
 use Rattle.isolation.specs.Belongs.{Belongs}
 use Rattle.loader.specs.Programs.{Program}
 use Rattle.render.specs.Reports.{report_of}
+use Rattle.isolation.specs.Moves.{Place}
 use Rattle.isolation.specs.Walks.{IsEnded, entries_of}
 use Rattle.isolation.proofs.Walked.{order_walks, walk_runs}
-use Rattle.outcomes.specs.Searches.{Finds}
+use Rattle.outcomes.specs.Searches.{booted_place, Finds}
 use Rattle.outcomes.specs.declared.gathering.End.{End}
 use Rattle.outcomes.specs.Ends.{AreEndsOf, reports_of}
 use Rattle.requests.specs.EndTexts.{ends_text}
 use Rattle.outcomes.proofs.Told.{told, reached, lists_one}
 use Rattle.command_line.specs.declared.request.Search.{Search}
-use Rattle.requests.specs.Ends.{search_start, search_status, states_told, AreEndsGiven}
+use Rattle.requests.specs.Ends.{search_start, search_place, search_status, states_told, AreEndsGiven}
 use Rattle.requests.specs.Runs.{addresses}
 use Rattle.requests.specs.Outputs.{Sinks}
 use Rattle.requests.specs.Sources.{IsProgramIn}
@@ -72,8 +72,8 @@ told_reached asked file before after status given =
         o.is_all,
         given.4,
         λ report there.
-            let e = reached (search_start asked p) asked.states o (addresses asked.words.items) ends searched.found given.2.1 report there in
-            (e.1, entries_of e.0, walk_runs (search_start asked p) e.1 e.0 (order_walks (search_start asked p) e.1 e.0 e.2), e.3, sym e.4),
+            let e = reached (search_place asked p) asked.states o (addresses asked.words.items) ends searched.found given.2.1 report there in
+            (e.1.flat, entries_of e.0, walk_runs (search_place asked p) e.1 e.0 (order_walks (search_place asked p) e.1 e.0 e.2), e.3, sym e.4),
       ),
     )
 
@@ -92,13 +92,13 @@ told_one asked again file before after earlier later given other path harts memo
     let whole : r.is_all ≡ true = all_of_zero r.is_all other.3 in
     let same : t.program ≡ s.program =
     one_in_file asked.file.now file s.program t.program s.can.holds (subst (λ (name : List ℕ). IsProgramIn name file t.program) path t.can.holds) in
-    let first : search_start again t.program ≡ search_start asked s.program = λ k. booted (same k).segments (same k).entry (harts k) (memory k) in (
+    let first : search_place again t.program ≡ search_place asked s.program = λ k. booted_place (same k).segments (same k).entry (harts k) (memory k) in (
       ends,
       others,
       states_told asked o,
       states_told again r,
       subst (λ (b : Bool). TookAll before.output after.output (ends_text ends (states_told asked o) b)) all given.4,
       subst (λ (b : Bool). TookAll earlier.output later.output (ends_text others (states_told again r) b)) whole other.4,
-      lists_one (search_start asked s.program) asked.states again.states o r (addresses asked.words.items) ends others s.found
-          (subst (λ (f : Flat). Finds f again.states r) first t.found) all whole given.2.1 (subst (λ (ws : List ℕ). AreEndsOf r ws others) words other.2.1),
+      lists_one (search_place asked s.program) asked.states again.states o r (addresses asked.words.items) ends others s.found
+          (subst (λ (p : Place). Finds p again.states r) first t.found) all whole given.2.1 (subst (λ (ws : List ℕ). AreEndsOf r ws others) words other.2.1),
     )

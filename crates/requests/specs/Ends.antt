@@ -12,10 +12,11 @@ use Rattle.table.specs.Program.{AreBytes}
 use Rattle.disassembler.specs.Tables.{Table, no_symbols}
 use Rattle.render.specs.Entries.{entry_line}
 use Rattle.render.specs.Reports.{AllReadable}
+use Rattle.isolation.specs.Moves.{Place}
 use Rattle.isolation.specs.Walks.{WalksInOrder, entries_of}
 use Rattle.outcomes.specs.declared.breadth_first.Outcomes.{Outcomes}
 use Rattle.outcomes.specs.declared.pool.State.{State}
-use Rattle.outcomes.specs.Searches.{flat_at, Stands, Finds}
+use Rattle.outcomes.specs.Searches.{place_at, booted_place, Stands, Finds}
 use Rattle.outcomes.specs.declared.gathering.End.{End}
 use Rattle.outcomes.specs.Ends.{AreEndsOf}
 use Rattle.requests.specs.EndTexts.{ends_text}
@@ -35,6 +36,10 @@ use Rattle.requests.specs.declared.fault.Fault.TheVariants as fault
 abbrev pub search_start : Search → Program → Flat
 search_start asked p = booted p.segments p.entry asked.harts asked.memory
 
+-- and without a reservation
+abbrev pub search_place : Search → Program → Place
+search_place asked p = booted_place p.segments p.entry asked.harts asked.memory
+
 -- the file has a program, which begins as is asked, and the words can be shown of it
 pub record CanSearch (asked : Search) (file : List ℕ) (p : Program) : Type 0 where
   pub holds : IsProgramIn asked.file.now file p
@@ -46,7 +51,7 @@ pub record CanSearch (asked : Search) (file : List ℕ) (p : Program) : Type 0 w
 pub record IsSearched (asked : Search) (file : List ℕ) (o : Outcomes) : Type 0 where
   pub program : Program
   pub can : CanSearch asked file program
-  pub found : Finds (search_start asked program) asked.states o
+  pub found : Finds (search_place asked program) asked.states o
 
 -- the file has a program, which can't be booted as is asked, for this fault
 pub record CanNotBoot (asked : Search) (file : List ℕ) (b : BootFault) : Type 0 where
@@ -90,7 +95,7 @@ lines_of names es = flat_map (entry_line names) es
 -- the entries are those of a run from the first state of a search to the state at a place
 abbrev pub IsRunTo : Outcomes → ℕ → List Entry → Type 0
 IsRunTo o k es = (x y : State) → Stands o 0 x → Stands o k y
-    → (ess : List (List Entry)) × (es ≡ entries_of ess) × WalksInOrder (flat_at o x) ess (flat_at o y)
+    → (ess : List (List Entry)) × (es ≡ entries_of ess) × WalksInOrder (place_at o x) ess (place_at o y)
 
 -- the lines of a run to the state at a place were put, without names
 abbrev pub IsRunPut : Outcomes → ℕ → SinkState → SinkState → Type 0

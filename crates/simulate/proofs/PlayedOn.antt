@@ -1,5 +1,5 @@
 -- A run that goes on behind a history, of which no hart runs any more, makes the history's report.
-use Rattle.std.proofs.Common.{◌≡◌, ◌≢◌, ◌≤◌, ◌-◌, ◌++◌, ◌∙◌, ℕ, zero, suc, inl, inr, List, [], ◌∷◌, length, Option, Some, None, Result, Ok, Err, IsOkAnd, IsSomeAnd, refl, sym, ap, subst, append_assoc, arith}
+use Rattle.std.proofs.Common.{◌≡◌, ◌≢◌, ◌≤◌, ◌-◌, ◌++◌, ◌∙◌, ℕ, is_some, zero, suc, inl, inr, List, [], ◌∷◌, length, Option, Some, None, Result, Ok, Err, IsOkAnd, IsSomeAnd, refl, sym, ap, subst, append_assoc, arith}
 use Rattle.std.specs.Borrow.{Bor}
 use Rattle.words.specs.Sinks.{TookAll}
 use Rattle.words.specs.declared.cause.Cause.{Cause}
@@ -9,7 +9,7 @@ use Rattle.words.specs.declared.entry.Entry.{Entry}
 use Rattle.words.specs.declared.entry.Entry.TheVariants.{Retire, Abort, Trap, Refuse, Spill}
 use Rattle.table.specs.declared.effect.Effect.{Effect}
 use Rattle.flat.specs.State.{Flat, Tx}
-use Rattle.flat.specs.Causes.{next_of}
+use Rattle.flat.specs.Causes.{done_next}
 use Rattle.flat.specs.Steps.{Aborts, IsRun, IsRunning, Retires}
 use Rattle.flat.proofs.Runs.{run_between}
 use Rattle.isolation.specs.Reasons.{HaveReasons}
@@ -49,7 +49,7 @@ by_tx f h i (Some t) P aborts runs = runs t aborts
 stays_ended : (f g : Flat) (es : List Entry) → IsEnded f → IsRun f es g → g ≡ f
 stays_ended f g [] ended run = run
 stays_ended f g (Retire i pc w write load store ∷ es) ended (h, carries, run) =
-    let r = by_next f h i w (Retire i pc w write load store) (next_of f.setting (f.hart i)) carries in absurd (ended i r.hart r.runs)
+    let r = by_next f h i w (Retire i pc w write load store) (done_next (is_some store) f.setting (f.hart i)) carries in absurd (ended i r.hart r.runs)
 stays_ended f g (Abort i cause ∷ es) ended (h, carries, run) =
     let r = by_tx f h i (f.hart i).tx (λ t. Aborts f i cause t h) carries (λ t aborts. aborts.running) in absurd (ended i r.hart r.runs)
 stays_ended f g (Trap i c p ∷ es) ended (h, carries, run) = absurd (ended i carries.running.hart carries.running.runs)

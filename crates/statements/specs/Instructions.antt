@@ -1,5 +1,5 @@
 -- Instructions: the operands of each form, and the instruction that it makes of them. Too few or too many operands are found first.
-use Rattle.std.specs.Prelude.{ℕ, ◌+◌, ◌-◌, ◌*◌, ◌/◌, ◌%◌, ◌^◌, ◌==◌, false, List, [], ◌∷◌, Option, Some, None, Result, Ok, Err}
+use Rattle.std.specs.Prelude.{ℕ, ◌+◌, ◌-◌, ◌*◌, ◌/◌, ◌%◌, ◌^◌, ◌==◌, List, [], ◌∷◌, Option, Some, None, Result, Ok, Err}
 use Rattle.disassembler.specs.Canonical.{full_fence}
 use Rattle.table.specs.declared.instr.Instr.{Instr}
 use Rattle.table.specs.declared.instr.Instr.TheVariants as instr
@@ -18,6 +18,7 @@ use Rattle.statements.specs.declared.fault.AsmFault.{AsmFault}
 use Rattle.statements.specs.declared.fault.AsmFault.TheVariants.{Operand}
 use Rattle.statements.specs.declared.form.Alone.{Alone}
 use Rattle.statements.specs.declared.form.Alone.TheVariants as alone
+use Rattle.statements.specs.declared.form.Order.{Order}
 use Rattle.statements.specs.declared.form.Pair.{Pair}
 use Rattle.statements.specs.declared.form.Pair.TheVariants as pair
 use Rattle.statements.specs.Cutting.{cut, trim}
@@ -109,30 +110,30 @@ store_of op text = do
   Ok (instr.Store op at.base rs2 at.imm)
 
 -- op rd, rs2, (rs1)
-unfoldable pub amo_of : AmoOp → List ℕ → Result Instr AsmFault
-amo_of op text = do
+unfoldable pub amo_of : AmoOp → Order → List ℕ → Result Instr AsmFault
+amo_of op order text = do
   x ← three text
   rd ← register x.first
   rs2 ← register x.second
   rs1 ← indirect x.third
-  Ok (instr.Amo op rd rs1 rs2 false false)
+  Ok (instr.Amo op rd rs1 rs2 order.aq order.rl)
 
 -- op rd, (rs1)
-unfoldable pub load_reserved_of : List ℕ → Result Instr AsmFault
-load_reserved_of text = do
+unfoldable pub load_reserved_of : Order → List ℕ → Result Instr AsmFault
+load_reserved_of order text = do
   x ← two text
   rd ← register x.0
   rs1 ← indirect x.1
-  Ok (instr.LoadReserved rd rs1 false false)
+  Ok (instr.LoadReserved rd rs1 order.aq order.rl)
 
 -- op rd, rs2, (rs1)
-unfoldable pub store_conditional_of : List ℕ → Result Instr AsmFault
-store_conditional_of text = do
+unfoldable pub store_conditional_of : Order → List ℕ → Result Instr AsmFault
+store_conditional_of order text = do
   x ← three text
   rd ← register x.first
   rs2 ← register x.second
   rs1 ← indirect x.third
-  Ok (instr.StoreConditional rd rs1 rs2 false false)
+  Ok (instr.StoreConditional rd rs1 rs2 order.aq order.rl)
 
 -- lui rd, n and auipc rd, n: the upper 20 bits
 unfoldable pub upper_of : (ℕ → ℕ → Instr) → List ℕ → Result Instr AsmFault
@@ -231,27 +232,27 @@ abbrev pub alone_instr : Alone → Instr
 alone_instr alone.Nop = instr.OpImm imm.Add 0 0 0
 alone_instr alone.Ret = instr.Jalr 0 1 0
 
--- the instruction that a row makes of its operands, at a pc
-unfoldable pub by_row : Row → ℕ → Find → List ℕ → Result Instr AsmFault
-by_row row.Lui pc find text = upper_of instr.Lui text
-by_row row.Auipc pc find text = upper_of instr.Auipc text
-by_row row.Jal pc find text = jal_of pc find text
-by_row row.Jalr pc find text = jalr_of text
-by_row (row.Branch op) pc find text = branch_of op pc find text
-by_row (row.Load op) pc find text = load_of op text
-by_row (row.Store op) pc find text = store_of op text
-by_row (row.OpImm op) pc find text = op_imm_of op text
-by_row (row.ShiftImm op) pc find text = shift_imm_of op text
-by_row (row.Op op) pc find text = op_of op text
-by_row (row.Amo op) pc find text = amo_of op text
-by_row row.LoadReserved pc find text = load_reserved_of text
-by_row row.StoreConditional pc find text = store_conditional_of text
-by_row row.Fence pc find text = alone_of (instr.Fence full_fence) text
-by_row row.Ecall pc find text = alone_of instr.Ecall text
-by_row row.Ebreak pc find text = alone_of instr.Ebreak text
-by_row row.TBegin pc find text = tbegin_of pc find text
-by_row row.TCommit pc find text = alone_of instr.TCommit text
-by_row row.TAbort pc find text = alone_of instr.TAbort text
+-- the instruction that a row, with an order, makes of its operands, at a pc
+unfoldable pub by_row : Row → Order → ℕ → Find → List ℕ → Result Instr AsmFault
+by_row row.Lui order pc find text = upper_of instr.Lui text
+by_row row.Auipc order pc find text = upper_of instr.Auipc text
+by_row row.Jal order pc find text = jal_of pc find text
+by_row row.Jalr order pc find text = jalr_of text
+by_row (row.Branch op) order pc find text = branch_of op pc find text
+by_row (row.Load op) order pc find text = load_of op text
+by_row (row.Store op) order pc find text = store_of op text
+by_row (row.OpImm op) order pc find text = op_imm_of op text
+by_row (row.ShiftImm op) order pc find text = shift_imm_of op text
+by_row (row.Op op) order pc find text = op_of op text
+by_row (row.Amo op) order pc find text = amo_of op order text
+by_row row.LoadReserved order pc find text = load_reserved_of order text
+by_row row.StoreConditional order pc find text = store_conditional_of order text
+by_row row.Fence order pc find text = alone_of (instr.Fence full_fence) text
+by_row row.Ecall order pc find text = alone_of instr.Ecall text
+by_row row.Ebreak order pc find text = alone_of instr.Ebreak text
+by_row row.TBegin order pc find text = tbegin_of pc find text
+by_row row.TCommit order pc find text = alone_of instr.TCommit text
+by_row row.TAbort order pc find text = alone_of instr.TAbort text
 
 -- Numbers of 32 bits in a register: their upper 20 bits, and the signed number of 12 bits that is left
 

@@ -149,7 +149,7 @@ directive_of op at find text = guarded (not (is_of_data op) || is_data at.sectio
 
 -- the one instruction that most forms make of their operands, at a pc
 unfoldable pub instruction_of : Form → ℕ → Find → List ℕ → Result Instr AsmFault
-instruction_of (form.Row row) pc find text = by_row row pc find text
+instruction_of (form.Row row order) pc find text = by_row row order pc find text
 instruction_of (form.BranchSwapped op) pc find text = branch_swapped_of op pc find text
 instruction_of (form.BranchZero op) pc find text = branch_zero_of (λ s n. instr.Branch op s 0 n) pc find text
 instruction_of (form.BranchFromZero op) pc find text = branch_zero_of (λ s n. instr.Branch op 0 s n) pc find text

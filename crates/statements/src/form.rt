@@ -36,11 +36,18 @@ pub enum Directive {
     Balign,
 }
 
+/// The bits aq and rl of an atomic operation, LR or SC. They are the suffix of its mnemonic.
+#[derive(Clone, Copy, Debug, PartialEq, Eq)]
+pub struct Order {
+    pub aq: bool,
+    pub rl: bool,
+}
+
 /// The operands that a mnemonic has, and what it makes of them.
 #[derive(Clone, Copy, Debug, PartialEq, Eq)]
 pub enum Form {
-    /// The operands of a row of the instruction table.
-    Row(Row),
+    /// The operands of a row of the instruction table, whose words have this order.
+    Row(Row, Order),
     /// `op rs2, rs1, addr`
     BranchSwapped(BranchOp),
     /// `op rs1, addr`, with rs2 zero
@@ -96,13 +103,41 @@ fn form_in(rows: &[(&str, Form)], name: &[u8]) -> Option<Form>
     }
 }
 
+/// A mnemonic without its suffix, and the bits aq and rl that the suffix stands for.
+#[tactic(auto, unfolding(crate::specs::Forms::cut_order))]
+fn cut_order(name: &[u8]) -> (&[u8], bool, bool)
+    ensures { record { name = result.0.now; aq = result.1; rl = result.2 } ≡ spec.cut_order name.now }
+{
+    if let Some(front) = name.strip_suffix(b".aqrl") {
+        (front, true, true)
+    } else if let Some(front) = name.strip_suffix(b".aq") {
+        (front, true, false)
+    } else if let Some(front) = name.strip_suffix(b".rl") {
+        (front, false, true)
+    } else {
+        (name, false, false)
+    }
+}
+
+/// Whether a row has words with this order.
+fn has_order(row: Row, order: Order) -> bool
+    ensures { result ≡ spec.has_order row order }
+{
+    match row {
+        Row::Amo(_) | Row::LoadReserved | Row::StoreConditional => true,
+        _ => !order.aq && !order.rl,
+    }
+}
+
 /// The form of a mnemonic, if it is one.
 #[tactic(auto, unfolding(crate::specs::Forms::form_named))]
 pub(crate) fn form_named(name: &[u8]) -> Option<Form>
     ensures { result ≡ spec.form_named name.now }
 {
-    match row_named(name) {
-        Some(row) => Some(Form::Row(row)),
-        None => form_in(&FORMS, name),
+    let (front, aq, rl) = cut_order(name);
+    let order = Order { aq, rl };
+    match row_named(front) {
+        Some(row) if has_order(row, order) => Some(Form::Row(row, order)),
+        _ => form_in(&FORMS, name),
     }
 }

@@ -6,7 +6,7 @@ ghost use Rattle.statements.specs.Operands as operand;
 ghost use Rattle.statements.specs.Places.{find_in};
 
 use crate::fault::AsmFault;
-use crate::form::{Alone, Pair};
+use crate::form::{Alone, Order, Pair};
 use crate::operand::{amount as amount_of, based, imm12, indirect, register, upper};
 use crate::place::Names;
 use crate::target::{abort_offset, branch_offset, jump_offset};
@@ -122,8 +122,8 @@ fn store(op: StoreOp, text: &[u8]) -> Result<Instr, AsmFault>
 
 /// `op rd, rs2, (rs1)`
 #[tactic(auto, unfolding(crate::specs::Instructions::amo_of))]
-fn amo(op: AmoOp, text: &[u8]) -> Result<Instr, AsmFault>
-    ensures { result ≡ spec.amo_of op text.now }
+fn amo(op: AmoOp, order: Order, text: &[u8]) -> Result<Instr, AsmFault>
+    ensures { result ≡ spec.amo_of op order text.now }
 {
     let (rd, rs2, rs1) = three(text)?;
     let rd = register(rd)?;
@@ -134,15 +134,15 @@ fn amo(op: AmoOp, text: &[u8]) -> Result<Instr, AsmFault>
         rd,
         rs1,
         rs2,
-        aq: false,
-        rl: false,
+        aq: order.aq,
+        rl: order.rl,
     })
 }
 
 /// `lr.w rd, (rs1)`
 #[tactic(auto, unfolding(crate::specs::Instructions::load_reserved_of))]
-fn load_reserved(text: &[u8]) -> Result<Instr, AsmFault>
-    ensures { result ≡ spec.load_reserved_of text.now }
+fn load_reserved(order: Order, text: &[u8]) -> Result<Instr, AsmFault>
+    ensures { result ≡ spec.load_reserved_of order text.now }
 {
     let (rd, rs1) = two(text)?;
     let rd = register(rd)?;
@@ -150,15 +150,15 @@ fn load_reserved(text: &[u8]) -> Result<Instr, AsmFault>
     Ok(Instr::LoadReserved {
         rd,
         rs1,
-        aq: false,
-        rl: false,
+        aq: order.aq,
+        rl: order.rl,
     })
 }
 
 /// `sc.w rd, rs2, (rs1)`
 #[tactic(auto, unfolding(crate::specs::Instructions::store_conditional_of))]
-fn store_conditional(text: &[u8]) -> Result<Instr, AsmFault>
-    ensures { result ≡ spec.store_conditional_of text.now }
+fn store_conditional(order: Order, text: &[u8]) -> Result<Instr, AsmFault>
+    ensures { result ≡ spec.store_conditional_of order text.now }
 {
     let (rd, rs2, rs1) = three(text)?;
     let rd = register(rd)?;
@@ -168,8 +168,8 @@ fn store_conditional(text: &[u8]) -> Result<Instr, AsmFault>
         rd,
         rs1,
         rs2,
-        aq: false,
-        rl: false,
+        aq: order.aq,
+        rl: order.rl,
     })
 }
 
@@ -404,15 +404,16 @@ pub(crate) fn without_operands(instr: Instr, text: &[u8]) -> Result<Instr, AsmFa
     }
 }
 
-/// The instruction that a row makes of its operands.
+/// The instruction that a row, with an order, makes of its operands.
 #[tactic(auto, unfolding(crate::specs::Instructions::by_row))]
 pub(crate) fn by_row(
     row: Row,
+    order: Order,
     pc: u32,
     names: Option<&Names>,
     text: &[u8],
 ) -> Result<Instr, AsmFault>
-    ensures { result ≡ spec.by_row row pc (option_map (λ n. find_in n.now) names.entry) text.now }
+    ensures { result ≡ spec.by_row row order pc (option_map (λ n. find_in n.now) names.entry) text.now }
 {
     match row {
         Row::Lui => lui(text),
@@ -425,9 +426,9 @@ pub(crate) fn by_row(
         Row::OpImm(op) => op_imm(op, text),
         Row::ShiftImm(op) => shift_imm(op, text),
         Row::Op(op) => registers(op, text),
-        Row::Amo(op) => amo(op, text),
-        Row::LoadReserved => load_reserved(text),
-        Row::StoreConditional => store_conditional(text),
+        Row::Amo(op) => amo(op, order, text),
+        Row::LoadReserved => load_reserved(order, text),
+        Row::StoreConditional => store_conditional(order, text),
         Row::Fence => {
             let bits = FenceBits::new(FULL_FENCE);
             without_operands(Instr::Fence { bits }, text)

@@ -235,7 +235,7 @@ fn instruction(form: Form, pc: u32, names: Option<&Names>, text: &[u8]) -> Resul
     ensures { result ≡ spec.instruction_of form pc (option_map (λ n. find_in n.now) names.entry) text.now }
 {
     match form {
-        Form::Row(row) => shapes::by_row(row, pc, names, text),
+        Form::Row(row, order) => shapes::by_row(row, order, pc, names, text),
         Form::BranchSwapped(op) => shapes::branch_swapped(op, pc, names, text),
         Form::BranchZero(op) => shapes::branch_zero(op, pc, names, text),
         Form::BranchFromZero(op) => shapes::branch_from_zero(op, pc, names, text),

@@ -276,14 +276,14 @@ pub enum Instr {
         aq: bool,
         rl: bool,
     },
-    /// LR.W, which no hart does.
+    /// LR.W: a load that reserves its block.
     LoadReserved {
         rd: Reg,
         rs1: Reg,
         aq: bool,
         rl: bool,
     },
-    /// SC.W, which no hart does.
+    /// SC.W: a store to a reserved block, if it succeeds.
     StoreConditional {
         rd: Reg,
         rs1: Reg,

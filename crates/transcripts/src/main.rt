@@ -10,7 +10,7 @@ use answers::Telling;
 use lists::play;
 use std::io;
 
-static LISTS: [&str; 17] = [
+static LISTS: [&str; 18] = [
     "running",
     "searches",
     "threads",
@@ -23,6 +23,7 @@ static LISTS: [&str; 17] = [
     "looks",
     "sharing",
     "traps",
+    "conditional",
     "instructions",
     "assembling",
     "faults",

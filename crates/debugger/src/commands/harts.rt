@@ -7,7 +7,7 @@ ghost use Rattle.disassembler.specs.Tables.{no_symbols};
 ghost use Rattle.debugger.specs.Looks.{Shows, line_of_hart};
 ghost use Rattle.debugger.specs.LookTexts as spec;
 
-use crate::commands::parts::{depth_part, if_so, pc_part, waits_part};
+use crate::commands::parts::{blocks_part, depth_part, if_so, pc_part};
 use disassembler::Symbols;
 use itoa::Buffer;
 use machine::{Machine, TxInfo};
@@ -98,7 +98,9 @@ fn put_hart<const SETS: usize, const WAYS: usize, S: Sink>(
             b" ",
             status_text(status).as_str().as_bytes(),
             depth_part(machine.tx(hart)).as_str().as_bytes(),
-            waits_part(machine.waits_for(hart)).as_str().as_bytes(),
+            blocks_part(machine.waits_for(hart), machine.reserved_by(hart))
+                .as_str()
+                .as_bytes(),
             b"\n",
         ],
     )

@@ -30,7 +30,7 @@ tx H              hart H's transaction
 log A             a word of the undo logs; hart H's begins 4096 * (H + 1) bytes below the end of memory
 dis B             the word of text as an instruction
 messages          the messages in flight, the oldest first; held where their block is busy
-harts             each hart's pc and status, how deep it is in a transaction, and the block that it waits for
+harts             each hart's pc and status, how deep it is in a transaction, and the blocks that it waits for and has reserved
 help              these lines
 quit              ends
 #                 begins a comment

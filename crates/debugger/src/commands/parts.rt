@@ -42,7 +42,7 @@ pub(crate) fn depth_part(tx: Option<TxInfo>) -> ArrayString<10>
 }
 
 /// The block that is waited for, if one is.
-pub(crate) fn waits_part(block: Option<BlockNo>) -> ArrayString<17>
+fn waits_part(block: Option<BlockNo>) -> ArrayString<17>
     ensures { result.bytes ≡ spec.waits_part block }
 {
     let mut part = ArrayString::new();
@@ -50,5 +50,28 @@ pub(crate) fn waits_part(block: Option<BlockNo>) -> ArrayString<17>
         part.push_str(" waits 0x");
         part.push_str(ascii(&first_byte(block)));
     }
+    part
+}
+
+/// The block that is reserved, if one is.
+fn reserves_part(block: Option<BlockNo>) -> ArrayString<20>
+    ensures { result.bytes ≡ spec.reserves_part block }
+{
+    let mut part = ArrayString::new();
+    if let Some(block) = block {
+        part.push_str(" reserves 0x");
+        part.push_str(ascii(&first_byte(block)));
+    }
+    part
+}
+
+/// The blocks that are waited for and reserved, where one is.
+#[tactic(auto, unfolding(crate::specs::LookTexts::blocks_part))]
+pub(crate) fn blocks_part(waits: Option<BlockNo>, reserved: Option<BlockNo>) -> ArrayString<37>
+    ensures { result.bytes ≡ spec.blocks_part waits reserved }
+{
+    let mut part = ArrayString::new();
+    part.push_str(waits_part(waits).as_str());
+    part.push_str(reserves_part(reserved).as_str());
     part
 }

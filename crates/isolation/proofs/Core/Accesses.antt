@@ -8,8 +8,8 @@ use Rattle.table.specs.declared.effect.Store.{Store}
 use Rattle.table.specs.declared.effect.MemoryAct.{MemoryAct}
 use Rattle.words.specs.Bytes.{bytes_in}
 use Rattle.flat.specs.State.{FlatHart, flat_view, MayAccess}
-use Rattle.flat.specs.Causes.{next_of}
-use Rattle.flat.specs.Effects.{put_by, put_of}
+use Rattle.flat.specs.Causes.{done_next}
+use Rattle.flat.specs.Effects.{access, put_by, put_of, store_by}
 use Rattle.protocol.specs.Messages.{Block}
 use Rattle.protocol.specs.Lines.{Line, is_enough, byte_in, words_at, words_put, state_put, marks_used, line_used}
 use Rattle.protocol.specs.Core.{kind_of}
@@ -22,7 +22,7 @@ use Rattle.isolation.proofs.Machine.Readings.{known_at}
 use Rattle.isolation.proofs.Machine.Tables.{enough_same}
 use Rattle.isolation.proofs.Words.Bytes.{byte_back, put_same}
 use Rattle.isolation.proofs.Words.Laying.{seen_small, lay_is}
-use Rattle.isolation.proofs.Words.NextWord.{aligned_next}
+use Rattle.isolation.proofs.Words.NextWord.{aligned_done}
 use Rattle.isolation.proofs.Core.RetireRows.{Ready, effect}
 
 -- hart i may retire an access, whose line is enough for it
@@ -33,7 +33,7 @@ pub record Access (x : World) (i : ℕ) : Type 0 where
   pub does : MemoryAct
   pub next : ℕ
   pub write : Option (ℕ × ℕ)
-  pub is_next : next_of x.machine.setting (x.flat.hart i) ≡ Ok (effect next write (act.Memory does))
+  pub is_done : done_next (is_some does.store) x.machine.setting (x.flat.hart i) ≡ Ok (effect next write (act.Memory does))
   pub line : Line
   pub has : (x.machine.harts i).lines (does.addr / 32) ≡ Some line
   pub enough : is_enough (kind_of does) (Some line) ≡ true
@@ -63,7 +63,7 @@ module _ (x : World) (i : ℕ) (a : Access x i) where
 
   -- it is aligned
   pub aligned : m.addr % bytes_in m.width ≡ 0
-  aligned = aligned_next x.machine.setting f (effect a.next a.write (act.Memory m)) m a.is_next refl
+  aligned = aligned_done x.machine.setting f (effect a.next a.write (act.Memory m)) (is_some m.store) m a.is_done refl
 
   -- its line has what the hart sees in the flat machine
   sees : l.content ≡ words_at view b
@@ -96,3 +96,11 @@ module _ (x : World) (i : ℕ) (a : Access x i) where
   -- the line after it, with the flat machine's number
   pub line_is : (in_tx : Bool) → line_used in_tx m l ≡ record { state = state_put m.store l.state; content = words_put m (put_by view m) l.content; marks = cond in_tx (marks_used m l.marks) l.marks }
   line_is in_tx = ap (λ y. record { state = state_put m.store l.state; content = words_put m y l.content; marks = cond in_tx (marks_used m l.marks) l.marks }) (put_same (byte_in l.content) view m aligned same_bytes)
+
+  -- what is retired has a store if the access has
+  pub done_by : (local : ℕ → ℕ) → done_next (is_some (store_by local (act.Memory m))) x.machine.setting f ≡ Ok (effect a.next a.write (act.Memory m))
+  done_by local = ap (λ z. done_next z x.machine.setting f) (by m.store) ∙ a.is_done
+    where
+      by : (z : Option Store) → is_some (option_map (access m) (option_map (put_of local m) z)) ≡ is_some z
+      by None = refl
+      by (Some q) = refl

@@ -55,7 +55,7 @@ module _ (x : World) (v : Inv x) (i : ℕ) (o : i < x.machine.setting.count) whe
     free = get_empty x v b i ((known_at x v b).free.get i o (ap (wait_at b) q))
 
     ask_is : HartIs s asked f p
-    ask_is = hart_beside s h f p _ _ _ _ (v.harts i)
+    ask_is = hart_beside s h f p _ _ _ _ _ (v.harts i)
 
     -- at the block it waits, and its Get is in flight
     asked_here : local_at s b i asked f p mail ≡ ask kind ((project b x).hart i)

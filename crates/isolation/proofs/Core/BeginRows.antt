@@ -19,6 +19,7 @@ use Rattle.isolation.proofs.OneBlock.Uses.SameStates.{good_as}
 use Rattle.isolation.proofs.Machine.World.{World, wait_at, tx_at, own_at, access_at, local_at, project}
 use Rattle.isolation.proofs.Machine.Invariant.{InPast, Inv}
 use Rattle.isolation.proofs.Machine.Transactions.{Inside, inside, in_past, outside, past_outside, due_none, not_aborting}
+use Rattle.isolation.proofs.Words.NextWord.{next_done}
 use Rattle.isolation.proofs.Core.HartResults.{Made, same_local}
 use Rattle.isolation.proofs.Core.RetireRows.{Ready, made_retire, effect, retires_at}
 
@@ -64,7 +65,7 @@ module _ (x : World) (v : Inv x) (i : ℕ) (o : i < x.machine.setting.count) (r 
     -- a nested begin
     pub made_deeper : (a : ℕ) → next_of s f ≡ Ok (effect nx wr (act.Begin a)) → Made x i (begin_row i x.machine.stamps word (effect nx wr (act.Begin a)) a (Some t) h)
     made_deeper a ok = made_retire x v i o (effect nx wr (act.Begin a)) no_memory (record h { tx = Some (record t { depth = t.depth + 1 }) }) false (Some (record d.tx { depth = d.tx.depth + 1 })) x.flat.mem (record p { depth = p.depth + 1; was_refused = false }) (record {
-      next = ok;
+      next = next_done s f (effect nx wr (act.Begin a)) false ok;
       no_abort = refl;
       allowed = tt;
       same_pc = refl;
@@ -100,8 +101,8 @@ module _ (x : World) (v : Inv x) (i : ℕ) (o : i < x.machine.setting.count) (r 
 
     -- the outermost begin: with its kept stamp, or a new one
     pub made_begin : (a : ℕ) → next_of s f ≡ Ok (effect nx wr (act.Begin a)) → Made x i (begin_row i x.machine.stamps word (effect nx wr (act.Begin a)) a None h)
-    made_begin a ok = made_retire x v i o (effect nx wr (act.Begin a)) no_memory (record h { tx = Some (tx_begun i x.machine.stamps a h); kept_stamp = None }) (is_none h.kept_stamp) (Some (begun f a)) x.flat.mem (past_begun x.history.taken i p) (record {
-      next = ok;
+    made_begin a ok = made_retire x v i o (effect nx wr (act.Begin a)) no_memory (record h { tx = Some (tx_begun i x.machine.stamps a h); kept_stamp = None; reserved = None }) (is_none h.kept_stamp) (Some (begun f a)) x.flat.mem (past_begun x.history.taken i p) (record {
+      next = next_done s f (effect nx wr (act.Begin a)) false ok;
       no_abort = refl;
       allowed = tt;
       same_pc = refl;

@@ -19,6 +19,7 @@ use Rattle.isolation.proofs.Machine.Invariant.{InPast, Inv}
 use Rattle.isolation.proofs.Machine.Tables.{cleared_same}
 use Rattle.isolation.proofs.Machine.Transactions.{Inside, inside, in_past, due_none, not_aborting}
 use Rattle.isolation.proofs.Words.Laying.{WritesWithin, commit_lays}
+use Rattle.isolation.proofs.Words.NextWord.{next_done}
 use Rattle.isolation.proofs.Core.HartResults.{Made, same_local}
 use Rattle.isolation.proofs.Core.RetireRows.{Ready, made_retire, effect}
 use Rattle.isolation.proofs.Core.BeginRows.{nested_at}
@@ -59,7 +60,7 @@ module _ (x : World) (v : Inv x) (i : ℕ) (o : i < x.machine.setting.count) (r 
     -- the end of one that is nested
     pub made_shallower : t.depth ≢ 1 → next_of s f ≡ Ok (effect nx wr act.Commit) → Made x i (retire_row i no_memory word (effect nx wr act.Commit) (record h { tx = Some (record t { depth = t.depth - 1 }) }))
     made_shallower n ok = made_retire x v i o (effect nx wr act.Commit) no_memory (record h { tx = Some (record t { depth = t.depth - 1 }) }) false (Some (record d.tx { depth = d.tx.depth - 1 })) x.flat.mem (record p { depth = p.depth - 1; was_refused = false }) (record {
-      next = ok;
+      next = next_done s f (effect nx wr act.Commit) false ok;
       no_abort = refl;
       allowed = tt;
       same_pc = refl;
@@ -81,9 +82,9 @@ module _ (x : World) (v : Inv x) (i : ℕ) (o : i < x.machine.setting.count) (r 
         not_one = ne_eqb d.tx.depth 1 (λ z. n (sym d.same.depth ∙ z))
 
     -- and of the outermost: memory has what the transaction wrote
-    pub made_commit : t.depth ≡ 1 → next_of s f ≡ Ok (effect nx wr act.Commit) → Made x i (retire_row i no_memory word (effect nx wr act.Commit) (record h { tx = None; lines = λ b. line_cleared (h.lines b) }))
-    made_commit one ok = made_retire x v i o (effect nx wr act.Commit) no_memory (record h { tx = None; lines = λ b. line_cleared (h.lines b) }) false None (mem_by view f.tx x.flat.mem act.Commit) (record p { depth = p.depth - 1; was_refused = false }) (record {
-      next = ok;
+    pub made_commit : t.depth ≡ 1 → next_of s f ≡ Ok (effect nx wr act.Commit) → Made x i (retire_row i no_memory word (effect nx wr act.Commit) (record h { tx = None; reserved = None; lines = λ b. line_cleared (h.lines b) }))
+    made_commit one ok = made_retire x v i o (effect nx wr act.Commit) no_memory (record h { tx = None; reserved = None; lines = λ b. line_cleared (h.lines b) }) false None (mem_by view f.tx x.flat.mem act.Commit) (record p { depth = p.depth - 1; was_refused = false }) (record {
+      next = next_done s f (effect nx wr act.Commit) false ok;
       no_abort = refl;
       allowed = tt;
       same_pc = refl;
@@ -104,7 +105,7 @@ module _ (x : World) (v : Inv x) (i : ℕ) (o : i < x.machine.setting.count) (r 
         laid : (b : ℕ) → words_at (mem_by view f.tx x.flat.mem act.Commit) b ≡ lay ((project b x).hart i).own.writes (words_at x.flat.mem b)
         laid b = ap (λ z. words_at (mem_by view z x.flat.mem act.Commit) b) d.is ∙ commit_lays view d.tx x.flat.mem b (d.same.depth ∙ one) v.bytes.mem within ∙ ap (λ z. lay (writes_at b z) (words_at x.flat.mem b)) (sym d.is)
 
-        block : (b : ℕ) → Good s.count (with_flat (words_at (mem_by view f.tx x.flat.mem act.Commit) b) (at_hart i (local_at s b i (retire_row i no_memory word (effect nx wr act.Commit) (record h { tx = None; lines = λ b. line_cleared (h.lines b) })).hart (record (hart_after view f (effect nx wr act.Commit)) { tx = None }) (record p { depth = p.depth - 1; was_refused = false }) x.mail) (project b x)))
+        block : (b : ℕ) → Good s.count (with_flat (words_at (mem_by view f.tx x.flat.mem act.Commit) b) (at_hart i (local_at s b i (retire_row i no_memory word (effect nx wr act.Commit) (record h { tx = None; reserved = None; lines = λ b. line_cleared (h.lines b) })).hart (record (hart_after view f (effect nx wr act.Commit)) { tx = None }) (record p { depth = p.depth - 1; was_refused = false }) x.mail) (project b x)))
         block b =
             let F : FlatHart = record (hart_after view f (effect nx wr act.Commit)) { tx = None } in
             let l = (project b x).hart i in

@@ -17,20 +17,23 @@ use Rattle.table.specs.declared.effect.Store.{Store}
 use Rattle.table.specs.declared.effect.Act.{Act}
 use Rattle.table.specs.declared.effect.Act.TheVariants as act
 use Rattle.flat.specs.State.{Setting, FlatHart, Tx as FlatTx}
-use Rattle.flat.specs.Causes.{next_of}
+use Rattle.flat.specs.Causes.{next_of, done_next}
 use Rattle.flat.specs.Steps.{is_abort, is_store}
+use Rattle.flat.specs.Reservation.{is_reserved}
+use Rattle.flat.proofs.LoadsOrStores.{next_useful}
+use Rattle.table.specs.Effects.{write_of}
 use Rattle.protocol.specs.Messages.{Block}
 use Rattle.words.specs.LineStates.{is_owned}
 use Rattle.protocol.specs.Lines.{Line, is_enough, byte_in, line_used, line_cleared}
 use Rattle.protocol.specs.Hart.{Hart, Transaction, LogRecord, flat_hart, is_running, log_of, with_line}
-use Rattle.protocol.specs.Core.{Move, Rests, Makes, Lacks, abort_move, undo_move, trap_row, start_abort_row, access_move, access_row, effect_move, instruction_move, transaction_move, tx_move, core_move, kind_of, is_log_due, word_of, begin_row, commit_row, tabort_row, retire_row, no_memory, undo_row, tx_used}
+use Rattle.protocol.specs.Core.{Move, Rests, Makes, Lacks, abort_move, undo_move, trap_row, start_abort_row, access_move, access_row, effect_move, instruction_move, transaction_move, tx_move, core_move, kind_of, is_log_due, word_of, begin_row, commit_row, tabort_row, retire_row, no_memory, undo_row, tx_used, reserved_with, conditional_move}
 use Rattle.isolation.proofs.OneBlock.Model.State.{Tx, Outside, Aborting, Running as Inside_tx}
 use Rattle.isolation.proofs.OneBlock.Model.Core.{Due}
-use Rattle.isolation.proofs.Machine.World.{World, tx_by_cause, tx_at, images_of, access_at}
+use Rattle.isolation.proofs.Machine.World.{World, tx_by_cause, tx_at, images_of, act_at, access_at}
 use Rattle.isolation.proofs.Machine.Invariant.{SameTx, Inv}
 use Rattle.isolation.proofs.Machine.Tables.{record_here}
 use Rattle.isolation.proofs.Machine.Transactions.{outside, not_aborting}
-use Rattle.isolation.proofs.Words.NextWord.{next_is, commit_inside, abort_inside, no_break}
+use Rattle.isolation.proofs.Words.NextWord.{next_is, next_done, commit_inside, abort_inside, no_break}
 use Rattle.isolation.proofs.Core.HartResults.{Made}
 use Rattle.isolation.proofs.Core.AbortRows.{made_start, made_end}
 use Rattle.isolation.proofs.Core.UndoRows.{made_undo}
@@ -128,6 +131,55 @@ module _ (x : World) (v : Inv x) (i : ℕ) (o : i < x.machine.setting.count) (ru
     by_trap c k None e = made_trap x v i o r c k e
     by_trap c k (Some t) e = made_start x v i o t e wait (Trapped c h.pc) (free_of t e) refl (λ u y d. (sym (v.harts i).pc, k))
 
+    -- an access, or a conditional store that is made: its row's effect is d, and what is done is the access
+    module _ (nx : ℕ) (wr : Option (ℕ × ℕ)) (m : MemoryAct) (kept : Option ℕ) (d : Effect) (k : next_of s f ≡ Ok d) (due : act_at (m.addr / 32) d.act ≡ Some (kind_of m)) (stores : is_store d.act ≡ is_some m.store)
+        (done : done_next (is_some m.store) s f ≡ Ok (record { next = nx; write = wr; act = act.Memory m })) where
+      abbrev made : Effect
+      made = record { next = nx; write = wr; act = act.Memory m }
+
+      lacks : (z : Option Line) → h.lines (m.addr / 32) ≡ z → is_enough (kind_of m) z ≡ false → MoveIs x i (Lacks (kind_of m) (m.addr / 32))
+      lacks z y n = (due_by (tx_at h.tx) (kind_of m) (access_at (m.addr / 32) (next_of s f)) _ acts (ap (access_at (m.addr / 32)) k ∙ due), ap (is_enough (kind_of m)) y ∙ n, wait)
+
+      abbrev access : (l : Line) → h.lines (m.addr / 32) ≡ Some l → is_enough (kind_of m) (Some l) ≡ true → Access x i
+      access l y n = record { inv = v; is_hart = o; ready = r; does = m; next = nx; write = wr; is_done = done; line = l; has = y; enough = n }
+
+      by_tx : (l : Line) → h.lines (m.addr / 32) ≡ Some l → is_enough (kind_of m) (Some l) ≡ true → (z : Option Transaction) → h.tx ≡ z → Made x i (access_row i (word_of s h) made m kept l z h)
+      by_tx l y n None e = made_plain x i (access l y n) kept e
+      by_tx l y n (Some t) e = by_room (is_log_due m l && nat_le 113 (length t.log)) refl
+        where
+          stores_filled : (u : FlatTx) → SameTx t u → nat_le 113 (length t.log) ≡ true → 113 ≤ u.stores
+          stores_filled u d w = full (length t.log) u.stores w d.logged
+
+          by_room : (w : Bool) → (is_log_due m l && nat_le 113 (length t.log)) ≡ w → Made x i (cond w (start_abort_row LogFull t h) (retire_row i (byte_in l.content) (word_of s h) made (with_line (m.addr / 32) (Some (line_used true m l)) (record h { tx = Some (tx_used m l t); reserved = kept }))))
+          by_room true w = made_start x v i o t e wait LogFull (free_of t e) refl
+              (λ u q z. (subst (λ z. IsOkAnd z (λ q. is_store q.act ≡ true)) (sym k) (stores ∙ store_due m l ((and_parts _ _ w).0)), stores_filled u z (and_parts (is_log_due m l) _ w).1))
+          by_room false w = made_inside x i (access l y n) kept t e w
+
+      by_copy : (z : Option Line) → h.lines (m.addr / 32) ≡ z → MoveIs x i (access_move i (word_of s h) made m kept z h)
+      by_copy None y = lacks None y refl
+      by_copy (Some l) y = by_kind (is_enough (kind_of m) (Some l)) refl
+        where
+          by_kind : (w : Bool) → is_enough (kind_of m) (Some l) ≡ w → MoveIs x i (cond w (Makes (access_row i (word_of s h) made m kept l h.tx h)) (Lacks (kind_of m) (m.addr / 32)))
+          by_kind true w = by_tx l y w h.tx refl
+          by_kind false w = lacks (Some l) y w
+
+    itself : (m : MemoryAct) → cond (eqb (m.addr / 32) (m.addr / 32)) (Some (kind_of m)) None ≡ Some (kind_of m)
+    itself m = ap (λ w. cond w (Some (kind_of m)) None) (eq-eqb (m.addr / 32) (m.addr / 32) refl)
+
+    -- a conditional store has a store
+    stores_one : (nx : ℕ) (wr : Option (ℕ × ℕ)) (rd : ℕ) (m : MemoryAct) → next_of s f ≡ Ok (record { next = nx; write = wr; act = act.Conditional rd m }) → is_some m.store ≡ true
+    stores_one nx wr rd m k = next_useful s f (record { next = nx; write = wr; act = act.Conditional rd m }) k
+
+    by_condition : (nx : ℕ) (wr : Option (ℕ × ℕ)) (rd : ℕ) (m : MemoryAct) → next_of s f ≡ Ok (record { next = nx; write = wr; act = act.Conditional rd m })
+        → MoveIs x i (conditional_move i (word_of s h) (record { next = nx; write = wr; act = act.Conditional rd m }) m h)
+    by_condition nx wr rd m k = go (is_reserved (m.addr / 32) h.reserved)
+      where
+        go : (z : Bool) → MoveIs x i (cond z (access_move i (word_of s h) (record { next = nx; write = write_of rd 0; act = act.Memory m }) m None (h.lines (m.addr / 32)) h)
+            (Makes (retire_row i no_memory (word_of s h) (record { next = nx; write = write_of rd 1; act = act.Nothing }) (record h { reserved = None }))))
+        go true = by_copy nx (write_of rd 0) m None (record { next = nx; write = wr; act = act.Conditional rd m }) k (itself m) refl
+            (ap (λ z. done_next z s f) (stores_one nx wr rd m k) ∙ next_done s f (record { next = nx; write = wr; act = act.Conditional rd m }) true k) (h.lines (m.addr / 32)) refl
+        go false = made_nothing x v i o r nx (write_of rd 1) None (next_done s f (record { next = nx; write = wr; act = act.Conditional rd m }) false k)
+
     module _ (nx : ℕ) (wr : Option (ℕ × ℕ)) where
       abbrev does : Act → Effect
       does a = record { next = nx; write = wr; act = a }
@@ -140,7 +192,7 @@ module _ (x : World) (v : Inv x) (i : ℕ) (o : i < x.machine.setting.count) (ru
       by_commit k None e = absurd (commit_inside s f (does act.Commit) k refl (outside s h f (x.history.past i) (v.harts i) e))
       by_commit k (Some t) e = by_depth (eqb t.depth 1) refl
         where
-          by_depth : (z : Bool) → eqb t.depth 1 ≡ z → Made x i (cond z (retire_row i no_memory (word_of s h) (does act.Commit) (record h { tx = None; lines = λ b. line_cleared (h.lines b) })) (retire_row i no_memory (word_of s h) (does act.Commit) (record h { tx = Some (record t { depth = t.depth - 1 }) })))
+          by_depth : (z : Bool) → eqb t.depth 1 ≡ z → Made x i (cond z (retire_row i no_memory (word_of s h) (does act.Commit) (record h { tx = None; reserved = None; lines = λ b. line_cleared (h.lines b) })) (retire_row i no_memory (word_of s h) (does act.Commit) (record h { tx = Some (record t { depth = t.depth - 1 }) })))
           by_depth true y = made_commit x v i o r nx wr t e (eqb-true t.depth 1 y) k
           by_depth false y = made_shallower x v i o r nx wr t e (eqb-false t.depth 1 y) k
 
@@ -148,35 +200,10 @@ module _ (x : World) (v : Inv x) (i : ℕ) (o : i < x.machine.setting.count) (ru
       by_abort k None e = absurd (abort_inside s f (does act.Abort) k refl (outside s h f (x.history.past i) (v.harts i) e))
       by_abort k (Some t) e = made_start x v i o t e wait Asked (free_of t e) refl (λ u y d. subst (λ z. IsOkAnd z (λ q. is_abort q.act ≡ true)) (sym k) refl)
 
-      module _ (m : MemoryAct) (k : next_of s f ≡ Ok (does (act.Memory m))) where
-        lacks : (z : Option Line) → h.lines (m.addr / 32) ≡ z → is_enough (kind_of m) z ≡ false → MoveIs x i (Lacks (kind_of m) (m.addr / 32))
-        lacks z y n = (due_by (tx_at h.tx) (kind_of m) (access_at (m.addr / 32) (next_of s f)) _ acts (ap (access_at (m.addr / 32)) k ∙ ap (λ w. cond w (Some (kind_of m)) None) (eq-eqb (m.addr / 32) (m.addr / 32) refl)), ap (is_enough (kind_of m)) y ∙ n, wait)
-
-        abbrev access : (l : Line) → h.lines (m.addr / 32) ≡ Some l → is_enough (kind_of m) (Some l) ≡ true → Access x i
-        access l y n = record { inv = v; is_hart = o; ready = r; does = m; next = nx; write = wr; is_next = k; line = l; has = y; enough = n }
-
-        by_tx : (l : Line) → h.lines (m.addr / 32) ≡ Some l → is_enough (kind_of m) (Some l) ≡ true → (z : Option Transaction) → h.tx ≡ z → Made x i (access_row i (word_of s h) (does (act.Memory m)) m l z h)
-        by_tx l y n None e = made_plain x i (access l y n) e
-        by_tx l y n (Some t) e = by_room (is_log_due m l && nat_le 113 (length t.log)) refl
-          where
-            stores_filled : (u : FlatTx) → SameTx t u → nat_le 113 (length t.log) ≡ true → 113 ≤ u.stores
-            stores_filled u d w = full (length t.log) u.stores w d.logged
-
-            by_room : (w : Bool) → (is_log_due m l && nat_le 113 (length t.log)) ≡ w → Made x i (cond w (start_abort_row LogFull t h) (retire_row i (byte_in l.content) (word_of s h) (does (act.Memory m)) (with_line (m.addr / 32) (Some (line_used true m l)) (record h { tx = Some (tx_used m l t) }))))
-            by_room true w = made_start x v i o t e wait LogFull (free_of t e) refl (λ u q d. (subst (λ z. IsOkAnd z (λ q. is_store q.act ≡ true)) (sym k) (store_due m l ((and_parts _ _ w).0)), stores_filled u d (and_parts (is_log_due m l) _ w).1))
-            by_room false w = made_inside x i (access l y n) t e w
-
-        by_copy : (z : Option Line) → h.lines (m.addr / 32) ≡ z → MoveIs x i (access_move i (word_of s h) (does (act.Memory m)) m z h)
-        by_copy None y = lacks None y refl
-        by_copy (Some l) y = by_kind (is_enough (kind_of m) (Some l)) refl
-          where
-            by_kind : (w : Bool) → is_enough (kind_of m) (Some l) ≡ w → MoveIs x i (cond w (Makes (access_row i (word_of s h) (does (act.Memory m)) m l h.tx h)) (Lacks (kind_of m) (m.addr / 32)))
-            by_kind true w = by_tx l y w h.tx refl
-            by_kind false w = lacks (Some l) y w
-
       by_act : (a : Act) → next_of s f ≡ Ok (does a) → MoveIs x i (effect_move i x.machine.stamps (word_of s h) (does a) a h)
-      by_act act.Nothing k = made_nothing x v i o r nx wr k
-      by_act (act.Memory m) k = by_copy m k (h.lines (m.addr / 32)) refl
+      by_act act.Nothing k = made_nothing x v i o r nx wr h.reserved (next_done s f (does act.Nothing) false k)
+      by_act (act.Memory m) k = by_copy nx wr m (reserved_with m m.load h.reserved) (does (act.Memory m)) k (itself m) refl (next_done s f (does (act.Memory m)) (is_some m.store) k) (h.lines (m.addr / 32)) refl
+      by_act (act.Conditional rd m) k = by_condition nx wr rd m k
       by_act (act.Begin a) k = by_begin a k h.tx refl
       by_act act.Commit k = by_commit k h.tx refl
       by_act act.Abort k = by_abort k h.tx refl

@@ -44,7 +44,7 @@ module _ (x : World) (v : Inv x) (i : ℕ) (o : i < x.machine.setting.count) whe
           carries = w.carries;
           reason = w.reason;
           told = w.told;
-          hart = hart_beside x.machine.setting t.hart m.flat_hart m.past _ _ _ _ w.hart;
+          hart = hart_beside x.machine.setting t.hart m.flat_hart m.past _ _ _ _ _ w.hart;
           bytes = w.bytes;
           blocks = w.blocks;
         };

@@ -26,9 +26,9 @@ use Rattle.isolation.proofs.Machine.Transactions.{outside, due_free, past_refuse
 use Rattle.isolation.proofs.Words.Bytes.{write_same, retire_same, words_stored, words_elsewhere}
 use Rattle.isolation.proofs.Core.HartResults.{at_block, Made, same_local}
 use Rattle.isolation.proofs.Core.RetireRows.{acts_at, made_retire, effect}
-use Rattle.isolation.proofs.Core.Accesses.{Access, changes, aligned, same_bytes, allowed, suffices, line_is}
+use Rattle.isolation.proofs.Core.Accesses.{Access, changes, aligned, same_bytes, allowed, suffices, line_is, done_by}
 
-module _ (x : World) (i : ℕ) (a : Access x i) (none : (x.machine.harts i).tx ≡ None) where
+module _ (x : World) (i : ℕ) (a : Access x i) (kept : Option ℕ) (none : (x.machine.harts i).tx ≡ None) where
   abbrev s : Setting
   s = x.machine.setting
 
@@ -69,7 +69,7 @@ module _ (x : World) (i : ℕ) (a : Access x i) (none : (x.machine.harts i).tx �
   mem = mem_put x.flat.mem m (put_by view m)
 
   abbrev used_hart : Hart
-  used_hart = with_line b (Some (line_used false m l)) h
+  used_hart = with_line b (Some (line_used false m l)) (record h { reserved = kept })
 
   abbrev turned : ℕ → Local
   turned c = local_at s c i (retire_row i (byte_in l.content) word e used_hart).hart later (record p { was_refused = false }) x.mail
@@ -122,7 +122,7 @@ module _ (x : World) (i : ℕ) (a : Access x i) (none : (x.machine.harts i).tx �
   -- it retires, and memory has what it stores
   pub made_plain : Made x i (retire_row i (byte_in l.content) word e used_hart)
   made_plain = made_retire x a.inv i a.is_hart e (byte_in l.content) used_hart false f.tx mem (record p { was_refused = false }) (record {
-    next = a.is_next;
+    next = done_by x i a (byte_in l.content);
     no_abort = refl;
     allowed = allowed x i a;
     same_pc = refl;

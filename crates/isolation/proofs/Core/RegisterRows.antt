@@ -2,7 +2,7 @@
 use Rattle.std.proofs.Common.{◌≡◌, ◌<◌, ℕ, false, Option, Ok, refl}
 use Rattle.table.specs.declared.effect.Act.TheVariants as act
 use Rattle.flat.specs.State.{Setting, FlatHart, flat_view}
-use Rattle.flat.specs.Causes.{next_of}
+use Rattle.flat.specs.Causes.{next_of, done_next}
 use Rattle.flat.specs.Effects.{hart_after}
 use Rattle.flat.specs.Reasons.{Past}
 use Rattle.protocol.specs.Hart.{Hart}
@@ -10,6 +10,7 @@ use Rattle.protocol.specs.Core.{retire_row, no_memory, word_of}
 use Rattle.isolation.proofs.Machine.World.{World}
 use Rattle.isolation.proofs.Machine.Invariant.{Inv}
 use Rattle.isolation.proofs.Machine.Transactions.{due_free, past_refused}
+use Rattle.isolation.proofs.Words.NextWord.{next_done}
 use Rattle.isolation.proofs.Core.HartResults.{Made}
 use Rattle.isolation.proofs.Core.RetireRows.{Ready, made_retire, effect, retires_at}
 
@@ -32,9 +33,9 @@ module _ (x : World) (v : Inv x) (i : ℕ) (o : i < x.machine.setting.count) (r 
   abbrev word : ℕ
   word = word_of s h
 
-  -- a word without an act
-  pub made_nothing : next_of s f ≡ Ok (effect nx wr act.Nothing) → Made x i (retire_row i no_memory word (effect nx wr act.Nothing) h)
-  made_nothing e = made_retire x v i o (effect nx wr act.Nothing) no_memory h false f.tx x.flat.mem (record p { was_refused = false }) (record {
+  -- a word without an act, or a conditional store that fails, which leaves the hart without a reservation
+  pub made_nothing : (kept : Option ℕ) → done_next false s f ≡ Ok (effect nx wr act.Nothing) → Made x i (retire_row i no_memory word (effect nx wr act.Nothing) (record h { reserved = kept }))
+  made_nothing kept e = made_retire x v i o (effect nx wr act.Nothing) no_memory (record h { reserved = kept }) false f.tx x.flat.mem (record p { was_refused = false }) (record {
     next = e;
     no_abort = refl;
     allowed = tt;
@@ -56,7 +57,7 @@ module _ (x : World) (v : Inv x) (i : ℕ) (o : i < x.machine.setting.count) (r 
   -- a call
   pub made_call : next_of s f ≡ Ok (effect nx wr act.Call) → Made x i (retire_row i no_memory word (effect nx wr act.Call) h)
   made_call e = made_retire x v i o (effect nx wr act.Call) no_memory h false f.tx x.flat.mem (record p { was_refused = false }) (record {
-    next = e;
+    next = next_done s f (effect nx wr act.Call) false e;
     no_abort = refl;
     allowed = tt;
     same_pc = refl;

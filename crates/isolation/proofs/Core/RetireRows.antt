@@ -1,17 +1,17 @@
 -- A hart retires a word: what is left to show of it, whatever the word does.
 use Rattle.std.proofs.Common.{◌≡◌, ◌≢◌, ◌<◌, ℕ, Bool, false, Option, None, Some, Ok, refl, sym, ap, subst, ◌∙◌}
-use Rattle.std.specs.Prelude.{IsOkAnd, unwrap_or}
+use Rattle.std.specs.Prelude.{IsOkAnd, unwrap_or, is_some}
 use Rattle.words.specs.declared.cause.Status.TheVariants.{Running}
 use Rattle.words.specs.declared.entry.Entry.{Entry}
 use Rattle.words.specs.declared.entry.Entry.TheVariants.{Retire}
 use Rattle.table.specs.declared.effect.Effect.{Effect}
 use Rattle.table.specs.declared.effect.Act.{Act}
-use Rattle.table.specs.Effects.{with_reg}
+use Rattle.table.specs.Effects.{with_reg, resolved}
 use Rattle.table.specs.Table.{decoded}
 use Rattle.table.specs.Program.{word_at}
 use Rattle.flat.specs.Bytes.{put_at}
 use Rattle.flat.specs.State.{Setting, FlatHart, Tx as FlatTx, flat_view, IsAllowed}
-use Rattle.flat.specs.Causes.{next_of}
+use Rattle.flat.specs.Causes.{next_of, done_next}
 use Rattle.flat.specs.Effects.{retire_of, hart_after, write_by, load_by, store_by, output_by, status_by, tx_by, mem_by}
 use Rattle.flat.specs.Steps.{Retires, CarriesSome, is_abort, retired}
 use Rattle.flat.specs.Reasons.{Past, past_retired, takes_stamp}
@@ -27,8 +27,8 @@ use Rattle.isolation.proofs.OneBlock.Facts.Runs.{goes_on}
 use Rattle.isolation.proofs.Machine.World.{World, wait_at, tx_at, local_at, project, access_at}
 use Rattle.isolation.proofs.Machine.Invariant.{TxIs, AbortIsDue, PastIs, Inv}
 use Rattle.isolation.proofs.Words.BytesKept.{bytes_kept}
-use Rattle.isolation.proofs.Words.NextWord.{fetched}
-use Rattle.isolation.proofs.Words.Decoding.{past_after, stamp_by, decoded_past, decoded_stamp}
+use Rattle.isolation.proofs.Words.NextWord.{fetched, done_from}
+use Rattle.isolation.proofs.Words.Decoding.{past_after, stamp_by, done_past, done_stamp}
 use Rattle.isolation.proofs.Core.HartResults.{Made}
 
 -- an instruction's effect, by its act
@@ -71,7 +71,7 @@ module _ (x : World) (v : Inv x) (i : ℕ) (o : i < x.machine.setting.count) whe
   -- hart i retires e, where it read local, has become g, and takes a stamp or doesn't; and tx, mem and past are what the flat machine's
   -- transaction and memory and the entries become
   pub record Retiring (e : Effect) (local : ℕ → ℕ) (g : Hart) (stamped : Bool) (tx : Option FlatTx) (mem : ℕ → ℕ) (past : Past) : Type 0 where
-    pub next : next_of s f ≡ Ok e
+    pub next : done_next (is_some (store_by local e.act)) s f ≡ Ok e
     pub no_abort : is_abort e.act ≡ false
     pub allowed : IsAllowed x.flat i e.act
     pub same_pc : g.pc ≡ h.pc
@@ -95,17 +95,20 @@ module _ (x : World) (v : Inv x) (i : ℕ) (o : i < x.machine.setting.count) whe
     abbrev later : FlatHart
     later = record (hart_after view f e) { tx = tx }
 
+    row : (d : Effect) × (next_of s f ≡ Ok d) × (resolved (is_some (store_by local e.act)) d ≡ e)
+    row = done_from s f e (is_some (store_by local e.act)) r.next
+
     entry_is : given ≡ retire_of view i f word e
     entry_is = ap (λ z. Retire i z word (write_by local e e.act) (load_by local e.act) (store_by local e.act)) (r.same_pc ∙ sym (v.harts i).pc) ∙ r.entry
 
     word_is : word_at x.flat.setting.segments f.pc ≡ Some word
-    word_is = ap (λ z. word_at z.segments f.pc) v.same ∙ fetched s f e r.next ∙ ap (λ z. Some (unwrap_or (word_at s.segments z) 0)) (v.harts i).pc
+    word_is = ap (λ z. word_at z.segments f.pc) v.same ∙ fetched s f (row.0) (row.1) ∙ ap (λ z. Some (unwrap_or (word_at s.segments z) 0)) (v.harts i).pc
 
     after_is : record x.flat { mem = mem; hart = put_at i later x.flat.hart } ≡ retired x.flat i e
     after_is = λ k. record x.flat { mem = sym r.mem_is k; hart = put_at i (record (hart_after view f e) { tx = sym r.tx_is k }) x.flat.hart }
 
     carries : CarriesSome x.flat (Some given) (record x.flat { mem = mem; hart = put_at i later x.flat.hart })
-    carries = subst (λ z. IsOkAnd z (λ does. Retires x.flat i word does given (record x.flat { mem = mem; hart = put_at i later x.flat.hart }))) (sym (ap (λ z. next_of z f) v.same ∙ r.next)) (record {
+    carries = subst (λ z. IsOkAnd z (λ does. Retires x.flat i word does given (record x.flat { mem = mem; hart = put_at i later x.flat.hart }))) (sym (ap (λ z. done_next (is_some (store_by local e.act)) z f) v.same ∙ r.next)) (record {
       running = record { hart = subst (λ z. i < z.count) (sym v.same) o; runs = (v.harts i).status ∙ runs };
       fetched = word_is;
       no_abort = r.no_abort;
@@ -118,10 +121,10 @@ module _ (x : World) (v : Inv x) (i : ℕ) (o : i < x.machine.setting.count) whe
     word_seen = ap (λ z. unwrap_or (word_at s.segments z) 0) (v.harts i).pc
 
     stamp_told : takes_stamp (decoded word) p ≡ stamped
-    stamp_told = ap (λ z. takes_stamp (decoded z) p) (sym word_seen) ∙ decoded_stamp s f e r.next p ∙ r.stamp_is
+    stamp_told = ap (λ z. takes_stamp (decoded z) p) (sym word_seen) ∙ done_stamp s f (is_some (store_by local e.act)) e r.next p ∙ r.stamp_is
 
     past_told : past_retired x.history.taken i (decoded word) p ≡ past
-    past_told = ap (λ z. past_retired x.history.taken i (decoded z) p) (sym word_seen) ∙ decoded_past s f e r.next x.history.taken i p ∙ r.past_is
+    past_told = ap (λ z. past_retired x.history.taken i (decoded z) p) (sym word_seen) ∙ done_past s f (is_some (store_by local e.act)) e r.next x.history.taken i p ∙ r.past_is
 
     -- what is left to show is enough
     pub made_retire : Made x i (record (retire_row i local word e g) { stamped = stamped })

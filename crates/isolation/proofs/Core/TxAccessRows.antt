@@ -32,10 +32,10 @@ use Rattle.isolation.proofs.Words.Bytes.{write_same, retire_same}
 use Rattle.isolation.proofs.Words.Laying.{WritesBytes, WritesWithin, store_lays, store_elsewhere}
 use Rattle.isolation.proofs.Core.HartResults.{at_block, Made, same_local}
 use Rattle.isolation.proofs.Core.RetireRows.{acts_at, made_retire, effect}
-use Rattle.isolation.proofs.Core.Accesses.{Access, number, changes, aligned, same_bytes, allowed, suffices, line_is}
+use Rattle.isolation.proofs.Core.Accesses.{Access, number, changes, aligned, same_bytes, allowed, suffices, line_is, done_by}
 use Rattle.isolation.proofs.Core.TxAccessTables.{log_with, images_here, images_off, tx_with, read_off, write_off, tx_same}
 
-module _ (x : World) (i : ℕ) (a : Access x i) (t : Transaction) (et : (x.machine.harts i).tx ≡ Some t) (room : (is_log_due a.does a.line && nat_le 113 (length t.log)) ≡ false) where
+module _ (x : World) (i : ℕ) (a : Access x i) (kept : Option ℕ) (t : Transaction) (et : (x.machine.harts i).tx ≡ Some t) (room : (is_log_due a.does a.line && nat_le 113 (length t.log)) ≡ false) where
   abbrev s : Setting
   s = x.machine.setting
 
@@ -80,7 +80,7 @@ module _ (x : World) (i : ℕ) (a : Access x i) (t : Transaction) (et : (x.machi
   later = record (hart_after view f e) { tx = Some (tx_with view m d.tx m.load m.store) }
 
   abbrev used_hart : Hart
-  used_hart = with_line b (Some (line_used true m l)) (record h { tx = Some (tx_used m l t) })
+  used_hart = with_line b (Some (line_used true m l)) (record h { tx = Some (tx_used m l t); reserved = kept })
 
   abbrev turned : ℕ → Local
   turned c = local_at s c i (retire_row i (byte_in l.content) word e used_hart).hart later (record p { was_refused = false }) x.mail
@@ -183,7 +183,7 @@ module _ (x : World) (i : ℕ) (a : Access x i) (t : Transaction) (et : (x.machi
   made_inside =
       let w : InPast t h.kept_stamp p = in_past s h f p t (a.inv.harts i) et in
       made_retire x a.inv i a.is_hart e (byte_in l.content) used_hart false (Some (tx_with view m d.tx m.load m.store)) x.flat.mem (record p { was_refused = false }) (record {
-        next = a.is_next;
+        next = done_by x i a (byte_in l.content);
         no_abort = refl;
         allowed = allowed x i a;
         same_pc = refl;

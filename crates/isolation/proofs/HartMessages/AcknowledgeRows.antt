@@ -62,7 +62,7 @@ module _ (x : World) (v : Inv x) (key i b : ℕ) (k : Kind) (r : ℕ) (st : Opti
       about = refl;
       sent_about = refl;
       sent = (refl, free);
-      hart = hart_beside x.machine.setting h (x.flat.hart i) (x.history.past i) _ _ _ _ (v.harts i);
+      hart = hart_beside x.machine.setting h (x.flat.hart i) (x.history.past i) _ _ _ _ _ (v.harts i);
       here = λ net. here_one x i (Forward i b k r st) (acknowledge_row i b k r h) b (acknowledge k r ((project b x).hart i)) net refl (refl, free)
           (ack_here x.machine.setting b i k r st h (x.flat.hart i) (x.history.past i) x.mail)
           (goes_on n (project b x) _ (v.blocks b) (Fwd_acknowledged i told o come (refuses_same (h.lines b) (overflow_of h.tx) k ∙ y)));

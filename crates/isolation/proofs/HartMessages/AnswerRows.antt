@@ -108,10 +108,10 @@ answers_deliver x v key i m r a here = record {
     by P p q w = ways P n i r r.grant h p q w
 
     same : HartIs s (record h { request = Some r }) (x.flat.hart i) (x.history.past i)
-    same = hart_beside s h (x.flat.hart i) (x.history.past i) _ _ _ _ (v.harts i)
+    same = hart_beside s h (x.flat.hart i) (x.history.past i) _ _ _ _ _ (v.harts i)
 
     filled : (g : Granted) → HartIs s (granted_row i r g h).hart (x.flat.hart i) (x.history.past i)
-    filled g = hart_beside s h (x.flat.hart i) (x.history.past i) _ _ _ _ (v.harts i)
+    filled g = hart_beside s h (x.flat.hart i) (x.history.past i) _ _ _ _ _ (v.harts i)
 
 -- where the request waits, its row is the one that keeps the answer
 

@@ -56,7 +56,7 @@ module _ (x : World) (v : Inv x) (key i b : ℕ) (there : x.machine.net key ≡ 
     about = refl;
     sent_about = tt;
     sent = tt;
-    hart = hart_beside x.machine.setting h (x.flat.hart i) (x.history.past i) _ _ _ _ (v.harts i);
+    hart = hart_beside x.machine.setting h (x.flat.hart i) (x.history.past i) _ _ _ _ _ (v.harts i);
     here = λ net. here_one x i (PutAck i b) turn b (put_over ((project b x).hart i)) net refl tt (over_here x.machine.setting b i h (x.flat.hart i) (x.history.past i) x.mail) (goes_on n (project b x) _ (v.blocks b) (Put_ack_comes i o come));
     elsewhere = λ c d. good_still n (project c x) i _ (over_there x.machine.setting c i h (x.flat.hart i) (x.history.past i) x.mail (not_there b c h.put d has)) (v.blocks c);
   }

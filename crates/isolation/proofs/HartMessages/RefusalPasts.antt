@@ -74,9 +74,9 @@ stands f i b m None k e (inr w) = absurd (not_write (e ∙ w.0))
 stands f i b m (Some s) k e (inl w) = inr w
 stands f i b m (Some s) k e (inr w) = inl w.1
 
-wants : (f : Flat) (i b : ℕ) (spilled : Bool) (k : Kind) (a : Act) → act_at b a ≡ Some k → (StandsAgainst f i b None ⊎ (((k ≡ Write) × (has_read (f.hart i).tx b ≡ true)) ⊎ (spilled ≡ true))) → WantsKept f i b spilled a
-wants f i b spilled k act.Nothing e w = absurd (cc)
-wants f i b spilled k (act.Memory m) e w = go (eqb (m.addr / 32) b) refl e
+at_block : (f : Flat) (i b : ℕ) (spilled : Bool) (k : Kind) (m : MemoryAct) → cond (eqb (m.addr / 32) b) (Some (kind_of m)) None ≡ Some k
+    → (StandsAgainst f i b None ⊎ (((k ≡ Write) × (has_read (f.hart i).tx b ≡ true)) ⊎ (spilled ≡ true))) → (m.addr / 32 ≡ b) × (StandsAgainst f i b m.store ⊎ (spilled ≡ true))
+at_block f i b spilled k m e w = go (eqb (m.addr / 32) b) refl e
   where
     go : (q : Bool) → eqb (m.addr / 32) b ≡ q → cond q (Some (kind_of m)) None ≡ Some k → (m.addr / 32 ≡ b) × (StandsAgainst f i b m.store ⊎ (spilled ≡ true))
     go true z y = (eqb-true (m.addr / 32) b z, by w)
@@ -86,6 +86,11 @@ wants f i b spilled k (act.Memory m) e w = go (eqb (m.addr / 32) b) refl e
         by (inr (inl u)) = inl (stands f i b m m.store k (same_Some (kind_of m) k y) (inr u))
         by (inr (inr u)) = inr u
     go false z y = absurd (cc)
+
+wants : (f : Flat) (i b : ℕ) (spilled : Bool) (k : Kind) (a : Act) → act_at b a ≡ Some k → (StandsAgainst f i b None ⊎ (((k ≡ Write) × (has_read (f.hart i).tx b ≡ true)) ⊎ (spilled ≡ true))) → WantsKept f i b spilled a
+wants f i b spilled k act.Nothing e w = absurd (cc)
+wants f i b spilled k (act.Memory m) e w = at_block f i b spilled k m e w
+wants f i b spilled k (act.Conditional rd m) e w = at_block f i b spilled k m e w
 wants f i b spilled k (act.Begin p) e w = absurd (cc)
 wants f i b spilled k act.Commit e w = absurd (cc)
 wants f i b spilled k act.Abort e w = absurd (cc)

@@ -68,9 +68,10 @@ pub record HartIs (s : Setting) (h : Hart) (f : FlatHart) (p : Past) : Type 0 wh
   pub due : AbortIsDue s h.tx f
   pub past : PastIs h.tx h.kept_stamp p
 
--- a hart's lines, its request and its Put are nothing that this looks at, nor whether it is fresh
-pub hart_beside : (s : Setting) (h : Hart) (f : FlatHart) (p : Past) (lines : ℕ → Option Line) (request : Option Request) (put : Option PutOut) (fresh : Bool) → HartIs s h f p → HartIs s (record h { lines = lines; request = request; put = put; fresh = fresh }) f p
-hart_beside s h f p lines request put fresh z = record { regs = z.regs; pc = z.pc; output = z.output; status = z.status; tx = z.tx; due = z.due; past = z.past }
+-- a hart's reservation, its lines, its request and its Put are nothing that this looks at, nor whether it is fresh
+pub hart_beside : (s : Setting) (h : Hart) (f : FlatHart) (p : Past) (reserved : Option ℕ) (lines : ℕ → Option Line) (request : Option Request) (put : Option PutOut) (fresh : Bool) → HartIs s h f p
+    → HartIs s (record h { reserved = reserved; lines = lines; request = request; put = put; fresh = fresh }) f p
+hart_beside s h f p reserved lines request put fresh z = record { regs = z.regs; pc = z.pc; output = z.output; status = z.status; tx = z.tx; due = z.due; past = z.past }
 
 -- The flat state
 

@@ -188,6 +188,7 @@ writes_at b (Some t) = cond (t.write_set b) (Some (λ k. words_at (seen (Some t)
 abbrev pub act_at : ℕ → Act → Option Kind
 act_at b act.Nothing = None
 act_at b (act.Memory m) = cond (m.addr / 32 == b) (Some (kind_of m)) None
+act_at b (act.Conditional rd m) = cond (m.addr / 32 == b) (Some (kind_of m)) None
 act_at b (act.Begin p) = None
 act_at b act.Commit = None
 act_at b act.Abort = None

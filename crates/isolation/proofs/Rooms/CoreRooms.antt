@@ -14,6 +14,8 @@ use Rattle.table.specs.declared.effect.Effect.{Effect}
 use Rattle.table.specs.declared.effect.MemoryAct.{MemoryAct}
 use Rattle.table.specs.declared.effect.Act.{Act}
 use Rattle.table.specs.declared.effect.Act.TheVariants as act
+use Rattle.table.specs.Effects.{resolved}
+use Rattle.flat.specs.Reservation.{is_reserved}
 use Rattle.flat.specs.State.{Setting}
 use Rattle.flat.specs.Causes.{next_of}
 use Rattle.words.specs.LineStates.{is_owned}
@@ -21,7 +23,7 @@ use Rattle.protocol.specs.Lines.{Line, is_enough, byte_in, line_used, line_undon
 use Rattle.protocol.specs.Hart.{Hart, Transaction, LogRecord, PutOut, HartResult, flat_hart, is_running, has_put_of, with_line}
 use Rattle.protocol.specs.Evict.{drop_row, write_back_row, write_back_row_if_none_out, evict_by, evict_line, evict_row, without_line}
 use Rattle.protocol.specs.Requests.{new_request, ask_row}
-use Rattle.protocol.specs.Core.{Move, Rests, Makes, Lacks, start_abort_row, undo_row, undo_move, abort_move, trap_row, retire_row, no_memory, begin_row, commit_row, tabort_row, kind_of, is_log_due, tx_used, access_row, access_move, effect_move, word_of, instruction_move, transaction_move, tx_move, core_move, no_longer_fresh, ask_with_room, victim_for, fetch_row, move_row, core_row}
+use Rattle.protocol.specs.Core.{Move, Rests, Makes, Lacks, start_abort_row, undo_row, undo_move, abort_move, trap_row, retire_row, no_memory, begin_row, commit_row, tabort_row, kind_of, is_log_due, tx_used, access_row, access_move, reserved_with, conditional_move, effect_move, word_of, instruction_move, transaction_move, tx_move, core_move, no_longer_fresh, ask_with_room, victim_for, fetch_row, move_row, core_row}
 use Rattle.protocol.specs.Caches.{Geometry, MayName}
 use Rattle.protocol.specs.Machine.{MayLack}
 use Rattle.isolation.proofs.Rooms.Sets.{LeavesRoom, Fits, Sheds, put_sheds, is_there, fits_shed, fits_asked, room_beside, room_left}
@@ -107,7 +109,7 @@ module _ (s : Setting) (i taken : ℕ) (h : Hart) where
 
   commit_sheds : (w : ℕ) (e : Effect) (z : Option Transaction) → Sheds h (commit_row i w e z h).hart
   commit_sheds w e None = sheds_none h _ refl refl
-  commit_sheds w e (Some t) = sheds_either h (t.depth == 1) (retire_row i no_memory w e (record h { tx = None; lines = λ b. line_cleared (h.lines b) })) (retire_row i no_memory w e (record h { tx = Some (record t { depth = t.depth - 1 }) }))
+  commit_sheds w e (Some t) = sheds_either h (t.depth == 1) (retire_row i no_memory w e (record h { tx = None; reserved = None; lines = λ b. line_cleared (h.lines b) })) (retire_row i no_memory w e (record h { tx = Some (record t { depth = t.depth - 1 }) }))
       (sheds_marks h _ refl refl)
       (sheds_none h _ refl refl)
 
@@ -116,23 +118,32 @@ module _ (s : Setting) (i taken : ℕ) (h : Hart) where
   abort_begins (Some t) = sheds_none h _ refl refl
 
   module _ (w : ℕ) (e : Effect) where
-    access_sheds : (m : MemoryAct) (l : Line) → h.lines (m.addr / 32) ≡ Some l → (z : Option Transaction) → Sheds h (access_row i w e m l z h).hart
-    access_sheds m l k None = sheds_one h _ (m.addr / 32) l (line_used false m l) k refl refl
-    access_sheds m l k (Some t) = sheds_either h (is_log_due m l && nat_le 113 (length t.log)) (start_abort_row LogFull t h) (retire_row i (byte_in l.content) w e (with_line (m.addr / 32) (Some (line_used true m l)) (record h { tx = Some (tx_used m l t) })))
+    access_sheds : (m : MemoryAct) (kept : Option ℕ) (l : Line) → h.lines (m.addr / 32) ≡ Some l → (z : Option Transaction) → Sheds h (access_row i w e m kept l z h).hart
+    access_sheds m kept l k None = sheds_one h _ (m.addr / 32) l (line_used false m l) k refl refl
+    access_sheds m kept l k (Some t) = sheds_either h (is_log_due m l && nat_le 113 (length t.log)) (start_abort_row LogFull t h) (retire_row i (byte_in l.content) w e (with_line (m.addr / 32) (Some (line_used true m l)) (record h { tx = Some (tx_used m l t); reserved = kept })))
         (sheds_none h _ refl refl)
         (sheds_one h _ (m.addr / 32) l (line_used true m l) k refl refl)
 
-    used : (m : MemoryAct) (z : Option Line) → h.lines (m.addr / 32) ≡ z → MoveSheds h (access_move i w e m z h)
-    used m None k = tt
-    used m (Some l) k = by_kind (is_enough (kind_of m) (Some l))
+    used : (m : MemoryAct) (kept : Option ℕ) (z : Option Line) → h.lines (m.addr / 32) ≡ z → MoveSheds h (access_move i w e m kept z h)
+    used m kept None k = tt
+    used m kept (Some l) k = by_kind (is_enough (kind_of m) (Some l))
       where
-        by_kind : (z : Bool) → MoveSheds h (cond z (Makes (access_row i w e m l h.tx h)) (Lacks (kind_of m) (m.addr / 32)))
-        by_kind true = access_sheds m l k h.tx
+        by_kind : (z : Bool) → MoveSheds h (cond z (Makes (access_row i w e m kept l h.tx h)) (Lacks (kind_of m) (m.addr / 32)))
+        by_kind true = access_sheds m kept l k h.tx
         by_kind false = tt
 
+  conditional_sheds : (w : ℕ) (e : Effect) (m : MemoryAct) → MoveSheds h (conditional_move i w e m h)
+  conditional_sheds w e m = by (is_reserved (m.addr / 32) h.reserved)
+    where
+      by : (z : Bool) → MoveSheds h (cond z (access_move i w (resolved true e) m None (h.lines (m.addr / 32)) h) (Makes (retire_row i no_memory w (resolved false e) (record h { reserved = None }))))
+      by true = used w (resolved true e) m None (h.lines (m.addr / 32)) refl
+      by false = sheds_none h _ refl refl
+
+  module _ (w : ℕ) (e : Effect) where
     effect_sheds : (a : Act) → MoveSheds h (effect_move i taken w e a h)
     effect_sheds act.Nothing = sheds_none h _ refl refl
-    effect_sheds (act.Memory m) = used m (h.lines (m.addr / 32)) refl
+    effect_sheds (act.Memory m) = used w e m (reserved_with m m.load h.reserved) (h.lines (m.addr / 32)) refl
+    effect_sheds (act.Conditional rd m) = conditional_sheds w e m
     effect_sheds (act.Begin p) = begin_sheds w e p h.tx
     effect_sheds act.Commit = commit_sheds w e h.tx
     effect_sheds act.Abort = abort_begins h.tx

@@ -38,10 +38,8 @@ some_bytes Word = omega arith
 block_by : (a n size logs : ℕ) → 0 < n → a + n ≤ size - logs → 32 * (a / 32) < size
 block_by a n size logs some below = omega arith
 
-pub access_within : (s : Setting) (h : FlatHart) (e : Effect) (m : MemoryAct) → next_of s h ≡ Ok e → e.act ≡ act.Memory m
-    → IsAccessWithin s m
-access_within s h e m ok is =
-    let none : memory_cause s m ≡ None = ap (act_cause s h) (sym is) ∙ next_ok s h e ok in
+pub access_within : (s : Setting) (h : FlatHart) (m : MemoryAct) → memory_cause s m ≡ None → IsAccessWithin s m
+access_within s h m none =
     let below = below_by s m.addr (bytes_in m.width) _ none in
     let aligned = memory_aligned s m none in
     record {

@@ -1,5 +1,5 @@
 -- A core step and an eviction leave a hart within memory, and ask for, or give back, blocks in memory.
-use Rattle.std.proofs.Common.{◌≡◌, ℕ, ◌/◌, ◌-◌, ◌+◌, Bool, true, false, List, [], ◌∷◌, Option, None, Some, Result, Ok, Err, cond, refl, sym, ap, subst}
+use Rattle.std.proofs.Common.{◌≡◌, ℕ, ◌/◌, ◌-◌, ◌+◌, Bool, true, false, List, [], ◌∷◌, Option, None, Some, Result, Ok, Err, cond, refl, sym, ap, subst, ◌∙◌}
 use Rattle.std.specs.Prelude.{◌&&◌, ◌==◌, nat_le, length, All, IfSome, is_some, is_none}
 use Rattle.std.specs.Option.{option_map}
 use Rattle.std.proofs.lemmas.List.Elements.{All-nil, All-cons, All-head, All-tail}
@@ -18,12 +18,15 @@ use Rattle.table.specs.declared.effect.MemoryAct.{MemoryAct}
 use Rattle.table.specs.declared.effect.Act.{Act}
 use Rattle.table.specs.declared.effect.Act.TheVariants as act
 use Rattle.flat.specs.State.{Setting}
-use Rattle.flat.specs.Causes.{next_of}
-use Rattle.protocol.specs.Lines.{Line, is_enough, byte_in, line_used, line_undone}
+use Rattle.table.specs.Effects.{resolved}
+use Rattle.flat.specs.Reservation.{is_reserved}
+use Rattle.flat.specs.Causes.{next_of, act_cause}
+use Rattle.flat.proofs.Next.{next_ok}
+use Rattle.protocol.specs.Lines.{Line, is_enough, byte_in, line_used, line_undone, line_cleared}
 use Rattle.protocol.specs.Hart.{Hart, Transaction, LogRecord, PutOut, HartResult, flat_hart, is_running, has_put_of, log_of}
 use Rattle.protocol.specs.Evict.{tx_spilled, without_line, write_back_row_if_none_out, evict_by, evict_line, evict_row}
 use Rattle.protocol.specs.Requests.{new_request, ask_row}
-use Rattle.protocol.specs.Core.{Move, Rests, Makes, Lacks, start_abort_row, undo_row, undo_move, abort_move, trap_row, retire_row, no_memory, tx_begun, begin_row, commit_row, tabort_row, kind_of, is_log_due, log_used, tx_used, access_row, access_move, effect_move, word_of, instruction_move, transaction_move, tx_move, core_move, no_longer_fresh, ask_with_room, victim_for, fetch_row, move_row, core_row}
+use Rattle.protocol.specs.Core.{Move, Rests, Makes, Lacks, start_abort_row, undo_row, undo_move, abort_move, trap_row, retire_row, no_memory, tx_begun, begin_row, commit_row, tabort_row, kind_of, is_log_due, log_used, tx_used, access_row, access_move, reserved_with, conditional_move, effect_move, word_of, instruction_move, transaction_move, tx_move, core_move, no_longer_fresh, ask_with_room, victim_for, fetch_row, move_row, core_row}
 use Rattle.isolation.specs.Memory.{LiesInMemory, HartIsWithin}
 use Rattle.isolation.proofs.Within.Accesses.{access_within}
 use Rattle.isolation.proofs.Within.Harts.{RecordLies, ResultIsWithin, either, log_left, same, with_line_put, with_transaction, without_transaction, with_request, with_put}
@@ -83,7 +86,7 @@ module _ (s : Setting) (i taken : ℕ) (h : Hart) (f : HartIsWithin s h) where
   committed : (w : ℕ) (e : Effect) (z : Option Transaction) → h.tx ≡ z → ResultIsWithin s (commit_row i w e z h)
   committed w e None runs = retired no_memory w e h f
   committed w e (Some t) runs = either s (t.depth == 1) _ _
-      (retired no_memory w e _ (without_transaction s h f))
+      (retired no_memory w e _ (same s _ (without_transaction s h f) (record h { tx = None; reserved = None; lines = λ b. line_cleared (h.lines b) }) refl refl refl refl))
       (retired no_memory w e _ (with_transaction s h f (record t { depth = t.depth - 1 }) (records_of t runs)))
 
   taken_back : (z : Option Transaction) → h.tx ≡ z → ResultIsWithin s (tabort_row z h)
@@ -100,27 +103,35 @@ module _ (s : Setting) (i taken : ℕ) (h : Hart) (f : HartIsWithin s h) where
         by_due true = All-cons (RecordLies s) _ t.log lies lie
         by_due false = lie
 
-    used : (l : Line) (z : Option Transaction) → h.tx ≡ z → ResultIsWithin s (access_row i w e m l z h)
-    used l None runs = retired (byte_in l.content) w e _ (with_line_put s h f (m.addr / 32) (Some (line_used false m l)) lies)
-    used l (Some t) runs = either s (is_log_due m l && nat_le log_records (length t.log)) _ _
+    used : (kept : Option ℕ) (l : Line) (z : Option Transaction) → h.tx ≡ z → ResultIsWithin s (access_row i w e m kept l z h)
+    used kept l None runs = retired (byte_in l.content) w e _ (with_line_put s _ (same s h f (record h { reserved = kept }) refl refl refl refl) (m.addr / 32) (Some (line_used false m l)) lies)
+    used kept l (Some t) runs = either s (is_log_due m l && nat_le log_records (length t.log)) _ _
         (abort_starts LogFull t runs)
-        (let k = with_transaction s h f (tx_used m l t) (log_lies l t (records_of t runs)) in
+        (let k = same s _ (with_transaction s h f (tx_used m l t) (log_lies l t (records_of t runs))) (record h { tx = Some (tx_used m l t); reserved = kept }) refl refl refl refl in
         retired (byte_in l.content) w e _ (with_line_put s _ k (m.addr / 32) (Some (line_used true m l)) lies))
 
-    accessed : (z : Option Line) → MoveIsWithin s (access_move i w e m z h)
-    accessed None = lies
-    accessed (Some l) = by_kind (is_enough (kind_of m) (Some l))
+    accessed : (kept : Option ℕ) (z : Option Line) → MoveIsWithin s (access_move i w e m kept z h)
+    accessed kept None = lies
+    accessed kept (Some l) = by_kind (is_enough (kind_of m) (Some l))
       where
-        by_kind : (z : Bool) → MoveIsWithin s (cond z (Makes (access_row i w e m l h.tx h)) (Lacks (kind_of m) (m.addr / 32)))
-        by_kind true = used l h.tx refl
+        by_kind : (z : Bool) → MoveIsWithin s (cond z (Makes (access_row i w e m kept l h.tx h)) (Lacks (kind_of m) (m.addr / 32)))
+        by_kind true = used kept l h.tx refl
         by_kind false = lies
+
+  conditioned : (w : ℕ) (e : Effect) (m : MemoryAct) → LiesInMemory s (m.addr / 32) → MoveIsWithin s (conditional_move i w e m h)
+  conditioned w e m lies = by (is_reserved (m.addr / 32) h.reserved)
+    where
+      by : (z : Bool) → MoveIsWithin s (cond z (access_move i w (resolved true e) m None (h.lines (m.addr / 32)) h) (Makes (retire_row i no_memory w (resolved false e) (record h { reserved = None }))))
+      by true = accessed w (resolved true e) m lies None (h.lines (m.addr / 32))
+      by false = retired no_memory w (resolved false e) _ (same s h f (record h { reserved = None }) refl refl refl refl)
 
   -- Moves
 
   effected : (w : ℕ) (e : Effect) → next_of s (flat_hart h) ≡ Ok e → (a : Act) → e.act ≡ a
       → MoveIsWithin s (effect_move i taken w e a h)
   effected w e ok act.Nothing is = retired no_memory w e h f
-  effected w e ok (act.Memory m) is = accessed w e m (access_within s (flat_hart h) e m ok is).block (h.lines (m.addr / 32))
+  effected w e ok (act.Memory m) is = accessed w e m (access_within s (flat_hart h) m (ap (act_cause s (flat_hart h)) (sym is) ∙ next_ok s (flat_hart h) e ok)).block (reserved_with m m.load h.reserved) (h.lines (m.addr / 32))
+  effected w e ok (act.Conditional rd m) is = conditioned w e m (access_within s (flat_hart h) m (ap (act_cause s (flat_hart h)) (sym is) ∙ next_ok s (flat_hart h) e ok)).block
   effected w e ok (act.Begin p) is = begun w e p h.tx refl
   effected w e ok act.Commit is = committed w e h.tx refl
   effected w e ok act.Abort is = taken_back h.tx refl

@@ -10,7 +10,7 @@ use Rattle.protocol.specs.Messages.{Granted, Message, Get, Put, Done, Grant, For
 use Rattle.protocol.specs.Lines.{line_given, refuses}
 use Rattle.protocol.specs.Hart.{Hart, Transaction, Request, quiet, stamp_of, overflow_of, has_put_of}
 use Rattle.protocol.specs.Requests.{with_grant, with_ack, with_nack, have_answered, gives_way, line_granted, granted_row, refused_row, granted_so_far, answer_row}
-use Rattle.protocol.specs.HartMessages.{tx_refusing, forward_row, put_ack_row, message_row}
+use Rattle.protocol.specs.HartMessages.{tx_refusing, acknowledge_row, forward_row, put_ack_row, message_row}
 use Rattle.isolation.specs.Memory.{LiesInMemory, HartIsWithin}
 use Rattle.isolation.proofs.Within.Harts.{MessageLies, ResultIsWithin, either, log_left, same, with_line_put, with_request, with_put}
 
@@ -30,7 +30,7 @@ module _ (s : Setting) (n i : ℕ) (h : Hart) (f : HartIsWithin s h) where
       → ResultIsWithin s (forward_row i b kind r stamp h)
   forwarded b kind r stamp lies = either s (refuses (h.lines b) (overflow_of h.tx) kind) _ _
       (record { hart = same s h f _ refl (log_left (tx_refusing stamp) (λ t. refl) h.tx) refl refl; sent = lies })
-      (record { hart = with_line_put s h f b (line_given kind (h.lines b)) lies; sent = lies })
+      (record { hart = same s _ (with_line_put s h f b (line_given kind (h.lines b)) lies) (acknowledge_row i b kind r h).hart refl refl refl refl; sent = lies })
 
   put_acknowledged : (b : ℕ) → ResultIsWithin s (put_ack_row b h)
   put_acknowledged b = either s (has_put_of b h.put) _ _ (record { hart = with_put s h f None tt; sent = tt }) unchanged

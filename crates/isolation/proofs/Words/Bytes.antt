@@ -1,6 +1,6 @@
 -- The words of a block and the bytes of memory.
 use Rattle.std.proofs.Common.{◌≡◌, ◌≢◌, ◌<◌, ◌≤◌, ℕ, zero, suc, ◌+◌, ◌*◌, ◌/◌, ◌%◌, arith, cond, Option, Some, None, slice_index, refl, sym, ap, subst, ◌∙◌}
-use Rattle.std.specs.Prelude.{◌&&◌, nat_le, nat_lt, ◌-◌}
+use Rattle.std.specs.Prelude.{is_some, ◌&&◌, nat_le, nat_lt, ◌-◌}
 use Rattle.std.specs.Option.{option_map, option_and_then}
 use Rattle.std.proofs.lemmas.List.FromFn.{fill_by_all, length-map-range_with_len, get_or-map-range_with_len}
 use Rattle.words.specs.declared.entry.Width.{Width}
@@ -111,7 +111,7 @@ put_same g h m aligned e = ap (λ n. option_map (λ s. cut m.width (stored s n))
 pub write_same : (g h : ℕ → ℕ) (m : MemoryAct) → m.addr % bytes_in m.width ≡ 0 → ((a : ℕ) → a / 32 ≡ m.addr / 32 → g a ≡ h a) → (e : Effect) → e.act ≡ act.Memory m → write_by g e e.act ≡ write_by h e e.act
 write_same g h m aligned same e is =
     ap (write_by g e) is
-    ∙ ap (λ n. option_and_then (λ l. write_of l.rd (loaded l.signed m.width n)) m.load) (number_same g h m aligned same)
+    ∙ ap (λ n. cond (is_some m.load) (option_and_then (λ l. write_of l.rd (loaded l.signed m.width n)) m.load) e.write) (number_same g h m aligned same)
     ∙ sym (ap (write_by h e) is)
 
 -- and gives one entry

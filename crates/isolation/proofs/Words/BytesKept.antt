@@ -1,6 +1,6 @@
 -- The flat machine's memory and transactions have bytes, from its first state on.
 use Rattle.std.proofs.Common.{◌≡◌, ◌≢◌, ◌<◌, ℕ, ◌+◌, ◌-◌, arith, Bool, true, false, cond, Option, Some, None, List, [], ◌∷◌, refl, sym, ap, subst, ◌∙◌}
-use Rattle.std.specs.Prelude.{◌==◌, ◌&&◌, nat_le, nat_lt}
+use Rattle.std.specs.Prelude.{is_some, ◌==◌, ◌&&◌, nat_le, nat_lt}
 use Rattle.std.specs.Option.{unwrap_or}
 use Rattle.words.specs.declared.entry.Entry.{Entry}
 use Rattle.words.specs.declared.entry.Entry.TheVariants.{Retire, Abort, Trap, Refuse, Spill}
@@ -17,7 +17,7 @@ use Rattle.flat.specs.Steps.{Carries}
 use Rattle.flat.proofs.Covered.{act_covered}
 use Rattle.flat.proofs.Entries.{retired_by, aborted_by, hart_retired, hart_back, others_stay}
 use Rattle.flat.proofs.Maps.{one_number, two_numbers, put_there}
-use Rattle.flat.proofs.Next.{next_ok}
+use Rattle.flat.proofs.Next.{done_ok}
 use Rattle.table.specs.Program.{AreBytes}
 use Rattle.isolation.proofs.Machine.Invariant.{IsByte, HasBytes}
 use Rattle.isolation.proofs.Words.Laying.{WritesBytes, WritesWithin, seen_small}
@@ -96,7 +96,7 @@ bytes_kept f g (Retire i pc w x l s) k old =
     (λ a. subst (λ n. n < 256) (sym (ap (λ (m : ℕ → ℕ). m a) mem)) (mem_small (flat_view f i) (f.hart i).tx f.mem r.0.act old.mem (old.writes i) a))
     (others_stay f g (Retire i pc w x l s) k)
     (subst WritesBytes (sym tx) (tx_bytes (flat_view f i) (f.hart i) (f.hart i).tx r.0.act (old.writes i)))
-    (subst WritesWithin (sym tx) (act_covered f.setting (f.hart i) (flat_view f i) (f.hart i) (f.hart i).tx r.0.act (next_ok f.setting (f.hart i) r.0 r.1) (old.within i)))
+    (subst WritesWithin (sym tx) (act_covered f.setting (f.hart i) (flat_view f i) (f.hart i) (f.hart i).tx r.0.act (done_ok f.setting (f.hart i) (is_some s) r.0 r.1) (old.within i)))
 bytes_kept f g (Abort i c) k old =
     let r = aborted_by f g i c k in
     let tx : (g.hart i).tx ≡ None = ap (λ (h : FlatHart). h.tx) (hart_back f g i c r.0 r.2.after) in

@@ -5,6 +5,7 @@ use Rattle.std.specs.Option.{ok_or, option_map, unwrap_or}
 use Rattle.words.specs.declared.cause.Cause.{Cause}
 use Rattle.words.specs.declared.cause.Cause.TheVariants.{FetchOutside, Breakpoint, CallInTransaction, TooDeep, OutsideTransaction, BadCall}
 use Rattle.words.specs.Bytes.{bytes_in}
+use Rattle.table.specs.Effects.{resolved}
 use Rattle.table.specs.Table.{effect_of}
 use Rattle.table.specs.Program.{word_at}
 use Rattle.table.specs.declared.effect.Effect.{Effect}
@@ -12,9 +13,9 @@ use Rattle.table.specs.declared.effect.MemoryAct.{MemoryAct}
 use Rattle.table.specs.declared.effect.Act.{Act}
 use Rattle.table.specs.declared.effect.Act.TheVariants as act
 use Rattle.flat.specs.State.{Setting, FlatHart, Tx as FlatTx}
-use Rattle.flat.specs.Causes.{next_of, effect_or_cause, act_cause, depth_of, is_known_call, unless, ◌>>=◌}
+use Rattle.flat.specs.Causes.{next_of, done_next, effect_or_cause, act_cause, depth_of, is_known_call, unless, ◌>>=◌}
 use Rattle.flat.specs.Reasons.{Past}
-use Rattle.flat.proofs.Next.{bind_ok, unless_ok, next_ok, memory_aligned}
+use Rattle.flat.proofs.Next.{bind_ok, unless_ok, next_ok, done_ok, memory_aligned}
 use Rattle.protocol.specs.Hart.{Hart, Transaction, flat_hart, flat_tx}
 use Rattle.isolation.proofs.Machine.Invariant.{HartIs, TxIs}
 
@@ -28,6 +29,7 @@ some_none (Some x) = refl
 cause_same : (s : Setting) (h k : FlatHart) (does : Act) → h.regs ≡ k.regs → depth_of h.tx ≡ depth_of k.tx → is_some h.tx ≡ is_some k.tx → act_cause s h does ≡ act_cause s k does
 cause_same s h k act.Nothing regs depth place = refl
 cause_same s h k (act.Memory m) regs depth place = refl
+cause_same s h k (act.Conditional rd m) regs depth place = refl
 cause_same s h k (act.Begin p) regs depth place = λ i. cond (depth i == 255) (Some TooDeep) None
 cause_same s h k act.Commit regs depth place =
     let none : is_none h.tx ≡ is_none k.tx = some_none h.tx ∙ ap not place ∙ sym (some_none k.tx) in
@@ -72,6 +74,19 @@ place_is (Some t) (Some u) same = refl
 pub next_is : (s : Setting) (h : Hart) (f : FlatHart) (p : Past) → HartIs s h f p → next_of s f ≡ next_of s (flat_hart h)
 next_is s h f p is = next_same s f (flat_hart h) is.regs is.pc (depth_is h.tx f.tx is.tx) (place_is h.tx f.tx is.tx)
 
+-- What a hart has done
+
+-- what it does next, where it is known whether a conditional store succeeds
+pub next_done : (s : Setting) (h : FlatHart) (e : Effect) (b : Bool) → next_of s h ≡ Ok e → done_next b s h ≡ Ok (resolved b e)
+next_done s h e b k = ap (λ z. z >>= (λ d. Ok (resolved b d))) k
+
+-- and the other way round
+pub done_from : (s : Setting) (h : FlatHart) (d : Effect) (b : Bool) → done_next b s h ≡ Ok d → (e : Effect) × (next_of s h ≡ Ok e) × (resolved b e ≡ d)
+done_from s h d b k =
+    let a = bind_ok (next_of s h) (λ e. Ok (resolved b e)) d k in
+    let is : resolved b a.0 ≡ d = cc in
+    (a.0, a.1, is)
+
 -- What is known of what a hart does next
 
 word_ok : {E : Type 0} (o : Option ℕ) (c : E) (w : ℕ) → ok_or o c ≡ Ok w → o ≡ Some w
@@ -94,8 +109,8 @@ act_ok : (s : Setting) (h : FlatHart) (e : Effect) (does : Act) → next_of s h 
 act_ok s h e does ok is = ap (act_cause s h) (sym is) ∙ next_ok s h e ok
 
 -- an access is aligned
-pub aligned_next : (s : Setting) (h : FlatHart) (e : Effect) (m : MemoryAct) → next_of s h ≡ Ok e → e.act ≡ act.Memory m → m.addr % bytes_in m.width ≡ 0
-aligned_next s h e m ok is = memory_aligned s m (act_ok s h e (act.Memory m) ok is)
+pub aligned_done : (s : Setting) (h : FlatHart) (e : Effect) (b : Bool) (m : MemoryAct) → done_next b s h ≡ Ok e → e.act ≡ act.Memory m → m.addr % bytes_in m.width ≡ 0
+aligned_done s h e b m ok is = memory_aligned s m (ap (act_cause s h) (sym is) ∙ done_ok s h b e ok)
 
 none_due : (b : Bool) (c : Cause) → cond b (Some c) None ≡ None → b ≡ false
 none_due true c e = cc

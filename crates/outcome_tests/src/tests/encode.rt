@@ -89,6 +89,14 @@ pub(crate) fn amo(number: u32, rd: u32, rs2: u32, rs1: u32) -> u32 {
     r_word(0x2f, 2, number << 2, rd, rs1, rs2)
 }
 
+pub(crate) fn load_reserved(rd: u32, rs1: u32) -> u32 {
+    r_word(0x2f, 2, 8, rd, rs1, ZERO)
+}
+
+pub(crate) fn store_conditional(rd: u32, rs2: u32, rs1: u32) -> u32 {
+    r_word(0x2f, 2, 12, rd, rs1, rs2)
+}
+
 /// A begin, after whose abort the hart goes on at this offset.
 pub(crate) fn tbegin(offset: u32) -> u32 {
     b_word(0x0b, 0, 0, 0, offset)

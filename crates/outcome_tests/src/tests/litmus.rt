@@ -93,13 +93,42 @@ const STRONG_ISOLATION: [u32; 14] = [
     0x0000_0073, // ecall
 ];
 
+#[rattlefmt::skip]
+const STORE_BETWEEN: [u32; 13] = [
+    0x0000_2437, // lui s0, 0x2
+    0x05d0_0893, // li a7, 93
+    0x0205_1063, // bnez a0, 32
+    0x0050_0393, // li t2, 5
+    0x1004_22af, // lr.w t0, (s0)
+    0x1874_232f, // sc.w t1, t2, (s0)
+    0x00a0_0393, // li t2, 10
+    0x0272_8533, // mul a0, t0, t2
+    0x0065_0533, // add a0, a0, t1
+    0x0000_0073, // ecall
+    0x00a4_2023, // sw a0, 0(s0)
+    0x0000_0513, // li a0, 0
+    0x0000_0073, // ecall
+];
+
+#[rattlefmt::skip]
+const CONDITIONAL_UPDATES: [u32; 6] = [
+    0x0000_2437, // lui s0, 0x2
+    0x1004_22af, // lr.w t0, (s0)
+    0x0012_8293, // addi t0, t0, 1
+    0x1854_252f, // sc.w a0, t0, (s0)
+    0x05d0_0893, // li a7, 93
+    0x0000_0073, // ecall
+];
+
 /// The programs, and how many states all interleavings lead to: these were counted by another program.
-static PROGRAMS: [(&[u32], usize); 5] = [
+static PROGRAMS: [(&[u32], usize); 7] = [
     (&STORE_BUFFERING, 169),
     (&MESSAGE_PASSING, 180),
     (&LOAD_BUFFERING, 88),
     (&TWO_LOADS, 140),
     (&STRONG_ISOLATION, 84),
+    (&STORE_BETWEEN, 145),
+    (&CONDITIONAL_UPDATES, 139),
 ];
 
 #[test]

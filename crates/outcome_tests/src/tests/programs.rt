@@ -1,10 +1,10 @@
-//! Random programs: loads, stores and atomic operations on a few shared words, branches and jumps, transactions, and calls. Most words fit where they
+//! Random programs: loads, stores, LR, SC and atomic operations on a few shared words, branches and jumps, transactions, and calls. Most words fit where they
 //! stand; a few don't, so that harts are also stopped.
 
 use super::draws::Draws;
 use super::encode::{
     A0, A7, EBREAK, ECALL, T0, T1, T2, TABORT, TCOMMIT, ZERO, addi, amo, bnez, branch, jal, jalr,
-    li, load, lui, op, store, tbegin,
+    li, load, load_reserved, lui, op, store, store_conditional, tbegin,
 };
 use std::alloc::{AllocError, Global};
 
@@ -46,11 +46,11 @@ fn base(draws: &mut Draws) -> u32 {
     }
 }
 
-/// A load, a store or an atomic operation.
+/// A load, a store, LR, SC or an atomic operation.
 fn access(draws: &mut Draws) -> u32 {
     let register = draws.one_of(&REGS);
     let base = base(draws);
-    match draws.below(8) {
+    match draws.below(11) {
         0 | 1 | 2 => {
             let number = draws.one_of(&[0, 1, 2, 2, 2, 4, 5]);
             load(number, register, place(draws, width(number)), base)
@@ -59,6 +59,8 @@ fn access(draws: &mut Draws) -> u32 {
             let number = draws.one_of(&[0, 1, 2, 2, 2]);
             store(number, register, place(draws, width(number)), base)
         }
+        7 | 8 => load_reserved(register, base),
+        9 => store_conditional(register, draws.one_of(&REGS), base),
         _ => amo(draws.one_of(&ATOMICS), register, draws.one_of(&REGS), base),
     }
 }

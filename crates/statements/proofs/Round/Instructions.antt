@@ -1,5 +1,5 @@
 -- The operands of each form are read back as the instruction that they spell.
-use Rattle.std.proofs.Common.{◌≡◌, ℕ, ◌+◌, ◌%◌, ◌^◌, ◌<◌, false, List, [], ◌∷◌, ◌++◌, Ok, refl, arith}
+use Rattle.std.proofs.Common.{◌≡◌, ℕ, ◌+◌, ◌%◌, ◌^◌, ◌<◌, List, [], ◌∷◌, ◌++◌, Ok, refl, arith}
 use Rattle.std.specs.Prelude.{decimal}
 use Rattle.table.specs.declared.instr.Instr.{Instr}
 use Rattle.table.specs.declared.instr.Instr.TheVariants as instr
@@ -12,6 +12,7 @@ use Rattle.table.specs.declared.instr.AluOp.{AluOp}
 use Rattle.table.specs.declared.instr.AmoOp.{AmoOp}
 use Rattle.disassembler.specs.Mnemonics.{register as register_text}
 use Rattle.disassembler.specs.Canonical.{signed, upper as upper_text}
+use Rattle.statements.specs.declared.form.Order.{Order}
 use Rattle.statements.specs.Operands.{Find, register, immediate, upper, based, indirect, offset}
 use Rattle.statements.specs.Instructions.{two, three, last, op_of, op_imm_of, shift_imm_of, load_of, store_of, amo_of, load_reserved_of, store_conditional_of, upper_of, branch_of, jal_of, jalr_of, tbegin_of}
 use Rattle.statements.proofs.Round.Numbers.{decimal_number, signed_number}
@@ -75,26 +76,26 @@ jalr_read d s n hd hs small within =
     bound (two (pair a b)) _ (a, b) _ (two_read a b (register_token d hd) (based_token n s small hs))
     (bound (register a) _ d _ (register_read d hd) (bound (based b) _ (record { imm = n; base = s }) _ (based_read n s small within hs) refl))
 
-pub amo_read : (op : AmoOp) (d s t : ℕ) → d < 32 → s < 32 → t < 32
-    → amo_of op (triple (register_text d) (register_text t) (in_parentheses [] (register_text s))) ≡ Ok (instr.Amo op d s t false false)
+pub amo_read : (op : AmoOp) (order : Order) (d s t : ℕ) → d < 32 → s < 32 → t < 32
+    → amo_of op order (triple (register_text d) (register_text t) (in_parentheses [] (register_text s))) ≡ Ok (instr.Amo op d s t order.aq order.rl)
 unfolding amo_of
-amo_read op d s t hd hs ht =
+amo_read op order d s t hd hs ht =
     let a = register_text d in let b = register_text t in let c = in_parentheses [] (register_text s) in
     bound (three (triple a b c)) _ (record { first = a; second = b; third = c }) _ (three_read a b c (register_token d hd) (register_token t ht) (indirect_token s hs))
     (bound (register a) _ d _ (register_read d hd) (bound (register b) _ t _ (register_read t ht) (bound (indirect c) _ s _ (indirect_read s hs) refl)))
 
-pub load_reserved_read : (d s : ℕ) → d < 32 → s < 32
-    → load_reserved_of (pair (register_text d) (in_parentheses [] (register_text s))) ≡ Ok (instr.LoadReserved d s false false)
+pub load_reserved_read : (order : Order) (d s : ℕ) → d < 32 → s < 32
+    → load_reserved_of order (pair (register_text d) (in_parentheses [] (register_text s))) ≡ Ok (instr.LoadReserved d s order.aq order.rl)
 unfolding load_reserved_of
-load_reserved_read d s hd hs =
+load_reserved_read order d s hd hs =
     let a = register_text d in let b = in_parentheses [] (register_text s) in
     bound (two (pair a b)) _ (a, b) _ (two_read a b (register_token d hd) (indirect_token s hs))
     (bound (register a) _ d _ (register_read d hd) (bound (indirect b) _ s _ (indirect_read s hs) refl))
 
-pub store_conditional_read : (d s t : ℕ) → d < 32 → s < 32 → t < 32
-    → store_conditional_of (triple (register_text d) (register_text t) (in_parentheses [] (register_text s))) ≡ Ok (instr.StoreConditional d s t false false)
+pub store_conditional_read : (order : Order) (d s t : ℕ) → d < 32 → s < 32 → t < 32
+    → store_conditional_of order (triple (register_text d) (register_text t) (in_parentheses [] (register_text s))) ≡ Ok (instr.StoreConditional d s t order.aq order.rl)
 unfolding store_conditional_of
-store_conditional_read d s t hd hs ht =
+store_conditional_read order d s t hd hs ht =
     let a = register_text d in let b = register_text t in let c = in_parentheses [] (register_text s) in
     bound (three (triple a b c)) _ (record { first = a; second = b; third = c }) _ (three_read a b c (register_token d hd) (register_token t ht) (indirect_token s hs))
     (bound (register a) _ d _ (register_read d hd) (bound (register b) _ t _ (register_read t ht) (bound (indirect c) _ s _ (indirect_read s hs) refl)))

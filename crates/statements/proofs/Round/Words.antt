@@ -19,7 +19,7 @@ use Rattle.statements.specs.Operands.{checked, guarded, Find, lacks_label, named
 use Rattle.statements.specs.Places.{Labels, find}
 use Rattle.statements.proofs.Cuts.{last_part}
 use Rattle.table.specs.Table.{row_named}
-use Rattle.statements.specs.Forms.{form_named}
+use Rattle.statements.specs.Forms.{cut_order, form_named}
 use Rattle.statements.specs.Statements.{Made, datum, read_data, operands, all_found, at_multiple, data_of, directive_of}
 use Rattle.statements.specs.Statements.Made.{One, Numbers}
 use Rattle.statements.specs.Bytes.{AreBytesOf}
@@ -51,7 +51,7 @@ word_read n at find t token number whole =
     ∙ ap (at_multiple width.Word at) read ∙ ap (λ b. checked b Alignment (Numbers width.Word (n ∷ []))) (eq-eqb (at.offset % 4) 0 whole)
 
 word_line : (w : ℕ) (at : Place) (labels : Option Labels) → w < 2 ^ 32 → at.offset % 4 ≡ 0 → line_of at labels (plain w) ≡ Ok (Numbers width.Word (w ∷ []))
-unfolding plain form_named row_named directive_of
+unfolding plain cut_order form_named row_named directive_of
 word_line w at labels small whole =
     let digits = codes "0x" ++ hexadecimal w in
     let token = hexadecimal_token w in

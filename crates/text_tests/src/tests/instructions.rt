@@ -1,7 +1,7 @@
 mod tables;
 
 use crate::tests::claims::{equal, equal_at, equal_items, equal_text, holds_at};
-use assembler::assemble;
+use assembler::{AsmFault, assemble};
 use disassembler::text;
 use std::alloc::{AllocError, Global};
 use std::fmt::Write;
@@ -13,8 +13,8 @@ use table::{
     register, row_named, write_register, write_to,
 };
 use tables::{
-    ATOMICS, BRANCHES, ILLEGAL, JUMPS, LINES, LOADED, LOADS, MISALIGNED, SPELLED, STORES, VALUES,
-    WORDS, WRITES,
+    ATOMICS, BRANCHES, ILLEGAL, JUMPS, LINES, LOADED, LOADS, MISALIGNED, SPELLED, STORES, UNKNOWN,
+    VALUES, WORDS, WRITES,
 };
 use words::{Addr, Cause, Reg, Regs, Width};
 
@@ -206,6 +206,7 @@ fn operates(op: AmoOp, b: u32) -> Act {
         load: Some(Load {
             rd: Reg::new(7),
             signed: false,
+            reserves: false,
         }),
         store: Some(Store::Atomic(op, b)),
     })
@@ -290,11 +291,46 @@ fn order_bits_are_operands_of_lr_and_sc(rt: HostRuntime) {
     check_instr(&rt, 0x1eb2_a52f, &conditional(true, true));
 }
 
+/// Asserts what a word does once it is known whether a conditional store succeeds.
+fn check_resolved(rt: &impl Abort, word: u32, succeeds: bool, want: Result<Effect, Cause>) {
+    let regs = with_values(BASE_AND_VALUE.0, BASE_AND_VALUE.1);
+    let done = match effect_at(word, Addr::new(0x1000), &regs) {
+        Ok(effect) => Ok(effect.resolved(succeeds)),
+        Err(cause) => Err(cause),
+    };
+    equal_at(rt, &done, &want, &(word, succeeds));
+}
+
+/// What LR of a0 does: it loads a word and reserves its block.
+fn reserves() -> Act {
+    let load = Load {
+        rd: Reg::new(10),
+        signed: false,
+        reserves: true,
+    };
+    accesses(0x2000, Width::Word, Some(load), None)
+}
+
 #[test]
-fn no_hart_does_lr_and_sc(rt: HostRuntime) {
-    for word in [0x1002_a52f, 0x1602_a52f, 0x18b2_a52f, 0x1eb2_a52f] {
-        check_effect(&rt, word, BASE_AND_VALUE, Err(Cause::Illegal));
+fn lr_loads_and_reserves(rt: HostRuntime) {
+    for word in [0x1002_a52f, 0x1402_a52f, 0x1202_a52f, 0x1602_a52f] {
+        check_act(&rt, word, reserves());
+        check_resolved(&rt, word, false, goes_on(None, reserves()));
     }
+}
+
+#[test]
+fn sc_stores_and_gives_0_or_gives_1(rt: HostRuntime) {
+    for word in [0x1862_a52f, 0x1c62_a52f, 0x1a62_a52f, 0x1e62_a52f] {
+        let stores = accesses(0x2000, Width::Word, None, Some(Store::Value(0x8765_4321)));
+        check_resolved(&rt, word, true, goes_on(Some((10, 0)), stores));
+        check_resolved(&rt, word, false, goes_on(Some((10, 1)), Act::Nothing));
+    }
+}
+
+#[test]
+fn sc_to_x0_gives_nothing(rt: HostRuntime) {
+    check_resolved(&rt, 0x1862_a02f, false, goes_on(None, Act::Nothing));
 }
 
 /// Asserts that a word has this text, and that a source with the text has the word.
@@ -311,9 +347,18 @@ fn check_spelled(rt: &(impl Abort + AllocGlobal), word: u32, spelled: &str) -> R
 }
 
 #[test]
-fn lr_and_sc_are_spelled_as_assemblers_do(rt: HostRuntime) -> Result<(), Fail> {
+fn atomic_words_are_spelled_as_assemblers_do(rt: HostRuntime) -> Result<(), Fail> {
     for &(word, spelled) in &SPELLED {
         check_spelled(&rt, word, spelled)?;
+    }
+    Ok(())
+}
+
+#[test]
+fn other_suffixes_are_unknown(rt: HostRuntime) -> Result<(), Fail> {
+    for line in UNKNOWN {
+        let fault = assemble(rt.alloc(), line).err().ok_or("a fault")?;
+        equal_at(&rt, &fault.fault, &AsmFault::Unknown, &line);
     }
     Ok(())
 }
@@ -363,6 +408,7 @@ fn loads_read_behind_a_register(rt: HostRuntime) {
         let load = Load {
             rd: Reg::new(7),
             signed,
+            reserves: false,
         };
         check_act(&rt, word, accesses(0x1ffe, width, Some(load), None));
     }

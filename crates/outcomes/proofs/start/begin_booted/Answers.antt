@@ -3,7 +3,8 @@ use Rattle.flat.specs.State.{Setting}
 use Rattle.flat.specs.Start.{first_state}
 use Rattle.loader.proofs.Segments.{all_end_by}
 use Rattle.outcomes.specs.declared.breadth_first.Outcomes.{Outcomes}
-use Rattle.outcomes.specs.Searches.{setting_at, flat_at}
+use Rattle.outcomes.specs.Searches.{setting_at, flat_at, place_at, booted_place}
+use Rattle.outcomes.proofs.Led.{one_place}
 use Rattle.outcomes.proofs.Found.{only_one, begins}
 use Rattle.outcomes.proofs.start.begin_booted.Goals as goal
 
@@ -33,5 +34,7 @@ returns-clause-begun c =
       search = begins o first only c.in_ok-first.ensures.within c.new.ensures.items c.requires.count;
       state = first;
       only = only;
-      is = flat ∙ (λ k. first_state (record { segments = c.args.program.segments; size = long k; count = c.args.count }) (c.entry.ensures.value k));
+      is =
+          one_place (place_at o first) (booted_place c.args.program.segments c.args.program.entry c.args.count c.args.size)
+          (flat ∙ (λ k. first_state (record { segments = c.args.program.segments; size = long k; count = c.args.count }) (c.entry.ensures.value k))) c.in_ok-first.ensures.reserved;
     }

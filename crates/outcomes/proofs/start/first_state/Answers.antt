@@ -1,5 +1,5 @@
 use Rattle.std.proofs.Common.{◌≡◌, ◌≤◌, ◌<◌, ℕ, arith, length, refl, sym, subst, ◌∙◌}
-use Rattle.outcomes.proofs.Begun.{AreBegun, begun_more, begun_within, begun_flat}
+use Rattle.outcomes.proofs.Begun.{AreBegun, begun_more, begun_within, begun_reserved, begun_flat}
 use Rattle.outcomes.proofs.start.first_state.Goals as goal
 
 pub loop-i-preserved : goal.loop-i-preserved
@@ -19,4 +19,10 @@ pub returns-clause-flat : goal.returns-clause-flat
 returns-clause-flat c =
     let end : c.loop-i.i ≡ c.args.count = omega (arith, c.loop-i-test.false, c.loop-i.auto.i-end) in
     begun_flat c.args.size c.args.entry c.args.count c.loop-i.pool c.loop-i.state c.requires.count
+    (subst (λ n. AreBegun c.args.size c.args.entry c.args.count c.loop-i.pool c.loop-i.state n) end c.loop-i.invariant)
+
+pub returns-clause-reserved : goal.returns-clause-reserved
+returns-clause-reserved c =
+    let end : c.loop-i.i ≡ c.args.count = omega (arith, c.loop-i-test.false, c.loop-i.auto.i-end) in
+    begun_reserved c.args.size c.args.entry c.args.count c.loop-i.pool c.loop-i.state c.requires.count
     (subst (λ n. AreBegun c.args.size c.args.entry c.args.count c.loop-i.pool c.loop-i.state n) end c.loop-i.invariant)

@@ -5,7 +5,7 @@ use Rattle.flat.specs.State.{Flat, Setting}
 use Rattle.render.specs.Reports.{AllReadable}
 use Rattle.outcomes.specs.Standings.{setting_of}
 use Rattle.command_line.specs.declared.request.Word.{Word}
-use Rattle.requests.specs.Ends.{search_start}
+use Rattle.requests.specs.Ends.{search_start, search_place}
 use Rattle.requests.specs.Runs.{addresses}
 use Rattle.requests.specs.Unreadable.{IsUnreadable}
 use Rattle.requests.proofs.Starting.{booted-no_fault}
@@ -34,7 +34,7 @@ returns-in_err-addrs g c =
     let begun = c.in_ok-outcomes.ensures.begun in
     let boots : boot_fault program.segments asked.harts asked.memory ≡ None = booted-no_fault (boot_fault program.segments asked.harts asked.memory) c.begin.result o c.in_ok-outcomes.was c.begin.ensures.refused in
     let x = first_there o begun.search in
-    let here : setting_of c.first.result.scene ≡ (search_start asked program).setting = ap (λ (f : Flat). f.setting) (c.first.ensures x.0 x.1) ∙ begun-setting (search_start asked program) o begun in
+    let here : setting_of c.first.result.scene ≡ (search_start asked program).setting = ap (λ (f : Flat). f.setting) (c.first.ensures x.0 x.1) ∙ begun-setting (search_place asked program) o begun in
     rw (p.1, p.2) (unreadable-unsearched asked c.args.file.now program c.in_err-addrs.field-0.0 c.in_ok-program.ensures boots
     (subst (λ (s : Setting). IsUnreadable s asked.words.items c.in_err-addrs.field-0.0) here
     (subst (λ (ws : List Word). IsUnreadable (setting_of c.first.result.scene) ws c.in_err-addrs.field-0.0) c.deref.ensures.value c.in_err-addrs.ensures.refused)))
@@ -54,8 +54,8 @@ returns g c =
     let begun = c.in_ok-outcomes.ensures.begun in
     let boots : boot_fault program.segments asked.harts asked.memory ≡ None = booted-no_fault (boot_fault program.segments asked.harts asked.memory) c.begin.result o c.in_ok-outcomes.was c.begin.ensures.refused in
     let x = first_there o begun.search in
-    let here : setting_of c.first.result.scene ≡ first.setting = ap (λ (f : Flat). f.setting) (c.first.ensures x.0 x.1) ∙ begun-setting first o begun in
-    let found = c.in_ok-find_all.ensures first begun in
+    let here : setting_of c.first.result.scene ≡ first.setting = ap (λ (f : Flat). f.setting) (c.first.ensures x.0 x.1) ∙ begun-setting (search_place asked program) o begun in
+    let found = c.in_ok-find_all.ensures (search_place asked program) begun in
     let same = c.in_ok-addrs.ensures.same ∙ ap addresses c.deref.ensures.value in
     let readable : AllReadable first.setting (addresses asked.words.items) = subst (λ (s : Setting). AllReadable s (addresses asked.words.items)) here
     (subst (λ (ws : List Word). AllReadable (setting_of c.first.result.scene) (addresses ws)) c.deref.ensures.value c.in_ok-addrs.ensures.all) in (
@@ -65,5 +65,5 @@ returns g c =
         found = found;
       },
       same,
-      subst (λ (s : Setting). AllReadable s c.in_ok-addrs.addrs.items) (sym (found-setting first asked.states n found)) (subst (AllReadable first.setting) (sym same) readable),
+      subst (λ (s : Setting). AllReadable s c.in_ok-addrs.addrs.items) (sym (found-setting (search_place asked program) asked.states n found)) (subst (AllReadable first.setting) (sym same) readable),
     )

@@ -630,9 +630,8 @@ sc.w 31 2 8\n\
 sc.w 0 27 31\n\
 ";
 
-/// Words of LR and SC, and LLVM's text of each (llvm-mc -triple=riscv32 -mattr=+m,+a, LLVM 14.0.6). Those with aq or rl have no text but
-/// their digits; LLVM's ends the name with .aq, .rl or .aqrl.
-pub static SPELLED: [(u32, &str); 14] = [
+/// Words of atomic operations, LR and SC, and LLVM's text of each (llvm-mc -triple=riscv32 -mattr=+m,+a, LLVM 14.0.6).
+pub static SPELLED: [(u32, &str); 26] = [
     (0x1002_a52f, "lr.w a0, (t0)"),
     (0x1001_2faf, "lr.w t6, (sp)"),
     (0x100d_a02f, "lr.w zero, (s11)"),
@@ -641,12 +640,40 @@ pub static SPELLED: [(u32, &str); 14] = [
     (0x1881_2faf, "sc.w t6, s0, (sp)"),
     (0x19fd_a02f, "sc.w zero, t6, (s11)"),
     (0x1808_a0af, "sc.w ra, zero, (a7)"),
-    (0x1402_a52f, ".word 0x1402a52f"), // lr.w.aq a0, (t0)
-    (0x1202_a52f, ".word 0x1202a52f"), // lr.w.rl a0, (t0)
-    (0x1602_a52f, ".word 0x1602a52f"), // lr.w.aqrl a0, (t0)
-    (0x1cb2_a52f, ".word 0x1cb2a52f"), // sc.w.aq a0, a1, (t0)
-    (0x1ab2_a52f, ".word 0x1ab2a52f"), // sc.w.rl a0, a1, (t0)
-    (0x1eb2_a52f, ".word 0x1eb2a52f"), // sc.w.aqrl a0, a1, (t0)
+    (0x1402_a52f, "lr.w.aq a0, (t0)"),
+    (0x1202_a52f, "lr.w.rl a0, (t0)"),
+    (0x1602_a52f, "lr.w.aqrl a0, (t0)"),
+    (0x1cb2_a52f, "sc.w.aq a0, a1, (t0)"),
+    (0x1ab2_a52f, "sc.w.rl a0, a1, (t0)"),
+    (0x1eb2_a52f, "sc.w.aqrl a0, a1, (t0)"),
+    (0x00b2_a52f, "amoadd.w a0, a1, (t0)"),
+    (0x04b2_a52f, "amoadd.w.aq a0, a1, (t0)"),
+    (0x02b2_a52f, "amoadd.w.rl a0, a1, (t0)"),
+    (0x06b2_a52f, "amoadd.w.aqrl a0, a1, (t0)"),
+    (0x0e81_2faf, "amoswap.w.aqrl t6, s0, (sp)"),
+    (0x23fd_a02f, "amoxor.w.rl zero, t6, (s11)"),
+    (0x4408_a0af, "amoor.w.aq ra, zero, (a7)"),
+    (0x6691_a42f, "amoand.w.aqrl s0, s1, (gp)"),
+    (0x85c2_28af, "amomin.w.aq a7, t3, (tp)"),
+    (0xa3a3_a92f, "amomax.w.rl s2, s10, (t2)"),
+    (0xc600_202f, "amominu.w.aqrl zero, zero, (zero)"),
+    (0xe5b0_2d2f, "amomaxu.w.aq s10, s11, (zero)"),
+];
+
+/// Lines whose mnemonics LLVM refuses too: there is no such suffix, or the instruction has none.
+pub static UNKNOWN: [&str; 12] = [
+    "amoadd.w.rlaq a0, a1, (t0)",
+    "amoadd.w.aq.rl a0, a1, (t0)",
+    "amoadd.aq a0, a1, (t0)",
+    "lr.w. a0, (t0)",
+    "lr.w.aq.aq a0, (t0)",
+    "sc.w.aqr a0, a1, (t0)",
+    "sc.aqrl a0, a1, (t0)",
+    "lw.aq a0, 0(t0)",
+    "sw.rl a0, 0(t0)",
+    "add.aqrl a0, a1, a2",
+    "fence.aq",
+    "nop.rl",
 ];
 
 /// Words that are no instruction.

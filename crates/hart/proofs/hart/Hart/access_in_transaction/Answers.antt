@@ -17,7 +17,7 @@ returns-then-not-log_line-clause-row g c = λ output.
     let h = shown_hart g.row.SETS output a.self.now in
     let t = running a.self.now.tx in
     let same : c.log_line.new.self ≡ a.self.now = c.log_line.ensures.full c.if-not-log_line.true in
-    access-full a.self.now.index a.word a.effect.now a.m.now (shown_line a.line.now) t h (c.log_line.ensures.room ∙ ap not c.if-not-log_line.true)
+    access-full a.self.now.index a.word a.effect.now a.m.now a.kept (shown_line a.line.now) t h (c.log_line.ensures.room ∙ ap not c.if-not-log_line.true)
     ∙ ap (λ (p : Parts). start_abort_row LogFull t (shown_hart g.row.SETS output p)) (sym same)
     ∙ c.start_abort.ensures.row output t (ap (λ (p : Parts). shown_tx p.tx) same ∙ runs a.self.now.tx c.requires.running)
 
@@ -29,9 +29,9 @@ returns-clause-row g c = λ output.
     let t = running a.self.now.tx in
     let h = shown_hart g.row.SETS output a.self.now in
     let at = λ (k : Hart). with_line (a.m.now.addr / 32) (Some (line_used true a.m.now l)) k in
-    access-fits a.self.now.index a.word a.effect.now a.m.now l t h (c.log_line.ensures.room ∙ ap not c.if-not-log_line.false)
-    ∙ ap (λ (i : ℕ). retire_row i view a.word a.effect.now (at (record h { tx = Some (tx_used a.m.now l t) }))) (sym c.log_line.ensures.stays.index)
-    ∙ ap (λ k. retire_row c.log_line.new.self.index view a.word a.effect.now (at k)) (sym (c.log_line.ensures.ok c.if-not-log_line.false output))
+    access-fits a.self.now.index a.word a.effect.now a.m.now a.kept l t h (c.log_line.ensures.room ∙ ap not c.if-not-log_line.false)
+    ∙ ap (λ (i : ℕ). retire_row i view a.word a.effect.now (at (record h { tx = Some (tx_used a.m.now l t); reserved = a.kept }))) (sym c.log_line.ensures.stays.index)
+    ∙ ap (λ k. retire_row c.log_line.new.self.index view a.word a.effect.now (at (record k { reserved = a.kept }))) (sym (c.log_line.ensures.ok c.if-not-log_line.false output))
     ∙ c.access_logged.ensures.row output
 
 pub returns-then-not-log_line-clause-ways : goal.returns-then-not-log_line-clause-ways

@@ -14,14 +14,14 @@ returns-then-commit-clause-row g c = λ output.
     let old = c.self.inside in
     let new = c.commit.new.tx in
     let h = shown_hart S output (parts old) in
-    let k = shown_hart S output (record (parts old) { tx = new; cache = c.clear_marks.new.self }) in
+    let k = shown_hart S output (record (parts old) { tx = new; cache = c.clear_marks.new.self; reserved = None }) in
     let done = c.commit.ensures in
     rw (← c.self.view_is) (commits-outer old.index c.args.word c.args.effect.now (shown_tx old.tx) h k
     (λ e. let no = (done.outside e).1 in let yes = c.if-commit.true in cc)
     (λ t e.
     let last : (t.depth == 1) ≡ true = sym (done.inside t e).0 ∙ c.if-commit.true in
     let none : shown_tx new ≡ None = (done.inside t e).1 ∙ ap (λ b. cond b None (Some (record t { depth = t.depth - 1 }))) last in
-    (last, λ j. record h { tx = none j; kept_stamp = done.stamp j; lines = lines-cleared S old.cache c.clear_marks.new.self c.clear_marks.ensures.lines j }))
+    (last, λ j. record h { tx = none j; kept_stamp = done.stamp j; reserved = None; lines = lines-cleared S old.cache c.clear_marks.new.self c.clear_marks.ensures.lines j }))
     ∙ c.retire.ensures.row output)
 
 pub returns-clause-row : goal.returns-clause-row

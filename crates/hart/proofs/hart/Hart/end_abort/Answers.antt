@@ -1,4 +1,4 @@
-use Rattle.std.proofs.Common.{◌≡◌, ◌∙◌, Some, false, sym, ap, subst}
+use Rattle.std.proofs.Common.{◌≡◌, ◌∙◌, Some, None, false, sym, ap, subst}
 use Rattle.std.proofs.lemmas.Option.{same_Some}
 use Rattle.words.specs.declared.entry.Entry.TheVariants.{Abort}
 use Rattle.flat.specs.Steps.{status_for}
@@ -33,6 +33,7 @@ returns-clause-row g c = λ output t cause is why.
       status = c.status_for-self-inside.result;
       tx = ended.new.tx;
       cache = c.clear_marks.new.self;
+      reserved = None;
       fresh = false;
     } in
     sym (ap (stepped S output new) c.gives.ensures
@@ -42,6 +43,7 @@ returns-clause-row g c = λ output t cause is why.
       status = status j;
       tx = ended.ensures.shown j;
       kept_stamp = stamp j;
+      reserved = None;
       lines = lines j;
       fresh = false;
     })))

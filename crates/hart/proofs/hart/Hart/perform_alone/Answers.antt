@@ -1,8 +1,8 @@
-use Rattle.std.proofs.Common.{◌≡◌, ◌∙◌, ℕ, List, false, refl, ap, sym, subst}
+use Rattle.std.proofs.Common.{◌≡◌, ◌∙◌, ◌/◌, ℕ, List, Option, false, refl, ap, sym, subst}
 use Rattle.table.specs.declared.effect.Act.{Act}
 use Rattle.table.specs.declared.effect.Act.TheVariants as act
-use Rattle.protocol.specs.Core.{Makes, effect_move, no_memory}
-use Rattle.hart.specs.Shown.{shown_tx, shown_hart}
+use Rattle.protocol.specs.Core.{Makes, access_move, effect_move, no_memory}
+use Rattle.hart.specs.Shown.{shown_tx, shown_hart, lines_of}
 use Rattle.hart.specs.Locals.{needs_hub, FollowsMove}
 use Rattle.hart.proofs.Alone.{no_call, alone-retires, plain-move, begun_hart, begins, begun-output, begun-pc, committed_hart, commits, committed-output, committed-pc}
 use Rattle.hart.proofs.hart.Hart.perform_alone.Goals as goal
@@ -11,7 +11,17 @@ pub returns-in-Memory-clause-step : goal.returns-in-Memory-clause-step
 returns-in-Memory-clause-step g c =
     let p = c.args.self.now in
     let next = c.args.next.now in
-    subst (λ (a : Act). FollowsMove g.row.SETS (λ output taken. effect_move p.index taken next.word next.effect a (shown_hart g.row.SETS output p)) p c.access_alone.new.self c.access_alone.result) (sym c.in-Memory.is) c.access_alone.ensures.step
+    let m = c.in-Memory.m in
+    let h = λ (output : List ℕ). shown_hart g.row.SETS output p in
+    subst (λ (a : Act). FollowsMove g.row.SETS (λ output taken. effect_move p.index taken next.word next.effect a (h output)) p c.access_alone.new.self c.access_alone.result) (sym c.in-Memory.is)
+    (subst (λ (kept : Option ℕ). FollowsMove g.row.SETS (λ output taken. access_move p.index next.word next.effect m kept (lines_of g.row.SETS p.cache (m.addr / 32)) (h output)) p c.access_alone.new.self c.access_alone.result)
+    c.reserved_with.ensures c.access_alone.ensures.step)
+
+pub returns-in-Conditional-clause-step : goal.returns-in-Conditional-clause-step
+returns-in-Conditional-clause-step g c =
+    let p = c.args.self.now in
+    let next = c.args.next.now in
+    subst (λ (a : Act). FollowsMove g.row.SETS (λ output taken. effect_move p.index taken next.word next.effect a (shown_hart g.row.SETS output p)) p c.conditional_store_alone.new.self c.conditional_store_alone.result) (sym c.in-Conditional.is) c.conditional_store_alone.ensures.step
 
 pub returns-in-Begin-clause-step : goal.returns-in-Begin-clause-step
 returns-in-Begin-clause-step g c =

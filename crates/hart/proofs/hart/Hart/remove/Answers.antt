@@ -17,7 +17,7 @@ returns-clause-hart g c = λ output.
     let line = c.args.line.now in
     let tx = c.note_spill.ensures.shown ∙ ap (λ marked. option_map (tx_spilled marked) (shown_tx old.tx)) c.is_marked.ensures in
     let lines = lines-set (holds line.block) S old.cache c.invalidate.new.self line.block None c.invalidate.ensures.line in
-    (λ j. record (shown_hart S output (parts old)) { tx = tx j; kept_stamp = c.note_spill.ensures.stamp j; lines = lines j })
+    (λ j. record (shown_hart S output (parts old)) { tx = tx j; kept_stamp = c.note_spill.ensures.stamp j; reserved = c.without_block-self-inside.ensures j; lines = lines j })
     ∙ ap (λ (p : Parts). without_line line.block (shown_line line) (shown_hart S output p)) c.self.view_is
 
 pub returns-clause-ways : goal.returns-clause-ways

@@ -1,9 +1,7 @@
-use Rattle.std.proofs.Common.{◌≡◌, ◌<◌, ℕ, subst, None, length, refl, sym, ap, ◌∙◌}
-use Rattle.words.specs.declared.cause.AbortCause.{AbortCause}
+use Rattle.std.proofs.Common.{◌≡◌, ◌<◌, subst, None, length, refl, sym, ap, ◌∙◌}
 use Rattle.words.specs.declared.cause.AbortCause.TheVariants.{Trapped}
 use Rattle.words.specs.declared.entry.Entry.TheVariants.{Abort, Trap}
 use Rattle.flat.specs.State.{FlatHart}
-use Rattle.outcomes.specs.declared.change.Change.{Change}
 use Rattle.outcomes.specs.Harts.{hart_of}
 use Rattle.outcomes.specs.Standings.{flat_of, changed}
 use Rattle.outcomes.specs.Turns.{IsBack}
@@ -21,6 +19,7 @@ returns-in-Some c =
       entry = Abort c.args.id cause;
       shown = refl;
       own = tt;
+      tells = refl;
       hart = refl;
       of = subst (λ k. k < (flat_of c.args.self.now).setting.count) (sym back.id) c.requires.running.hart;
       carries = aborts_so f (changed image f c.in-Some.change) c.args.id cause c.requires.running (λ t. (c.new-pc.ensures ∙ sym (ap (λ (h : FlatHart). h.pc) at), c.requires.next))
@@ -37,6 +36,7 @@ returns-in_ok-stopped-in-None c =
       entry = Trap c.args.id c.args.cause c.new-pc.result;
       shown = refl;
       own = tt;
+      tells = refl;
       hart = refl;
       of = c.requires.running.hart;
       carries = record {

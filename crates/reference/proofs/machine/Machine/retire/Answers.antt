@@ -4,11 +4,11 @@ use Rattle.std.specs.Vec.{with_items, with_item}
 use Rattle.std.proofs.Math.Seq.{take-append_seam}
 use Rattle.std.proofs.lemmas.Result.{on_err_weaker}
 use Rattle.flat.specs.State.{FlatHart}
-use Rattle.flat.specs.Causes.{next_of}
+use Rattle.flat.specs.Causes.{act_cause}
 use Rattle.reference.specs.declared.machine.Machine.{Machine}
 use Rattle.reference.specs.States.{Fits}
 use Rattle.reference.specs.Machines.{setting_of, flat_of}
-use Rattle.reference.proofs.Fitting.{fits, room}
+use Rattle.reference.proofs.Fitting.{fits_act, room_act}
 use Rattle.reference.proofs.Moved.{hart_at, moved, unmoved, on_ok_both}
 use Rattle.reference.proofs.machine.Machine.retire.Goals as goal
 
@@ -20,13 +20,13 @@ retire-requires-clause-running c =
 pub retire-requires-clause-fits : goal.retire-requires-clause-fits
 retire-requires-clause-fits c =
     let P : ℕ → Type 0 = λ n. Fits n c.args.effect.now.act in
-    subst P (sym c.deref_mut.ensures.len) (fits (setting_of c.args.self.now) ((flat_of c.args.self.now).hart c.args.i) c.args.effect.now c.requires.next)
+    subst P (sym c.deref_mut.ensures.len) (fits_act (setting_of c.args.self.now) ((flat_of c.args.self.now).hart c.args.i) c.args.effect.now.act c.requires.uncaused)
 
 pub retire-requires-clause-room : goal.retire-requires-clause-room
 retire-requires-clause-room c =
     let at = hart_at c.args.self.now c.args.i c.index_mut-hart.result.now c.requires.running.hart c.index_mut-hart.ensures.value in
-    room (setting_of c.args.self.now) (vec_len c.args.self.now.memory) c.index_mut-hart.result.now c.args.effect.now
-    (sym (ap (λ (h : FlatHart). next_of (setting_of c.args.self.now) h) at) ∙ c.requires.next)
+    room_act (setting_of c.args.self.now) (vec_len c.args.self.now.memory) c.index_mut-hart.result.now c.args.effect.now.act
+    (sym (ap (λ (h : FlatHart). act_cause (setting_of c.args.self.now) h c.args.effect.now.act) at) ∙ c.requires.uncaused)
 
 -- a slice that is as long as the Vec is all of it
 whole : (n : ℕ) (ws rest : List ℕ) → length ws ≡ n → take n (ws ++ rest) ≡ ws
