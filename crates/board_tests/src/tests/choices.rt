@@ -15,8 +15,8 @@ use std::test::Fail;
 use table::DecodedText;
 use words::{Addr, HartId, Taken};
 
-/// The most turns of a hart.
-const TURNS: u64 = 100_000;
+/// The most turns of a hart. One whose thread the host holds up keeps the others waiting, and each of their tries is a turn.
+const TURNS: u64 = 2_000_000;
 
 /// More steps than a history here has.
 const STEPS: usize = 1_000_000_000;

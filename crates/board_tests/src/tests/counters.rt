@@ -66,7 +66,8 @@ fn check_count<
 
 #[test]
 fn each_number_of_harts_counts(rt: HostRuntime) -> Result<(), Fail> {
-    let most = 100_000;
+    // A hart whose thread the host holds up keeps the others waiting, and each of their tries is a turn.
+    let most = 2_000_000;
     holds(
         &rt,
         check_count::<2, 1, HostRuntime>(&rt, &COUNTS, 2, most, 200)?,
