@@ -97,6 +97,18 @@ asm = record (new_shape (codes "asm")) {
   rules = required_named (codes "source") ∷ required_named (codes "target") ∷ [];
 }
 
+-- the program before its option and its subcommands
+abbrev pub program : App
+program = record {
+  top = record (new_shape (codes "logtm")) {
+    has_version = true;
+    disable_version_flag = true;
+    disable_help_subcommand = true;
+    subcommand_required = true;
+  };
+  subs = [];
+}
+
 -- the program, which has to be given a subcommand
 abbrev pub logtm : App
 logtm = record {

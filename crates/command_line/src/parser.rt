@@ -3,7 +3,7 @@ ghost use Rattle.clap.specs.Words.{App, Shape, app_of, kind_of, new_app, rule_of
 ghost use Rattle.clap.specs.declared.builder.command.Command.TheViews.{out-Command};
 ghost use Rattle.clap.specs.declared.error.ErrorKind.TheVariants.{OutOfMemory};
 ghost use Rattle.command_line.specs.Command as spec;
-ghost use Rattle.command_line.specs.Command.{Makes, with_rules};
+ghost use Rattle.command_line.specs.Command.{IsApp, Makes, with_rules};
 ghost use Rattle.command_line.specs.Reading.{IsFaultOf, IsRequestOf, IsRefusal};
 ghost use Rattle.command_line.specs.declared.fault.OrderFault.TheVariants.{NoMemory};
 
@@ -14,14 +14,109 @@ use clap::error::ErrorKind;
 use clap::{Arg, ArgAction, Command, Error};
 use std::alloc::{AllocError, Global};
 
-const PROGRAM_HELP: &str = "The program, an ELF file, or assembly text if its name ends in .s";
+/// An argument with one value: its name, what help calls its value, and what help says of it.
+#[derive(Clone, Copy)]
+struct Texts {
+    name: &'static str,
+    value: &'static str,
+    help: &'static str,
+}
 
-const HARTS_HELP: &str = "How many harts run it, 1 if not given";
+const PROGRAM: Texts = Texts {
+    name: "file",
+    value: "FILE",
+    help: "The program, an ELF file, or assembly text if its name ends in .s",
+};
 
-const MEMORY_HELP: &str = "How many bytes of memory there are, 1048576 if not given";
+const HARTS: Texts = Texts {
+    name: "harts",
+    value: "N",
+    help: "How many harts run it, 1 if not given",
+};
 
-const CACHE_HELP: &str =
-    "The cache of each hart: small, normal or SETSxWAYS, as 4x2, normal if not given";
+const MEMORY: Texts = Texts {
+    name: "memory",
+    value: "S",
+    help: "How many bytes of memory there are, 1048576 if not given",
+};
+
+const STEPS: Texts = Texts {
+    name: "steps",
+    value: "N",
+    help: "How many steps are taken at most, 10000000 if not given",
+};
+
+const CACHE: Texts = Texts {
+    name: "cache",
+    value: "NAME",
+    help: "The cache of each hart: small, normal or SETSxWAYS, as 4x2, normal if not given",
+};
+
+const SCHEDULE: Texts = Texts {
+    name: "schedule",
+    value: "LIST",
+    help: "A file whose lines choose the first steps",
+};
+
+const SEED: Texts = Texts {
+    name: "seed",
+    value: "N",
+    help: "Chooses the steps by chance, behind those of a schedule: by one number the same steps",
+};
+
+const MIX: Texts = Texts {
+    name: "mix",
+    value: "C,D,E",
+    help: "The weights of core steps, arrivals of messages and evictions by chance, 30,30,1 if not given",
+};
+
+const TRACE: Texts = Texts {
+    name: "trace",
+    value: "FILE",
+    help: "A file for the trace, a line for each entry; - for standard output",
+};
+
+const TIMELINE: Texts = Texts {
+    name: "timeline",
+    value: "FILE",
+    help: "A file for the timeline: FILE.json, as trace events, FILE.svg, a picture of 2000 steps at most, or FILE.html, a page of 20000 at most",
+};
+
+const STATS: Texts = Texts {
+    name: "stats",
+    value: "NAME",
+    help: "Counts behind the report, as a table or as csv; not with a trace or a timeline",
+};
+
+const HISTORY: Texts = Texts {
+    name: "history",
+    value: "FILE",
+    help: "A file for the steps that threads or chance made, as a schedule that plays them again",
+};
+
+const STATES: Texts = Texts {
+    name: "states",
+    value: "N",
+    help: "How many states are met at most, 1000000 if not given",
+};
+
+const ELF_FILE: Texts = Texts {
+    name: "file",
+    value: "FILE",
+    help: "The program, an ELF file",
+};
+
+const SOURCE: Texts = Texts {
+    name: "source",
+    value: "IN",
+    help: "The source",
+};
+
+const TARGET: Texts = Texts {
+    name: "target",
+    value: "OUT",
+    help: "The ELF file to write",
+};
 
 // What help calls the values of `--witness`.
 const WITNESS_VALUES: &[&str] = &["K", "LIST"];
@@ -60,18 +155,23 @@ pub fn parse<'a>(alloc: Global, words: &'a [&'a str]) -> Result<Request<'a>, Ord
 fn command<'a>(alloc: Global) -> Result<Command<'a>, AllocError>
     ensures { IfOk result (λ c. app_of c ≡ spec.logtm) }
 {
-    let command = Command::new(alloc, "logtm")
-        .about("Simulates harts with transactional memory")
-        .version(VERSION)
-        .disable_version_flag(true)
-        .disable_help_subcommand(true)
-        .subcommand_required(true);
-    let command = with_argument(Ok(command), version_flag(alloc));
+    let command = with_argument(Ok(program(alloc)), version_flag(alloc));
     let command = with_subcommand(command, run_command(alloc));
     let command = with_subcommand(command, debug_command(alloc));
     let command = with_subcommand(command, outcomes_command(alloc));
     let command = with_subcommand(command, dis_command(alloc));
     with_subcommand(command, asm_command(alloc))
+}
+
+/// The command before its option and its subcommands.
+fn program<'a>(alloc: Global) -> Command<'a>
+    ensures { IsApp result spec.program }
+{
+    bare(alloc, "logtm", "Simulates harts with transactional memory")
+        .version(VERSION)
+        .disable_version_flag(true)
+        .disable_help_subcommand(true)
+        .subcommand_required(true)
 }
 
 // Memory may run out with each argument and each subcommand that a command gets. Where it has, the command stays an error.
@@ -103,7 +203,10 @@ fn with_argument<'a>(
 {
     match command {
         Ok(command) => command.arg(argument),
-        Err(error) => Err(error),
+        Err(error) => {
+            drop(argument);
+            Err(error)
+        }
     }
 }
 
@@ -111,26 +214,22 @@ fn with_argument<'a>(
 fn with_required<'a>(
     alloc: Global,
     command: Result<Command<'a>, AllocError>,
-    name: &'a str,
-    value: &'a str,
-    help: &'a str,
+    texts: &'static Texts,
 ) -> Result<Command<'a>, AllocError>
-    ensures { (app : App) → Makes command.entry app → Makes result (with_rule app (spec.required_named name.entry.now)) }
+    ensures { (app : App) → Makes command.entry app → Makes result (with_rule app (spec.required_named texts.now.name.now)) }
 {
-    with_argument(command, required(alloc, name, value, help))
+    with_argument(command, required(alloc, texts))
 }
 
 /// The command with an option more.
 fn with_option<'a>(
     alloc: Global,
     command: Result<Command<'a>, AllocError>,
-    name: &'a str,
-    value: &'a str,
-    help: &'a str,
+    texts: &'static Texts,
 ) -> Result<Command<'a>, AllocError>
-    ensures { (app : App) → Makes command.entry app → Makes result (with_rule app (spec.option_named name.entry.now)) }
+    ensures { (app : App) → Makes command.entry app → Makes result (with_rule app (spec.option_named texts.now.name.now)) }
 {
-    with_argument(command, option(alloc, name, value, help))
+    with_argument(command, option(alloc, texts))
 }
 
 fn run_command<'a>(alloc: Global) -> Result<Command<'a>, AllocError>
@@ -149,7 +248,7 @@ fn debug_command<'a>(alloc: Global) -> Result<Command<'a>, AllocError>
 {
     let about = "Plays a program by hand, command by command";
     let command = with_machine(alloc, Ok(bare(alloc, "debug", about)));
-    with_option(alloc, command, "cache", "NAME", CACHE_HELP)
+    with_option(alloc, command, &CACHE)
 }
 
 /// The command with the program and the size of the machine that runs it.
@@ -159,9 +258,9 @@ fn with_machine<'a>(
 ) -> Result<Command<'a>, AllocError>
     ensures { (app : App) → Makes command.entry app → Makes result (with_rules spec.machine app) }
 {
-    let command = with_required(alloc, command, "file", "FILE", PROGRAM_HELP);
-    let command = with_option(alloc, command, "harts", "N", HARTS_HELP);
-    with_option(alloc, command, "memory", "S", MEMORY_HELP)
+    let command = with_required(alloc, command, &PROGRAM);
+    let command = with_option(alloc, command, &HARTS);
+    with_option(alloc, command, &MEMORY)
 }
 
 /// The command with how far a run goes, and with which caches.
@@ -171,9 +270,8 @@ fn with_limits<'a>(
 ) -> Result<Command<'a>, AllocError>
     ensures { (app : App) → Makes command.entry app → Makes result (with_rules spec.limits app) }
 {
-    let steps = "How many steps are taken at most, 10000000 if not given";
-    let command = with_option(alloc, command, "steps", "N", steps);
-    with_option(alloc, command, "cache", "NAME", CACHE_HELP)
+    let command = with_option(alloc, command, &STEPS);
+    with_option(alloc, command, &CACHE)
 }
 
 /// The command with what chooses the steps of a run.
@@ -183,14 +281,9 @@ fn with_choosers<'a>(
 ) -> Result<Command<'a>, AllocError>
     ensures { (app : App) → Makes command.entry app → Makes result (with_rules spec.choosers app) }
 {
-    let schedule = "A file whose lines choose the first steps";
-    let seed =
-        "Chooses the steps by chance, behind those of a schedule: by one number the same steps";
-    let mix =
-        "The weights of core steps, arrivals of messages and evictions by chance, 30,30,1 if not given";
-    let command = with_option(alloc, command, "schedule", "LIST", schedule);
-    let command = with_option(alloc, command, "seed", "N", seed);
-    with_option(alloc, command, "mix", "C,D,E", mix)
+    let command = with_option(alloc, command, &SCHEDULE);
+    let command = with_option(alloc, command, &SEED);
+    with_option(alloc, command, &MIX)
 }
 
 /// The command with what is shown of a run beside its report.
@@ -200,13 +293,9 @@ fn with_views<'a>(
 ) -> Result<Command<'a>, AllocError>
     ensures { (app : App) → Makes command.entry app → Makes result (with_rules spec.views app) }
 {
-    let trace = "A file for the trace, a line for each entry; - for standard output";
-    let timeline =
-        "A file for the timeline: FILE.json, as trace events, FILE.svg, a picture of 2000 steps at most, or FILE.html, a page of 20000 at most";
-    let stats = "Counts behind the report, as a table or as csv; not with a trace or a timeline";
-    let command = with_option(alloc, command, "trace", "FILE", trace);
-    let command = with_option(alloc, command, "timeline", "FILE", timeline);
-    with_option(alloc, command, "stats", "NAME", stats)
+    let command = with_option(alloc, command, &TRACE);
+    let command = with_option(alloc, command, &TIMELINE);
+    with_option(alloc, command, &STATS)
 }
 
 /// The command with a run in threads, and with the words of memory that the report shows.
@@ -218,10 +307,8 @@ fn with_threads<'a>(
 {
     let threads =
         "Runs each hart in a thread of its own, with no schedule, seed, trace, timeline and counts";
-    let history =
-        "A file for the steps that threads or chance made, as a schedule that plays them again";
     let command = with_argument(command, flag(alloc, "threads", threads));
-    let command = with_option(alloc, command, "history", "FILE", history);
+    let command = with_option(alloc, command, &HISTORY);
     with_argument(command, words(alloc))
 }
 
@@ -240,8 +327,7 @@ fn with_search<'a>(
 ) -> Result<Command<'a>, AllocError>
     ensures { (app : App) → Makes command.entry app → Makes result (with_rules spec.search_and_words app) }
 {
-    let states = "How many states are met at most, 1000000 if not given";
-    let command = with_option(alloc, command, "states", "N", states);
+    let command = with_option(alloc, command, &STATES);
     let command = with_argument(command, witness(alloc));
     with_argument(command, words(alloc))
 }
@@ -250,15 +336,15 @@ fn dis_command<'a>(alloc: Global) -> Result<Command<'a>, AllocError>
     ensures { Makes result (record { top = spec.dis; subs = [] }) }
 {
     let command = Ok(bare(alloc, "dis", "Lists a program"));
-    with_required(alloc, command, "file", "FILE", "The program, an ELF file")
+    with_required(alloc, command, &ELF_FILE)
 }
 
 fn asm_command<'a>(alloc: Global) -> Result<Command<'a>, AllocError>
     ensures { Makes result (record { top = spec.asm; subs = [] }) }
 {
     let command = Ok(bare(alloc, "asm", "Assembles a program"));
-    let command = with_required(alloc, command, "source", "IN", "The source");
-    with_required(alloc, command, "target", "OUT", "The ELF file to write")
+    let command = with_required(alloc, command, &SOURCE);
+    with_required(alloc, command, &TARGET)
 }
 
 // A command with no argument yet.
@@ -269,24 +355,24 @@ fn bare<'a>(alloc: Global, name: &'a str, about: &'a str) -> Command<'a>
     Command::new(alloc, name).about(about)
 }
 
-fn required<'a>(alloc: Global, name: &'a str, value: &'a str, help: &'a str) -> Arg<'a>
-    ensures rule { rule_of result ≡ spec.required_named name.entry.now }
+fn required<'a>(alloc: Global, texts: &'static Texts) -> Arg<'a>
+    ensures rule { rule_of result ≡ spec.required_named texts.now.name.now }
     ensures local { result.global ≡ false }
 {
-    Arg::new(alloc, name)
-        .value_name(value)
+    Arg::new(alloc, texts.name)
+        .value_name(texts.value)
         .required(true)
-        .help(help)
+        .help(texts.help)
 }
 
-fn option<'a>(alloc: Global, name: &'a str, value: &'a str, help: &'a str) -> Arg<'a>
-    ensures rule { rule_of result ≡ spec.option_named name.entry.now }
+fn option<'a>(alloc: Global, texts: &'static Texts) -> Arg<'a>
+    ensures rule { rule_of result ≡ spec.option_named texts.now.name.now }
     ensures local { result.global ≡ false }
 {
-    Arg::new(alloc, name)
-        .long(name)
-        .value_name(value)
-        .help(help)
+    Arg::new(alloc, texts.name)
+        .long(texts.name)
+        .value_name(texts.value)
+        .help(texts.help)
 }
 
 fn flag<'a>(alloc: Global, name: &'a str, help: &'a str) -> Arg<'a>

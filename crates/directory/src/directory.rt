@@ -8,9 +8,7 @@ ghost use Rattle.directory.specs.Sends.{AwaitsOthers};
 
 use crate::entry::{Busy, DirEntry, Owner};
 use crate::received::{Answer, Received, sends_of};
-use crate::rules::{
-    Request, expected, given, is_owned_by, owner_after, sharers_after, words_after,
-};
+use crate::rules::{Request, expected, given, is_owned_by, owner_after, sharers_after, words_back};
 use std::alloc::{AllocError, Global};
 use std::collections::BTreeMap;
 use std::marker::Model;
@@ -288,7 +286,7 @@ impl Directory {
         if let Some(busy) = &entry.busy {
             if busy.requester.index() == from.index() {
                 if ok {
-                    self.settle(block, &entry, busy, *content);
+                    self.settle(block, &entry, busy, content);
                 } else {
                     self.replace(block, entry.ended());
                 }
@@ -298,12 +296,12 @@ impl Directory {
 
     /// A request was granted, and its hart has what it was given.
     #[inline(always)]
-    fn settle(&mut self, block: BlockNo, entry: &DirEntry, busy: &Busy, content: Option<Block>)
+    fn settle(&mut self, block: BlockNo, entry: &DirEntry, busy: &Busy, content: &Option<Block>)
         requires block { block < length self.old.memory }
         requires present { IsSome (kept_at self.old block) }
         requires named { NamesBelow self.old.harts (shown_entry entry.now) }
         requires hart { busy.now.requester < self.old.harts }
-        ensures { let served = done_row busy.now.requester busy.now.give content (shown_entry entry.now) (memory_at self.old block) in
+        ensures { let served = done_row busy.now.requester busy.now.give content.now (shown_entry entry.now) (memory_at self.old block) in
             SetsBlock self.old self.new block served.entry served.memory }
     {
         let owner = owner_after(busy.requester, busy.give);
@@ -316,8 +314,9 @@ impl Directory {
                 busy: None,
             },
         );
-        let words = words_after(entry, busy.give, content, self.memory(block));
-        self.memory[block.index()] = words;
+        if let Some(words) = words_back(entry, busy.give, content) {
+            self.memory[block.index()] = words;
+        }
     }
 
     /// Puts an entry in the place of the one that a block has, and keeps it unless it is the first one again.

@@ -1,9 +1,9 @@
-ghost use Rattle.std.specs.Prelude.{◌≡◌, ◌≢◌, ◌<◌, ◌≤◌, ◌+◌, ◌∷◌, [], ◌++◌, ◌&&◌, ◌==◌, ℕ, true, false, not};
+ghost use Rattle.std.specs.Prelude.{◌≡◌, ◌≢◌, ◌<◌, ◌≤◌, ◌+◌, ◌∷◌, [], ◌++◌, ◌&&◌, ◌==◌, ℕ, true, false, not, unwrap_or};
 ghost use Rattle.arrayvec.specs.ArrayVec.{array_vec_len};
 ghost use Rattle.words.specs.Harts.{names};
 ghost use Rattle.words.specs.Limits.{most_harts};
 ghost use Rattle.protocol.specs.Directory.{is_alone, give_shared, given_now, expected_now, must_answer, forwards, is_owned_by, owner_done, sharer_done, memory_done};
-ghost use Rattle.protocol.specs.Messages.{shown, Forward};
+ghost use Rattle.protocol.specs.Messages.{Block as BlockWords, shown, Forward};
 ghost use Rattle.directory.specs.Entries.{shown_owner, shown_entry};
 ghost use Rattle.directory.specs.Sends.{messages_of};
 
@@ -163,18 +163,17 @@ pub(crate) fn sharers_after(entry: &DirEntry, hart: HartId, give: LineState) -> 
     sharers
 }
 
-/// What memory has of a block once a request is over: the content of an owner that was read, if it was sent along.
-pub(crate) fn words_after(
+/// What memory gets of a block where a request is over, if anything: the content of an owner that was read, if it was sent along.
+pub(crate) fn words_back(
     entry: &DirEntry,
     give: LineState,
-    content: Option<Block>,
-    memory: Block,
-) -> Block
-    ensures { result ≡ memory_done (shown_owner entry.now.owner) give content memory }
+    content: &Option<Block>,
+) -> Option<Block>
+    ensures { (memory : BlockWords) → memory_done (shown_owner entry.now.owner) give content.now memory ≡ unwrap_or result memory }
 {
     match (entry.owner, give) {
-        (Owner::Owned(_), LineState::Shared) => content.unwrap_or(memory),
-        _ => memory,
+        (Owner::Owned(_), LineState::Shared) => *content,
+        _ => None,
     }
 }
 

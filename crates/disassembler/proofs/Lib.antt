@@ -1,3 +1,4 @@
+pub mod Decimals
 pub mod Listed
 pub mod Words
 pub mod Windows

@@ -1,5 +1,5 @@
 -- The canonical text of a word: from the shapes of operands, by the instruction, to the text of any word.
-use Rattle.std.specs.Prelude.{ℕ, Bool, cond, ◌==◌, ◌/◌, ◌^◌, ◌++◌, List, [], ◌∷◌, Option, Some, None, codes, decimal}
+use Rattle.std.specs.Prelude.{ℕ, Bool, true, false, cond, ◌==◌, ◌/◌, ◌^◌, ◌++◌, List, [], ◌∷◌, Option, Some, None, codes, decimal}
 use Rattle.std.specs.Fmt.{signed_decimal}
 use Rattle.std.specs.Int.{w32, cast_signed}
 use Rattle.std.specs.List.{concat}
@@ -61,6 +61,13 @@ full_fence = fence_bits_of 0x0ff0000f
 -- the mnemonic of a row with the bits aq and rl
 abbrev pub ordered : Row → Bool → Bool → List ℕ
 ordered row aq rl = name_of row ++ order aq rl
+
+-- whether an instruction is an atomic operation, LR or SC
+abbrev pub is_atomic : Instr → Bool
+is_atomic (Amo op rd rs1 rs2 aq rl) = true
+is_atomic (LoadReserved rd rs1 aq rl) = true
+is_atomic (StoreConditional rd rs1 rs2 aq rl) = true
+is_atomic i = false
 
 -- the text of an instruction; any other fence has none
 abbrev pub spelled : Instr → Option (List ℕ)

@@ -1,5 +1,5 @@
 //! A name as it is shown.
-ghost use Rattle.std.specs.Prelude.{◌≡◌, ◌+◌, ◌≤◌, ◌<◌, ◌++◌, length, map, option_map};
+ghost use Rattle.std.specs.Prelude.{◌≡◌, ◌+◌, ◌≤◌, ◌<◌, ◌++◌, Some, length, map};
 ghost use Rattle.disassembler.specs.Names.{name_of};
 ghost use Rattle.disassembler.specs.Labels.{shown_byte, label_of, without_zeros, digits, offset_part, label};
 
@@ -25,8 +25,8 @@ fn shown_byte(byte: u8) -> u8
 }
 
 /// Adds a name's bytes, as they are shown.
-fn add_shown(name: &[u8], line: &mut Label)
-    requires { length line.old + length name.now ≤ 80 }
+fn add_shown<const CAP: usize>(name: &[u8], line: &mut Line<CAP>)
+    requires { length line.old + length name.now ≤ CAP }
     ensures { line.new ≡ line.old ++ map shown_byte name.now }
 {
     for byte in name {
@@ -47,8 +47,8 @@ fn without_zeros(digits: &[u8]) -> &[u8]
 
 /// Adds the digits of a number, from the first that isn't 0.
 #[tactic(auto, unfolding(crate::specs::Labels::digits))]
-fn add_digits(n: u32, line: &mut Label)
-    requires { length line.old + 8 ≤ 80 }
+fn add_digits<const CAP: usize>(n: u32, line: &mut Line<CAP>)
+    requires { length line.old + 8 ≤ CAP }
     ensures text { line.new ≡ line.old ++ digits n }
     ensures short { length line.new ≤ length line.old + 8 }
 {
@@ -56,8 +56,8 @@ fn add_digits(n: u32, line: &mut Label)
 }
 
 /// Adds how far an address lies behind the first one of its symbol, if it does.
-fn add_offset(offset: u32, line: &mut Label)
-    requires { length line.old + 11 ≤ 80 }
+fn add_offset<const CAP: usize>(offset: u32, line: &mut Line<CAP>)
+    requires { length line.old + 11 ≤ CAP }
     ensures text { line.new ≡ line.old ++ offset_part offset }
     ensures short { length line.new ≤ length line.old + 11 }
 {
@@ -67,31 +67,40 @@ fn add_offset(offset: u32, line: &mut Label)
     }
 }
 
-/// The label of a place, if there is one.
-fn label_of(strings: &[u8], place: Option<Place>) -> Label
-    ensures text { result ≡ label_of (option_map (name_of strings.now) place) }
-    ensures short { length result ≤ 78 }
+/// Adds the label of a place.
+#[inline(never)]
+fn add_place<const CAP: usize>(strings: &[u8], place: Place, line: &mut Line<CAP>)
+    requires { length line.old + 78 ≤ CAP }
+    ensures text { line.new ≡ line.old ++ label_of (Some (name_of strings.now place)) }
+    ensures longer { length line.new ≤ length line.old + 78 }
 {
-    let mut line = Label::new();
-    match place {
-        Some(place) => {
-            line.put(" <");
-            add_shown(front_of(strings, place.name, LONGEST), &mut line);
-            add_offset(place.offset, &mut line);
-            line.put(">");
-        }
-        None => {}
-    }
-    line
+    line.put(" <");
+    add_shown(front_of(strings, place.name, LONGEST), line);
+    add_offset(place.offset, line);
+    line.put(">");
 }
 
 impl Symbols<'_> {
     /// What stands behind an address: its name and how far it lies behind the symbol's first byte, and nothing where it has no name.
-    #[tactic(auto, unfolding(crate::specs::Labels::label))]
     pub fn label(&self, address: Addr) -> Label
         ensures text { result ≡ label self.now address }
         ensures short { length result ≤ 78 }
     {
-        label_of(self.strings(), self.place_at(address.value()))
+        let mut line = Label::new();
+        self.add_label(address, &mut line);
+        line
+    }
+
+    /// Adds what stands behind an address to a line that has room for it.
+    #[inline]
+    #[tactic(auto, unfolding(crate::specs::Labels::label))]
+    pub fn add_label<const CAP: usize>(&self, address: Addr, line: &mut Line<CAP>)
+        requires { length line.old + 78 ≤ CAP }
+        ensures text { line.new ≡ line.old ++ label self.now address }
+        ensures longer { length line.new ≤ length line.old + 78 }
+    {
+        if let Some(place) = self.place_at(address.value()) {
+            add_place(self.strings(), place, line);
+        }
     }
 }

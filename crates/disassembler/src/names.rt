@@ -7,6 +7,7 @@ use words::Reg;
 #[tactic(auto, unfolding(crate::specs::Mnemonics::register))]
 pub fn register(r: Reg) -> &'static str
     ensures name { result.now ≡ register r }
+    ensures long { 2 ≤ length result.now }
     ensures short { length result.now ≤ 4 }
 {
     match r.index() {
@@ -41,7 +42,8 @@ pub fn register(r: Reg) -> &'static str
         28 => "t3",
         29 => "t4",
         30 => "t5",
-        _ => "t6",
+        31 => "t6",
+        _ => unreachable!(),
     }
 }
 

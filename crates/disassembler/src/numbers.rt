@@ -1,15 +1,36 @@
-ghost use Rattle.std.specs.Prelude.{◌≡◌, ◌≤◌, length};
+ghost use Rattle.std.specs.Prelude.{◌≡◌, ◌≤◌, ◌+◌, ◌++◌, length};
 ghost use Rattle.disassembler.specs.Canonical.{trimmed, signed};
 
 use itoa::Buffer;
+use texts::Line;
 
-/// A number of 32 bits in two's complement, as a decimal that is written into the buffer.
-#[tactic(auto, unfolding(crate::specs::Canonical::signed))]
-pub(crate) fn signed(n: u32, digits: &mut Buffer) -> &str
-    ensures text { result.now ≡ signed n }
-    ensures short { length result.now ≤ 11 }
+/// Adds a number of 32 bits in two's complement, as a decimal.
+#[inline(always)]
+pub(crate) fn add_signed<const CAP: usize>(n: u32, line: &mut Line<CAP>)
+    requires { length line.old + 11 ≤ CAP }
+    ensures text { line.new ≡ line.old ++ signed n }
+    ensures longer { length line.new ≤ length line.old + 11 }
 {
-    digits.format(n.cast_signed())
+    if n < 100 {
+        line.put_small(n);
+    } else if n > u32::MAX - 99 {
+        line.put("-");
+        line.put_small(u32::MAX - n + 1);
+    } else {
+        add_large(n, line);
+    }
+}
+
+/// Adds such a number, of any size.
+#[inline(never)]
+#[tactic(auto, unfolding(crate::specs::Canonical::signed))]
+fn add_large<const CAP: usize>(n: u32, line: &mut Line<CAP>)
+    requires { length line.old + 11 ≤ CAP }
+    ensures text { line.new ≡ line.old ++ signed n }
+    ensures longer { length line.new ≤ length line.old + 11 }
+{
+    let mut digits = Buffer::new();
+    line.put(digits.format(n.cast_signed()));
 }
 
 /// The digits without the zeros in front; a last zero stays.

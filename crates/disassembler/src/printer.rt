@@ -1,6 +1,6 @@
-ghost use Rattle.std.specs.Prelude.{◌≡◌, ◌≤◌, ◌+◌, ◌++◌, [], length};
+ghost use Rattle.std.specs.Prelude.{◌≡◌, ◌≤◌, ◌+◌, ◌++◌, [], true, length};
 ghost use Rattle.table.specs.declared.instr.Instr.TheVariants.{Amo, Fence, OpImm};
-ghost use Rattle.disassembler.specs.Canonical.{canonical, spelled, plain, text_or};
+ghost use Rattle.disassembler.specs.Canonical.{canonical, spelled, plain, text_or, is_atomic};
 
 use crate::names::order;
 use crate::shapes::{atomic, based, begin, indirect, jump, numbered, registers, shifted, upper};
@@ -19,6 +19,7 @@ pub fn text(word: u32) -> Line<40>
 }
 
 /// Adds the canonical text of a word to a line that has room for it: no text is longer than 40 bytes.
+#[inline(always)]
 #[tactic(auto, unfolding(crate::specs::Canonical::canonical))]
 pub fn add_text<const CAP: usize>(word: u32, line: &mut Line<CAP>)
     requires { length line.old + 40 ≤ CAP }
@@ -42,6 +43,7 @@ fn add_plain<const CAP: usize>(word: u32, line: &mut Line<CAP>)
 }
 
 /// Adds the text of an instruction, or the plain text of its word if it has none.
+#[inline(always)]
 fn add_instr<const CAP: usize>(instr: Instr, word: u32, line: &mut Line<CAP>)
     requires { length line.old + 40 ≤ CAP }
     ensures text { line.new ≡ line.old ++ text_or (plain word) (spelled instr) }
@@ -68,6 +70,28 @@ fn add_instr<const CAP: usize>(instr: Instr, word: u32, line: &mut Line<CAP>)
             amount,
         } => shifted(Row::ShiftImm(op).name(), rd, rs1, amount, line),
         Instr::Op { op, rd, rs1, rs2 } => registers(Row::Op(op).name(), rd, rs1, rs2, line),
+        Instr::Amo { .. } | Instr::LoadReserved { .. } | Instr::StoreConditional { .. } => {
+            add_atomic(instr, line)
+        }
+        Instr::Fence { bits } if bits.value() == FULL_FENCE => line.put(Row::Fence.name()),
+        Instr::Fence { .. } => add_plain(word, line),
+        Instr::Ecall => line.put(Row::Ecall.name()),
+        Instr::Ebreak => line.put(Row::Ebreak.name()),
+        Instr::TBegin { offset } => begin(Row::TBegin.name(), offset, line),
+        Instr::TCommit => line.put(Row::TCommit.name()),
+        Instr::TAbort => line.put(Row::TAbort.name()),
+    }
+}
+
+/// Adds the text of an atomic operation, LR or SC.
+#[inline(never)]
+fn add_atomic<const CAP: usize>(instr: Instr, line: &mut Line<CAP>)
+    requires atomic { is_atomic instr ≡ true }
+    requires room { length line.old + 40 ≤ CAP }
+    ensures text { line.new ≡ line.old ++ text_or [] (spelled instr) }
+    ensures longer { length line.new ≤ length line.old + 40 }
+{
+    match instr {
         Instr::Amo {
             op,
             rd,
@@ -89,17 +113,12 @@ fn add_instr<const CAP: usize>(instr: Instr, word: u32, line: &mut Line<CAP>)
             let order = order(aq, rl);
             atomic(Row::StoreConditional.name(), order, rd, rs2, rs1, line)
         }
-        Instr::Fence { bits } if bits.value() == FULL_FENCE => line.put(Row::Fence.name()),
-        Instr::Fence { .. } => add_plain(word, line),
-        Instr::Ecall => line.put(Row::Ecall.name()),
-        Instr::Ebreak => line.put(Row::Ebreak.name()),
-        Instr::TBegin { offset } => begin(Row::TBegin.name(), offset, line),
-        Instr::TCommit => line.put(Row::TCommit.name()),
-        Instr::TAbort => line.put(Row::TAbort.name()),
+        _ => unreachable!(),
     }
 }
 
 /// Adds an operation with an immediate.
+#[inline(always)]
 fn immediate<const CAP: usize>(op: ImmOp, rd: Reg, rs1: Reg, imm: Imm12, line: &mut Line<CAP>)
     requires { length line.old + 40 ≤ CAP }
     ensures text { line.new ≡ line.old ++ text_or [] (spelled (OpImm op rd rs1 imm)) }

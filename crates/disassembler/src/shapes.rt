@@ -4,13 +4,13 @@ ghost use Rattle.disassembler.specs.Mnemonics.{register};
 ghost use Rattle.disassembler.specs.Canonical as spec;
 
 use crate::names::register;
-use crate::numbers::{signed, trimmed};
-use itoa::Buffer;
+use crate::numbers::{add_signed, trimmed};
 use operands::{AbortOffset, Imm12, Shamt, UpperImm};
 use texts::{Line, hexadecimal};
 use words::Reg;
 
 /// `op a`.
+#[inline(always)]
 fn first<const CAP: usize>(op: &str, a: Reg, line: &mut Line<CAP>)
     requires op { length op.now ≤ 9 }
     requires room { length line.old + 14 ≤ CAP }
@@ -19,10 +19,11 @@ fn first<const CAP: usize>(op: &str, a: Reg, line: &mut Line<CAP>)
 {
     line.put(op);
     line.put(" ");
-    line.put(register(a));
+    line.put_name(register(a));
 }
 
 /// `op a, b`.
+#[inline(always)]
 fn second<const CAP: usize>(op: &str, a: Reg, b: Reg, line: &mut Line<CAP>)
     requires op { length op.now ≤ 9 }
     requires room { length line.old + 20 ≤ CAP }
@@ -31,10 +32,11 @@ fn second<const CAP: usize>(op: &str, a: Reg, b: Reg, line: &mut Line<CAP>)
 {
     first(op, a, line);
     line.put(", ");
-    line.put(register(b));
+    line.put_name(register(b));
 }
 
 /// `op a, 0x..`, with the upper 20 bits.
+#[inline(always)]
 #[tactic(auto, unfolding(crate::specs::Canonical::upper))]
 pub(crate) fn upper<const CAP: usize>(op: &str, a: Reg, imm: UpperImm, line: &mut Line<CAP>)
     requires op { length op.now ≤ 9 }
@@ -49,19 +51,20 @@ pub(crate) fn upper<const CAP: usize>(op: &str, a: Reg, imm: UpperImm, line: &mu
 }
 
 /// `op a, n`.
+#[inline(always)]
 pub(crate) fn jump<const CAP: usize>(op: &str, a: Reg, n: u32, line: &mut Line<CAP>)
     requires op { length op.now ≤ 9 }
     requires room { length line.old + 40 ≤ CAP }
     ensures text { line.new ≡ line.old ++ spec.two op.now (register a) (spec.signed n) }
     ensures longer { length line.new ≤ length line.old + 27 }
 {
-    let mut digits = Buffer::new();
     first(op, a, line);
     line.put(", ");
-    line.put(signed(n, &mut digits));
+    add_signed(n, line);
 }
 
 /// `op a, n(base)`.
+#[inline(always)]
 pub(crate) fn based<const CAP: usize>(op: &str, a: Reg, n: Imm12, base: Reg, line: &mut Line<CAP>)
     requires op { length op.now ≤ 9 }
     requires room { length line.old + 40 ≤ CAP }
@@ -70,24 +73,25 @@ pub(crate) fn based<const CAP: usize>(op: &str, a: Reg, n: Imm12, base: Reg, lin
 {
     jump(op, a, n.value(), line);
     line.put("(");
-    line.put(register(base));
+    line.put_name(register(base));
     line.put(")");
 }
 
 /// `op a, b, n`.
+#[inline(always)]
 pub(crate) fn numbered<const CAP: usize>(op: &str, a: Reg, b: Reg, n: u32, line: &mut Line<CAP>)
     requires op { length op.now ≤ 9 }
     requires room { length line.old + 40 ≤ CAP }
     ensures text { line.new ≡ line.old ++ spec.three op.now (register a) (register b) (spec.signed n) }
     ensures longer { length line.new ≤ length line.old + 40 }
 {
-    let mut digits = Buffer::new();
     second(op, a, b, line);
     line.put(", ");
-    line.put(signed(n, &mut digits));
+    add_signed(n, line);
 }
 
 /// `op a, b, amount`.
+#[inline(always)]
 pub(crate) fn shifted<const CAP: usize>(
     op: &str,
     a: Reg,
@@ -100,13 +104,13 @@ pub(crate) fn shifted<const CAP: usize>(
     ensures text { line.new ≡ line.old ++ spec.three op.now (register a) (register b) (decimal amount) }
     ensures longer { length line.new ≤ length line.old + 40 }
 {
-    let mut digits = Buffer::new();
     second(op, a, b, line);
     line.put(", ");
-    line.put(digits.format(amount.value()));
+    line.put_small(amount.value());
 }
 
 /// `op a, b, c`.
+#[inline(always)]
 pub(crate) fn registers<const CAP: usize>(op: &str, a: Reg, b: Reg, c: Reg, line: &mut Line<CAP>)
     requires op { length op.now ≤ 9 }
     requires room { length line.old + 40 ≤ CAP }
@@ -115,7 +119,7 @@ pub(crate) fn registers<const CAP: usize>(op: &str, a: Reg, b: Reg, c: Reg, line
 {
     second(op, a, b, line);
     line.put(", ");
-    line.put(register(c));
+    line.put_name(register(c));
 }
 
 /// `op a, (base)`, where the order belongs to the mnemonic.
@@ -135,7 +139,7 @@ pub(crate) fn indirect<const CAP: usize>(
     line.put(op);
     first(order, a, line);
     line.put(", (");
-    line.put(register(base));
+    line.put_name(register(base));
     line.put(")");
 }
 
@@ -157,7 +161,7 @@ pub(crate) fn atomic<const CAP: usize>(
     line.put(op);
     second(order, a, b, line);
     line.put(", (");
-    line.put(register(base));
+    line.put_name(register(base));
     line.put(")");
 }
 
@@ -168,8 +172,7 @@ pub(crate) fn begin<const CAP: usize>(op: &str, offset: AbortOffset, line: &mut 
     ensures text { line.new ≡ line.old ++ spec.one op.now (spec.signed offset) }
     ensures longer { length line.new ≤ length line.old + 40 }
 {
-    let mut digits = Buffer::new();
     line.put(op);
     line.put(" ");
-    line.put(signed(offset.value(), &mut digits));
+    add_signed(offset.value(), line);
 }

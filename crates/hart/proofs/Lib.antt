@@ -13,3 +13,4 @@ pub mod Keeping
 pub mod Places
 pub mod Layouts
 pub mod Bytes
+pub mod Misses

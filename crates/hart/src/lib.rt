@@ -8,6 +8,7 @@ mod access;
 mod advance;
 mod assign;
 mod causes;
+mod common;
 mod enabled;
 mod evict;
 mod hart;

@@ -1,15 +1,17 @@
-ghost use Rattle.std.specs.Prelude.{◌≡◌, ◌<◌, ℕ, IfOk, OnErr, Some, None, option_to_list};
+ghost use Rattle.std.specs.Prelude.{◌≡◌, ◌<◌, ℕ, IfOk, IfSome, IfNone, OnErr, Some, None, option_to_list};
 ghost use Rattle.std.specs.Option.{option_map};
 ghost use Rattle.words.specs.declared.entry.Step.TheVariants.{Core, Evict, Deliver};
 ghost use Rattle.protocol.specs.Machine.{Steps, stamps_after};
 ghost use Rattle.protocol.specs.Messages.{shown as shown_message, receiver_of};
 ghost use Rattle.isolation.specs.Reasons.{LeadOn};
-ghost use Rattle.machine.specs.Mail.{in_flight};
+ghost use Rattle.machine.specs.Mail.{SendsOn, in_flight, mail_of};
 ghost use Rattle.machine.specs.Making.{MakesStep};
 
 use crate::listener::{Caller, Listener};
 use crate::machine::Machine;
 use crate::mail::{receiver, send, send_answer, take};
+use hart::CoreStep;
+use network::Net;
 use std::alloc::AllocError;
 use words::{BlockNo, Entry, HARTS, HartId, Message, Step};
 
@@ -25,12 +27,56 @@ fn stamps_after(taken: u64, stamped: bool) -> u64
     }
 }
 
+/// Counts the stamp that a core's step took, and sends what it sends.
+#[inline(always)]
+fn note(stamps: &mut u64, net: &mut Net, made: &CoreStep)
+    requires { 0 < net.old.room }
+    ensures stamps { stamps.new ≡ stamps_after made.now.stamped stamps.old }
+    ensures sent { SendsOn (mail_of net.old.slots) net.old.next (option_to_list (option_map shown_message made.now.message)) (mail_of net.new.slots) net.new.next }
+{
+    *stamps = stamps_after(*stamps, made.stamped);
+    send(net, made.message);
+}
+
 impl<const SETS: usize, const WAYS: usize> Machine<SETS, WAYS> {
     ghost use Rattle.machine.specs.States.{shown, geometry};
 
     /// One step of a hart's core. It is too large to be inlined at more than one place, so there is one of it for each listener.
     #[inline(always)]
     pub(crate) fn core<L: Listener>(&mut self, id: HartId) -> Result<Option<Entry>, AllocError>
+        ensures steps { IfOk result (λ e. MakesStep (geometry SETS WAYS) self.old (Core id) e self.new) }
+        ensures err { OnErr result (self.new ≡ self.old) }
+    {
+        match self.common_core::<L>(id)? {
+            Some(entry) => Ok(entry),
+            None => self.any_core::<L>(id),
+        }
+    }
+
+    /// One of the common steps of a hart's core, made quickly. The answer is `None`, and nothing changes, where the hart declines.
+    #[inline(always)]
+    fn common_core<L: Listener>(&mut self, id: HartId) -> Result<Option<Option<Entry>>, AllocError>
+        ensures steps { IfOk result (λ made. IfSome made (λ e. MakesStep (geometry SETS WAYS) self.old (Core id) e self.new)) }
+        ensures none { IfOk result (λ made. IfNone made (self.new ≡ self.old)) }
+        ensures err { OnErr result (self.new ≡ self.old) }
+    {
+        let i = id.index();
+        if i >= self.seats.len() {
+            return Ok(None);
+        }
+        self.net.reserve(1)?;
+        match self.seats[i].common_step(&self.program.text(), self.stamps)? {
+            None => Ok(None),
+            Some(made) => {
+                note(&mut self.stamps, &mut self.net, &made);
+                Ok(Some(made.entry))
+            }
+        }
+    }
+
+    /// Any step of a hart's core.
+    #[inline(always)]
+    fn any_core<L: Listener>(&mut self, id: HartId) -> Result<Option<Entry>, AllocError>
         ensures steps { IfOk result (λ e. MakesStep (geometry SETS WAYS) self.old (Core id) e self.new) }
         ensures err { OnErr result (self.new ≡ self.old) }
     {
@@ -42,8 +88,7 @@ impl<const SETS: usize, const WAYS: usize> Machine<SETS, WAYS> {
         match self.seats[i].core_step(&self.program.text(), self.stamps)? {
             None => Ok(None),
             Some(made) => {
-                self.stamps = stamps_after(self.stamps, made.stamped);
-                send(&mut self.net, made.message);
+                note(&mut self.stamps, &mut self.net, &made);
                 Ok(made.entry)
             }
         }

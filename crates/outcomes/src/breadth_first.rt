@@ -43,7 +43,7 @@ pub struct Origin {
 }
 
 /// What a search has found.
-#[derive(Debug, Drop)]
+#[derive(Drop)]
 pub struct Outcomes {
     pub program: Program,
     pub image: Vec<u8>,

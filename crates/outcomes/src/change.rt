@@ -3,7 +3,7 @@ use crate::memory::Memory;
 use words::{Entry, HartId};
 
 /// What a hart becomes, and memory, if it changes.
-#[derive(Debug, Drop)]
+#[derive(Drop)]
 pub struct Change {
     pub id: HartId,
     pub hart: Hart,
@@ -11,7 +11,7 @@ pub struct Change {
 }
 
 /// A move: of one hart, with its entry, or of two that abort for each other.
-#[derive(Debug, Drop)]
+#[derive(Drop)]
 pub enum Turn {
     Alone(Entry, Change),
     Together(Change, Change),

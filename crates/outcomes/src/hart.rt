@@ -19,7 +19,7 @@ use words::{AbortCause, Access, Addr, Entry, HartId, LOG_RECORDS, Reg, Regs, Sta
 pub(crate) const MOST_STORES: u8 = LOG_RECORDS as u8;
 
 /// A running transaction.
-#[derive(Debug, Drop, PartialEq, Eq, Hash)]
+#[derive(Drop, PartialEq, Eq, Hash)]
 pub struct Transaction {
     pub checkpoint: Regs,
     pub abort_pc: u32,
@@ -29,7 +29,7 @@ pub struct Transaction {
 }
 
 /// A hart, and what its running transaction did.
-#[derive(Debug, Drop, PartialEq, Eq)]
+#[derive(Drop, PartialEq, Eq)]
 #[derive_where(Hash)]
 pub struct Hart {
     pub regs: Regs,

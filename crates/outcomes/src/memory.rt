@@ -11,7 +11,7 @@ use table::byte_count;
 use words::Width;
 
 /// Memory, as what differs from the bytes that it began with, by address. A byte that is as it was isn't listed.
-#[derive(Debug, Drop, PartialEq, Eq, Hash)]
+#[derive(Drop, PartialEq, Eq, Hash)]
 pub struct Memory {
     pub bytes: BTreeMap<usize, u8>,
 }

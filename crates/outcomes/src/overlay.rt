@@ -13,7 +13,7 @@ use table::{MemoryAct, byte_count};
 use words::{BLOCK_BYTES, Width};
 
 /// What a transaction did to one block: whether it read it, whether it wrote it, and the bytes that it wrote.
-#[derive(Clone, Copy, Debug, PartialEq, Eq, Hash)]
+#[derive(Clone, Copy, PartialEq, Eq, Hash)]
 pub struct Footprint {
     pub read: bool,
     pub written: bool,
@@ -66,7 +66,7 @@ fn lay_block(
 }
 
 /// What a transaction did, kept apart from memory.
-#[derive(Debug, Drop, PartialEq, Eq, Hash)]
+#[derive(Drop, PartialEq, Eq, Hash)]
 pub struct Overlay {
     pub blocks: BTreeMap<usize, Footprint>,
 }

@@ -12,7 +12,7 @@ use std::alloc::{AllocError, Global};
 use words::{HARTS, HartId};
 
 /// A state of a search: for each hart the number under which the pool has it, and those of memory and of the reservations.
-#[derive(Clone, Copy, Debug, PartialEq, Eq, Hash)]
+#[derive(Clone, Copy, PartialEq, Eq, Hash)]
 pub struct State {
     pub harts: [u32; HARTS],
     pub memory: u32,
@@ -20,7 +20,7 @@ pub struct State {
 }
 
 /// All values of harts, of memory and of reservations that a search has met, each once.
-#[derive(Debug, Drop)]
+#[derive(Drop)]
 pub struct Pool {
     pub harts: IndexSet<Hart>,
     pub memories: IndexSet<Memory>,

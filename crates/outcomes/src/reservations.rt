@@ -14,7 +14,7 @@ use table::{Instr, decode};
 use words::{Access, Entry, HARTS, HartId};
 
 /// For each hart the number of the block that it has reserved.
-#[derive(Clone, Copy, Debug, PartialEq, Eq, Hash)]
+#[derive(Clone, Copy, PartialEq, Eq, Hash)]
 pub struct Reservations {
     pub blocks: [Option<u32>; HARTS],
 }

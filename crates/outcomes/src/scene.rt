@@ -16,7 +16,7 @@ pub struct Scene<'a> {
 }
 
 /// What a hart is about to do.
-#[derive(Debug, Drop)]
+#[derive(Drop)]
 pub enum NextMove {
     /// Nothing: it doesn't run.
     Idle,

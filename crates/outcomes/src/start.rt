@@ -1,4 +1,4 @@
-ghost use Rattle.std.specs.Prelude.{◌≡◌, ◌<◌, ◌≤◌, ◌+◌, ◌*◌, ◌^◌, ℕ, List, Some, None, Err, true, IfOk, IfErr, length, slice_get};
+ghost use Rattle.std.specs.Prelude.{◌≡◌, ◌<◌, ◌≤◌, ◌+◌, ◌*◌, ◌^◌, ◌∷◌, [], ℕ, List, Some, None, Err, true, IfOk, IfErr, length, slice_get};
 ghost use Rattle.flat.specs.State.{Setting};
 ghost use Rattle.flat.specs.Start.{first_hart, first_state};
 ghost use Rattle.flat.specs.Boots.{boot_fault, fits_below};
@@ -63,6 +63,27 @@ fn first_state(
     Ok(state)
 }
 
+/// The state that a program begins in, and no other.
+fn first_states(
+    alloc: Global,
+    count: usize,
+    size: usize,
+    entry: Addr,
+    pool: &mut Pool,
+) -> Result<IndexSet<State>, AllocError>
+    requires size { size < 2 ^ 32 }
+    requires count { count ≤ 8 }
+    requires room { 8192 * count ≤ size }
+    ensures { IfOk result (λ states. (x : State) × (states.keys ≡ x ∷ []) × IsWithin count pool.new x
+        × ((s : Setting) (image : List ℕ) → s.size ≡ size → length image ≡ size → s.count ≡ count → ((a : ℕ) → mem_of image a ≡ image_at s.segments a) → flat_in s image pool.new x ≡ first_state s entry)
+        × ((i : ℕ) → reserved_in pool.new x i ≡ None)) }
+{
+    let first = first_state(alloc, count, size, entry, pool)?;
+    let mut states = IndexSet::new(alloc);
+    states.insert(first)?;
+    Ok(states)
+}
+
 /// The search of a program that can be booted. It fails only if memory runs out.
 fn begin_booted(
     alloc: Global,
@@ -79,9 +100,7 @@ fn begin_booted(
 {
     let image = image(alloc, &program, size)?;
     let mut pool = Pool::new(alloc);
-    let first = first_state(alloc, count, size, program.entry(), &mut pool)?;
-    let mut states = IndexSet::new(alloc);
-    states.insert(first)?;
+    let states = first_states(alloc, count, size, program.entry(), &mut pool)?;
     Ok(Outcomes {
         program,
         image,

@@ -1,5 +1,5 @@
 -- A message in flight: its sort, the hart that it is from (or goes to from the directory), the block, and what else it says.
-use Rattle.std.specs.Prelude.{ℕ, Bool, cond, ◌++◌, List, [], ◌∷◌, Option, Some, None, codes, decimal, slice_index}
+use Rattle.std.specs.Prelude.{ℕ, Bool, true, false, cond, ◌++◌, List, [], ◌∷◌, Option, Some, None, codes, decimal, slice_index}
 use Rattle.std.specs.List.{concat}
 use Rattle.words.specs.Harts.{names}
 use Rattle.words.specs.declared.message.Kind.{Kind}
@@ -36,6 +36,17 @@ first_word content = codes " content 0x" ++ hexadecimal (slice_index content 0)
 abbrev pub content_part : Option (List ℕ) → List ℕ
 content_part None = codes " content -"
 content_part (Some content) = first_word content
+
+-- whether a message goes to the directory; any other goes to a hart
+abbrev pub is_to_directory : Message → Bool
+is_to_directory (Get from block kind stamp) = true
+is_to_directory (Put from block content marked) = true
+is_to_directory (Done from block ok content) = true
+is_to_directory (Grant to block give content expect) = false
+is_to_directory (Forward to block kind requester stamp) = false
+is_to_directory (PutAck to block) = false
+is_to_directory (Ack from to block content) = false
+is_to_directory (Nack from to block stamp) = false
 
 abbrev pub message_text : Message → List ℕ
 message_text (Get from block kind stamp) = concat (heading (codes "get") from block ∷ kind_text kind ∷ stamp_part stamp ∷ [])

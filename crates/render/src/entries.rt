@@ -16,8 +16,8 @@ use table::byte_count;
 use texts::{Line, put_all};
 use words::{AbortCause, Access, Addr, BlockNo, Cause, Entry, HartId, Reg, Sink, SinkFault};
 
-/// A line of an entry: none is longer than 260 bytes.
-type EntryLine = Line<260>;
+/// A line of an entry: none is longer than 240 bytes.
+type EntryLine = Line<240>;
 
 /// Puts the line of an entry. Behind its pc the name stands, if it has one.
 pub fn put_entry<S: Sink>(names: &Symbols<'_>, entry: &Entry, sink: &mut S) -> Result<(), SinkFault>
@@ -29,6 +29,7 @@ pub fn put_entry<S: Sink>(names: &Symbols<'_>, entry: &Entry, sink: &mut S) -> R
 }
 
 /// Writes the line of an entry into an empty one.
+#[inline(always)]
 fn write_entry(names: &Symbols<'_>, entry: &Entry, line: &mut EntryLine)
     requires { line.old ≡ [] }
     ensures { line.new ≡ entry_line names.now entry.now }
@@ -53,6 +54,7 @@ fn write_entry(names: &Symbols<'_>, entry: &Entry, line: &mut EntryLine)
     }
 }
 
+#[inline(always)]
 fn write_retired(
     names: &Symbols<'_>,
     hart: HartId,
@@ -74,6 +76,7 @@ fn write_retired(
 }
 
 /// Writes the hart, the pc with its name, and the word with its text.
+#[inline(always)]
 fn write_word(names: &Symbols<'_>, hart: HartId, pc: Addr, word: u32, line: &mut EntryLine)
     requires { line.old ≡ [] }
     ensures text { line.new ≡ decimal hart ++ codes " 0x" ++ hexadecimal pc ++ label names.now pc ++ codes " " ++ hexadecimal word ++ codes " " ++ canonical word }
@@ -82,7 +85,7 @@ fn write_word(names: &Symbols<'_>, hart: HartId, pc: Addr, word: u32, line: &mut
     line.put_bytes(&hart_digit(hart));
     line.put(" 0x");
     line.put_word(pc.value());
-    line.put_bytes(names.label(pc).as_bytes());
+    names.add_label(pc, line);
     line.put(" ");
     line.put_word(word);
     line.put(" ");
@@ -90,6 +93,7 @@ fn write_word(names: &Symbols<'_>, hart: HartId, pc: Addr, word: u32, line: &mut
 }
 
 /// Adds the register that was written, if one was, and its value.
+#[inline(always)]
 fn add_write(write: Option<(Reg, u32)>, line: &mut EntryLine)
     requires { length line.old ≤ 142 }
     ensures text { line.new ≡ line.old ++ spec.write_part write }
@@ -97,25 +101,25 @@ fn add_write(write: Option<(Reg, u32)>, line: &mut EntryLine)
 {
     if let Some((register, value)) = write {
         line.put(" | ");
-        line.put(register_name(register));
+        line.put_name(register_name(register));
         line.put("=0x");
         line.put_word(value);
     }
 }
 
 /// Adds an access, if there was one.
+#[inline(always)]
 fn add_access(name: &str, access: Option<Access>, line: &mut EntryLine)
     requires short { length name.now ≤ 5 }
-    requires room { length line.old ≤ 208 }
+    requires room { length line.old ≤ 200 }
     ensures text { line.new ≡ line.old ++ spec.access_part name.now access }
-    ensures longer { length line.new ≤ length line.old + 48 }
+    ensures longer { length line.new ≤ length line.old + 32 }
 {
     if let Some(access) = access {
-        let mut digits = Buffer::new();
         line.put(" | ");
         line.put(name);
         line.put(" ");
-        line.put(digits.format(byte_count(access.width)));
+        line.put_digit(byte_count(access.width));
         line.put(" 0x");
         line.put_word(access.addr.value());
         line.put("=0x");
@@ -136,6 +140,7 @@ pub(crate) fn cause_text(cause: Cause) -> ArrayString<40>
     text
 }
 
+#[inline(never)]
 fn write_aborted(hart: HartId, cause: AbortCause, line: &mut EntryLine)
     requires { line.old ≡ [] }
     ensures { line.new ≡ entry_line no_symbols (Abort hart cause) }
@@ -166,6 +171,7 @@ fn named(name: &str) -> ArrayString<40>
     text
 }
 
+#[inline(never)]
 fn write_trapped(names: &Symbols<'_>, hart: HartId, cause: Cause, pc: Addr, line: &mut EntryLine)
     requires { line.old ≡ [] }
     ensures { line.new ≡ entry_line names.now (Trap hart cause pc) }
@@ -175,10 +181,11 @@ fn write_trapped(names: &Symbols<'_>, hart: HartId, cause: Cause, pc: Addr, line
     line.put(cause_text(cause).as_str());
     line.put(" at 0x");
     line.put_word(pc.value());
-    line.put_bytes(names.label(pc).as_bytes());
+    names.add_label(pc, line);
     line.put("\n");
 }
 
+#[inline(never)]
 fn write_refused(hart: HartId, requester: HartId, block: BlockNo, line: &mut EntryLine)
     requires { line.old ≡ [] }
     ensures { line.new ≡ entry_line no_symbols (Refuse hart requester block) }
@@ -191,6 +198,7 @@ fn write_refused(hart: HartId, requester: HartId, block: BlockNo, line: &mut Ent
     line.put("\n");
 }
 
+#[inline(never)]
 fn write_spilled(hart: HartId, block: BlockNo, line: &mut EntryLine)
     requires { line.old ≡ [] }
     ensures { line.new ≡ entry_line no_symbols (Spill hart block) }

@@ -1,4 +1,4 @@
-ghost use Rattle.std.specs.Prelude.{◌≡◌, ◌≤◌, ◌++◌, length, codes};
+ghost use Rattle.std.specs.Prelude.{◌≡◌, ◌≤◌, ◌++◌, true, false, length, codes};
 ghost use Rattle.words.specs.declared.message.Message.TheVariants.{Get, Put, Done, Grant, Forward, Ack, Nack};
 ghost use Rattle.texts.specs.Puts.{Puts};
 ghost use Rattle.render.specs.Messages as spec;
@@ -10,6 +10,17 @@ use words::{Block, BlockNo, HartId, HartSet, Kind, LineState, Message, Sink, Sin
 
 /// A message: its sort, the hart that it is from or goes to from the directory, its block, and what else it says.
 pub fn message_text(message: &Message) -> ArrayString<96>
+    ensures { result.bytes ≡ spec.message_text message.now }
+{
+    match message {
+        Message::Get { .. } | Message::Put { .. } | Message::Done { .. } => to_directory(message),
+        _ => to_hart(message),
+    }
+}
+
+/// A message that goes to the directory.
+fn to_directory(message: &Message) -> ArrayString<96>
+    requires { spec.is_to_directory message.now ≡ true }
     ensures { result.bytes ≡ spec.message_text message.now }
 {
     match *message {
@@ -31,6 +42,16 @@ pub fn message_text(message: &Message) -> ArrayString<96>
             ok,
             content,
         } => done(from, block, ok, content),
+        _ => unreachable!(),
+    }
+}
+
+/// A message that goes to a hart.
+fn to_hart(message: &Message) -> ArrayString<96>
+    requires { spec.is_to_directory message.now ≡ false }
+    ensures { result.bytes ≡ spec.message_text message.now }
+{
+    match *message {
         Message::Grant {
             to,
             block,
@@ -58,6 +79,7 @@ pub fn message_text(message: &Message) -> ArrayString<96>
             block,
             stamp,
         } => nack(from, to, block, stamp),
+        _ => unreachable!(),
     }
 }
 

@@ -7,10 +7,11 @@ use Rattle.protocol.specs.Caches.{Geometry}
 use Rattle.machine.specs.States.{State, setting_of, shown}
 use Rattle.machine.specs.Turns.{IsNextTurn, hart_after}
 use Rattle.schedule.specs.declared.choices.Choice.{Choice}
+use Rattle.schedule.specs.Begun.{GivesAll, HasMade}
 use Rattle.schedule.specs.Courses.{Behind, Turns, Chance, course, forgotten, IsAtRest, IsChosen, IsNextOf, IsNoneNext, IsUnbegun}
 use Rattle.schedule.specs.Moments.{Moment, moment, entries_of}
 use Rattle.schedule.specs.Runs.{Makes, TookTurns, TakesTurns, TakesChosen, FollowsThen, Plays}
-use Rattle.schedule.proofs.Making.{GivesAll, HasMade, gives_more, leads}
+use Rattle.schedule.proofs.Making.{gives_more, leads}
 
 -- k steps were made, of which the last were turns: what is made by further turns is made by all
 pub record HasTurned (g : Geometry) (all : List Choice) (k : ℕ) (v w : State) (after : ℕ) (ms : List Moment) : Type 0 where

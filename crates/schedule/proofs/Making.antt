@@ -6,20 +6,16 @@ use Rattle.std.proofs.lemmas.List.Concat.{flat_map-append}
 use Rattle.words.specs.declared.entry.Entry.{Entry}
 use Rattle.words.specs.declared.entry.Step.{Step}
 use Rattle.protocol.specs.Caches.{Geometry}
-use Rattle.protocol.specs.Machine.{Runs}
 use Rattle.protocol.proofs.Splits.{runs_then}
 use Rattle.isolation.specs.Reasons.{LeadOn}
 use Rattle.isolation.proofs.Leading.{run_leads_on}
 use Rattle.machine.specs.States.{State, setting_of, shown}
 use Rattle.machine.proofs.Made.{steps_of}
 use Rattle.schedule.specs.declared.choices.Choice.{Choice}
+use Rattle.schedule.specs.Begun.{GivesAll, HasMade}
 use Rattle.schedule.specs.Moments.{Moment, moments, entries_of}
 use Rattle.schedule.specs.Runs.{Makes, last_after, FollowsThen}
 use Rattle.schedule.specs.Steps.{IsStepOf}
-
--- some steps of the protocol's machine give these entries
-abbrev pub GivesAll : Geometry → State → List Entry → State → Type 0
-GivesAll g v es w = (steps : List Step) × Runs g (shown g.sets v) steps es (shown g.sets w)
 
 pub leads : (g : Geometry) (v w : State) (es : List Entry) → GivesAll g v es w → LeadOn g (shown g.sets v) es (shown g.sets w)
 leads g v w es (steps, runs) = run_leads_on g (shown g.sets v) (shown g.sets w) steps es runs
@@ -39,11 +35,6 @@ entries_both ms ns = flat_map-append (λ (m : Moment). option_to_list m.entry) m
 pub entries_one : (g : Geometry) (v w : State) (step : Option Step) (e : Option Entry) → Makes g v step e w → option_to_list e ≡ entries_of (moments v step e w)
 entries_one g v w None e (none, same) = ap option_to_list none
 entries_one g v w (Some step) e made = sym (append-nil (option_to_list e))
-
--- k steps of a list were made with these moments, and the last core step was this hart's: what is made by further steps is made by all, whatever comes behind the list
-pub record HasMade (g : Geometry) (all : List Choice) (k : ℕ) (v w : State) (after : ℕ) (ms : List Moment) : Type 0 where
-  pub goes_on : (r : Option (List Choice)) (m : ℕ) (more : List Moment) (z : State) → FollowsThen r g (drop k all) m w after more z → FollowsThen r g all (k + m) v ((setting_of v).count - 1) (ms ++ more) z
-  pub gives : GivesAll g v (entries_of ms) w
 
 pub made_none : (g : Geometry) (all : List Choice) (v : State) → HasMade g all 0 v v ((setting_of v).count - 1) []
 made_none g all v = record {

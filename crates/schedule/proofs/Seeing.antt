@@ -1,5 +1,5 @@
 -- A run whose moments are seen as its steps are made.
-use Rattle.std.proofs.Common.{◌≡◌, ◌<◌, ◌≤◌, ◌+◌, ◌-◌, ◌++◌, ℕ, inl, inr, List, [], ◌∷◌, length, get_or, Option, Some, None, refl, sym, ap, ◌∙◌, subst, subst₂, append_assoc, arith}
+use Rattle.std.proofs.Common.{◌≡◌, ◌<◌, ◌≤◌, ◌+◌, ◌-◌, ◌++◌, ◌⊎◌, ℕ, zero, suc, inl, inr, List, [], ◌∷◌, length, get_or, Option, Some, None, refl, sym, ap, ◌∙◌, subst, subst₂, append_assoc, arith}
 use Rattle.std.specs.List.{FoldsTo}
 use Rattle.std.proofs.lemmas.Fn.{FoldsTo-push}
 use Rattle.std.proofs.lemmas.List.{append-nil}
@@ -12,31 +12,28 @@ use Rattle.machine.specs.Turns.{hart_after}
 use Rattle.schedule.specs.declared.choices.Choice.{Choice}
 use Rattle.schedule.specs.declared.halt.Halt.{Halt}
 use Rattle.schedule.specs.declared.halt.Halt.TheVariants.{NoMemory, Untold}
+use Rattle.schedule.specs.Begun.{HasMade, HasSeen, HasBegun}
 use Rattle.schedule.specs.Courses.{Behind, Turns, Chance, course, forgotten, IsNoneNext, IsUnbegun}
 use Rattle.schedule.specs.Moments.{Moment, moment}
 use Rattle.schedule.specs.Observed.{Sight, MakesSeen, StopsAt, GoesSeen, GoesUnseen, MoreSeen, IsSeen, IsHalted, joined}
 use Rattle.schedule.specs.Runs.{last_after, Plays}
 use Rattle.schedule.specs.Steps.{IsStepOf}
-use Rattle.schedule.proofs.Making.{HasMade, made_none, made_choice}
+use Rattle.schedule.proofs.Making.{made_none, made_choice}
 use Rattle.schedule.proofs.Going.{HasTurned, HasGone, forget, gone_first, gone_idle, gone_more, gone_whole, played, turned_on}
 
 joined_more : (groups : List (List Moment)) (ms : List Moment) → joined groups ++ ms ≡ joined (groups ++ ms ∷ [])
 joined_more groups ms = ap (λ (l : List Moment). joined groups ++ l) (sym (append-nil ms)) ∙ sym (flat_map-append (λ (l : List Moment). l) groups (ms ∷ []))
 
 module _ {L : Type 0} (saw missed : Sight L) (g : Geometry) (all : List Choice) where
-  -- k choices of the list were made, the last core step was this hart's, and their moments were seen
-  abbrev pub HasSeen : ℕ → State → State → ℕ → L → L → Type 0
-  HasSeen k v w after x y = (groups : List (List Moment)) × HasMade g all k v w after (joined groups) × FoldsTo saw x groups y
-
-  -- the same of all of them, and of steps behind them
+  -- the choices of the list were made, and steps behind them, and their moments were seen
   abbrev pub HasSeenMore : Behind → ℕ → State → State → ℕ → L → L → Type 0
   HasSeenMore b k v w after x y = (groups : List (List Moment)) × HasGone g all b k v w after (joined groups) × FoldsTo saw x groups y
 
-  pub seen_none : (v : State) (after : ℕ) (x : L) → after ≡ (setting_of v).count - 1 → HasSeen 0 v v after x x
+  pub seen_none : (v : State) (after : ℕ) (x : L) → after ≡ (setting_of v).count - 1 → HasSeen saw g all 0 v v after x x
   seen_none v after x is = ([], subst (λ (a : ℕ). HasMade g all 0 v v a []) (sym is) (made_none g all v), refl)
 
   -- the list so far, and all that there is
-  pub seen_list : (b : Behind) (k : ℕ) (v w : State) (after : ℕ) (x y : L) → IsUnbegun b → HasSeen k v w after x y → IsSeen saw g (course all b) k v w x y
+  pub seen_list : (b : Behind) (k : ℕ) (v w : State) (after : ℕ) (x y : L) → IsUnbegun b → HasSeen saw g all k v w after x y → IsSeen saw g (course all b) k v w x y
   seen_list b k v w after x y unbegun (groups, made, sight) = (groups, played g all k v w after (joined groups) b unbegun made, sight)
 
   -- the steps so far, and all that there are
@@ -47,8 +44,26 @@ module _ {L : Type 0} (saw missed : Sight L) (g : Geometry) (all : List Choice) 
   seen_idle b k n v w after x y within (groups, gone, sight) none = (groups, gone_idle g all k v w after (joined groups) n within b gone none, sight)
 
   -- what comes behind the list begins
-  pub seen_first : (b : Behind) (k : ℕ) (v w : State) (after : ℕ) (x y : L) → IsUnbegun b → length all ≤ k → HasSeen k v w after x y → HasSeenMore b k v w after x y
+  pub seen_first : (b : Behind) (k : ℕ) (v w : State) (after : ℕ) (x y : L) → IsUnbegun b → length all ≤ k → HasSeen saw g all k v w after x y → HasSeenMore b k v w after x y
   seen_first b k v w after x y unbegun end (groups, made, sight) = (groups, gone_first g all k v w after (joined groups) end made b unbegun, sight)
+
+  -- n steps, of which these are left, were begun with the list: none is left, or the others were made of the list and behind it
+  abbrev pub HasSeenSoFar : Behind → ℕ → ℕ → State → State → ℕ → L → L → Type 0
+  HasSeenSoFar b n left v w after x y = ((left ≡ 0) × IsSeen saw g (course all b) n v w x y) ⊎ ((k : ℕ) × HasSeenMore b k v w after x y × (k + left ≡ n))
+
+  pub seen_begun : (b : Behind) (n left : ℕ) (v w : State) (after : ℕ) (x y : L) → IsUnbegun b → HasBegun saw g all n v w after left x y → HasSeenSoFar b n left v w after x y
+  seen_begun b n zero v w after x y unbegun (k, seen, count, end) =
+      let whole : k ≡ n = omega (arith, count) in
+      inl (refl, subst (λ (i : ℕ). IsSeen saw g (course all b) i v w x y) whole (seen_list b k v w after x y unbegun seen))
+  seen_begun b n (suc left) v w after x y unbegun (k, seen, count, end) = inr (k, seen_first b k v w after x y unbegun (end (omega arith)) seen, count)
+
+  pub seen_left : (b : Behind) (n left : ℕ) (v w : State) (after : ℕ) (x y : L) → 0 < left → HasSeenSoFar b n left v w after x y → (k : ℕ) × HasSeenMore b k v w after x y × (k + left ≡ n)
+  seen_left b n left v w after x y some (inl (none, seen)) = absurd (omega (arith, some, none))
+  seen_left b n left v w after x y some (inr so_far) = so_far
+
+  pub seen_whole : (b : Behind) (n left : ℕ) (v w : State) (after : ℕ) (x y : L) → left ≤ 0 → HasSeenSoFar b n left v w after x y → IsSeen saw g (course all b) n v w x y
+  seen_whole b n left v w after x y none (inl (over, seen)) = seen
+  seen_whole b n left v w after x y none (inr (k, seen, count)) = seen_all b k n v w after x y (omega (arith, none, count)) seen
 
   -- no further step was made
   module _ (k n : ℕ) (v u w : State) (x y z : L) (less : k < n) (same : w ≡ u) (kept : z ≡ y) where
@@ -65,9 +80,9 @@ module _ {L : Type 0} (saw missed : Sight L) (g : Geometry) (all : List Choice) 
 
   -- Within the list
 
-  module _ (k : ℕ) (v u w : State) (after : ℕ) (x y z : L) (before : HasSeen k v u after x y) where
+  module _ (k : ℕ) (v u w : State) (after : ℕ) (x y z : L) (before : HasSeen saw g all k v u after x y) where
     -- one more choice
-    pub seen_choice : (c : Choice) (step : Option Step) → k < length all → c ≡ get_or all k c → IsStepOf g.sets u after c step → MakesSeen saw g u step w y z → HasSeen (k + 1) v w (last_after step after) x z
+    pub seen_choice : (c : Choice) (step : Option Step) → k < length all → c ≡ get_or all k c → IsStepOf g.sets u after c step → MakesSeen saw g u step w y z → HasSeen saw g all (k + 1) v w (last_after step after) x z
     seen_choice c None inside is chosen (same, kept) =
         let made : HasMade g all (k + 1) v w after (joined before.0 ++ []) = made_choice g all k v u w after (joined before.0) c None None inside is before.1 chosen (refl, same) in
         (before.0, subst (λ (l : List Moment). HasMade g all (k + 1) v w after l) (append-nil (joined before.0)) made, subst (λ (l : L). FoldsTo saw x before.0 l) (sym kept) before.2)

@@ -5,6 +5,7 @@ pub mod Moments
 pub mod Courses
 pub mod Runs
 pub mod Observed
+pub mod Begun
 pub mod Written
 pub mod Histories
 pub mod Twins

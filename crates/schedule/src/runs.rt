@@ -2,7 +2,8 @@ ghost use Rattle.std.specs.Prelude.{ℕ, ◌≡◌, ◌≤◌, Option, Some, Non
 ghost use Rattle.words.specs.declared.entry.Step.{Step as StepValue};
 ghost use Rattle.machine.specs.States.{geometry};
 ghost use Rattle.machine.specs.Turns.{IsQuiescent, hart_after};
-ghost use Rattle.schedule.specs.Courses.{IsNoneNext, IsUnbegun, course, forgotten};
+ghost use Rattle.schedule.specs.Begun.{HasBegun};
+ghost use Rattle.schedule.specs.Courses.{Behind, IsNoneNext, IsUnbegun, course, forgotten};
 ghost use Rattle.schedule.specs.Observed.{MakesSeen, StopsAt, GoesSeen, GoesUnseen, MoreSeen, IsSeen, IsHalted};
 ghost use Rattle.schedule.specs.Runs.{last_after};
 ghost use Rattle.schedule.specs.Steps.{IsStepOf};
@@ -72,6 +73,45 @@ fn go_on<
     }))
 }
 
+/// How far the choices of a list led.
+#[derive(Clone, Copy)]
+struct Begun {
+    /// The hart of the last core step.
+    hart: HartId,
+    /// How many steps are left.
+    left: u32,
+    /// After how many steps progress is due.
+    due: u32,
+}
+
+/// Makes the choices in order, so many steps at most: each is made, enabled or not, and counts as a step.
+fn make_choices<const SETS: usize, const WAYS: usize, L, O: Observer<SETS, WAYS, L>, P: Progress>(
+    machine: &mut Machine<SETS, WAYS>,
+    choices: &[Choice],
+    steps: u32,
+    observer: &O,
+    log: &mut L,
+    progress: &mut P,
+) -> Result<Begun, Halt>
+    ensures { MatchResult result
+        (λ begun. HasBegun (O.saw observer.now) (geometry SETS WAYS) choices.now steps machine.old machine.new begun.hart begun.left log.old log.new)
+        (λ halt. (behind : Behind) → IsUnbegun behind →
+        IsHalted (O.saw observer.now) (O.missed observer.now) (geometry SETS WAYS) (course choices.now (forgotten behind)) steps machine.old machine.new log.old log.new halt) }
+{
+    let mut hart = machine.last_hart();
+    let mut left = steps;
+    let mut due = PROGRESS_INTERVAL;
+    for choice in choices {
+        if left == 0 {
+            break;
+        }
+        hart = choose(machine, choice, hart, observer, log)?;
+        left -= 1;
+        due = machine.note_progress(1, due, progress);
+    }
+    Ok(Begun { hart, left, due })
+}
+
 /// Makes the choices in order, so many steps at most: each is made, enabled or not, and counts as a step. Behind the last of them come the steps that
 /// the chooser gives. An observer sees each moment before the next step. Progress is told on the way.
 ///
@@ -98,21 +138,13 @@ pub fn run<
         (IsHalted (O.saw observer.now) (O.missed observer.now) (geometry SETS WAYS) (course choices.now (forgotten (C.behind chooser.new)))
         steps machine.old machine.new log.old log.new) }
 {
-    let mut hart = machine.last_hart();
-    let mut left = steps;
-    let mut due = PROGRESS_INTERVAL;
-    for choice in choices {
-        if left == 0 {
-            return Ok(());
-        }
-        hart = choose(machine, choice, hart, observer, log)?;
-        left -= 1;
-        due = machine.note_progress(1, due, progress);
-    }
+    let begun = make_choices(machine, choices, steps, observer, log, progress)?;
     let mut last = Turned {
-        hart,
+        hart: begun.hart,
         quiescent: false,
     };
+    let mut left = begun.left;
+    let mut due = begun.due;
     while left > 0 {
         let Some(next) = go_on(machine, last, chooser, observer, log)? else {
             return Ok(());

@@ -1,6 +1,5 @@
 -- A run by turns or by chance, from what its parts came to.
-use Rattle.std.proofs.Common.{◌≡◌, ◌++◌, ℕ, List, Some, None, Ok, Err, inl, inr, refl, sym, subst, ap, ap₂, ◌∙◌}
-use Rattle.words.specs.declared.sink.SinkFault.{SinkFault}
+use Rattle.std.proofs.Common.{◌≡◌, ◌++◌, ℕ, List, Some, None, Result, Ok, Err, MatchResult, inl, inr, refl, sym, subst, ap, ap₂, ◌∙◌}
 use Rattle.words.specs.Sinks.{SinkState, TookAll, TookPart}
 use Rattle.command_line.specs.declared.request.Run.{Run}
 use Rattle.command_line.specs.declared.request.Show.{Show}
@@ -21,11 +20,10 @@ use Rattle.watch.specs.Kinds.{count_at, number_of}
 use Rattle.watch.specs.Traffic.{figure_at, figure_of}
 use Rattle.watch.specs.Runs.{IsTally}
 use Rattle.watch.proofs.SameTexts.{same_table, same_csv, same_machine_table, same_machine_lines}
-use Rattle.texts.specs.Puts.{Puts}
 use Rattle.texts.proofs.Putting.{took-both, took-then-part, took-part-longer}
 use Rattle.requests.specs.Begins.{IsBegunBy, IsUnbegun}
 use Rattle.requests.specs.Conclusions.{IsConcluded, IsHalfConcluded}
-use Rattle.simulate.specs.Counted.{AreCounts, behind_report, counts_part, counts_text}
+use Rattle.simulate.specs.Counted.{AreCounts, IsEnded, IsHalfEnded, behind_report, counts_part, counts_text}
 use Rattle.simulate.specs.Given.{AreTextsOf, IsGiven, IsNotGiven}
 use Rattle.render.specs.Reports.{AllReadable, report_of}
 use Rattle.requests.specs.Sources.{names_in}
@@ -143,7 +141,7 @@ module _ (g : Geometry) (run : Run) (b : Behind) (show : Show) (file list : List
         )
 
     -- a put of the report failed
-    pub half_reported : (output : SinkState) (fault : Fault) → IsHalfConcluded g w words middle.output output fault
+    half_reported : (output : SinkState) (fault : Fault) → IsHalfConcluded g w words middle.output output fault
         → IsNotGiven g run (forgotten b) show file list before (record { output = output; file = middle.file }) fault
     half_reported output fault (unwritten, of) =
         let half = of e.end e.belongs in
@@ -151,28 +149,35 @@ module _ (g : Geometry) (run : Run) (b : Behind) (show : Show) (file list : List
         let part = took-then-part before.output middle.output output pre.output (report ++ behind) taken.output (took-part-longer middle.output output report behind half.2) in
         inr (inr (inr (inr (unwritten, (whole, half.0, early_texts half.0 (texts half.0 half.1), part, taken.file)))))
 
-    module _ (reported : SinkState) (status : ℕ) (concluded : IsConcluded g w words middle.output reported status) (harts : ℕ) (count : harts ≡ (setting_of w).count) where
+    module _ (reported : SinkState) (status : ℕ) (concluded : IsConcluded g w words middle.output reported status) where
       abbrev of_end : IsStatusOf e.end status × TookAll middle.output reported report
       of_end = concluded.1 e.end e.belongs
 
-      behind_as : counts_part show counts harts ≡ behind_report show g.sets (setting_of e.comes.first).count ms
-      behind_as = put_as show g.sets ms counts harts (setting_of e.comes.first).count shown_all.2
-          (count ∙ ap (λ (s : Setting). s.count) (sym (same_setting g e.end w e.belongs) ∙ e.same) ∙ ap (λ (s : State). (setting_of s).count) (sym e.first))
+      behind_as : counts_part show counts (setting_of w).count ≡ behind_report show g.sets (setting_of e.comes.first).count ms
+      behind_as = put_as show g.sets ms counts (setting_of w).count (setting_of e.comes.first).count shown_all.2
+          (ap (λ (s : Setting). s.count) (sym (same_setting g e.end w e.belongs) ∙ e.same) ∙ ap (λ (s : State). (setting_of s).count) (sym e.first))
 
       -- all was put
-      pub given : (output : SinkState) → Puts reported output (counts_part show counts harts) (Ok tt)
+      given : (output : SinkState) → TookAll reported output (counts_part show counts (setting_of w).count)
           → IsGiven g run b show file list before (record { output = output; file = middle.file }) status
-      given output puts =
+      given output took =
           let behind = behind_report show g.sets (setting_of e.comes.first).count ms in
-          let last : TookAll reported output behind = subst (λ (text : List ℕ). TookAll reported output text) behind_as (record { whole = puts.whole; clean = puts.clean }) in
+          let last : TookAll reported output behind = subst (λ (text : List ℕ). TookAll reported output text) behind_as took in
           let all = took-both before.output middle.output output pre.output (report ++ behind) taken.output (took-both middle.output reported output report behind of_end.1 last) in
           (concluded.0, (whole, texts status of_end.0, record { output = all; file = taken.file }))
 
       -- a put of the counts failed
-      pub half_counted : (output : SinkState) (e' : SinkFault) → Puts reported output (counts_part show counts harts) (Err e')
-          → IsNotGiven g run (forgotten b) show file list before (record { output = output; file = middle.file }) Unwritten
-      half_counted output e' puts =
+      half_counted : (output : SinkState) (fault : Fault) → fault ≡ Unwritten → TookPart reported output (counts_part show counts (setting_of w).count)
+          → IsNotGiven g run (forgotten b) show file list before (record { output = output; file = middle.file }) fault
+      half_counted output fault unwritten took =
           let behind = behind_report show g.sets (setting_of e.comes.first).count ms in
-          let last : TookPart reported output behind = subst (λ (text : List ℕ). TookPart reported output text) behind_as (record { part = puts.part; fault = puts.fault }) in
+          let last : TookPart reported output behind = subst (λ (text : List ℕ). TookPart reported output text) behind_as took in
           let part = took-then-part before.output middle.output output pre.output (report ++ behind) taken.output (took-then-part middle.output reported output report behind of_end.1 last) in
-          inr (inr (inr (inr (refl, (whole, status, early_texts status (texts status of_end.0), part, taken.file)))))
+          inr (inr (inr (inr (unwritten, (whole, status, early_texts status (texts status of_end.0), part, taken.file)))))
+
+    -- what came of the report and the counts is what comes of the run
+    pub ended : (output : SinkState) (r : Result ℕ Fault) → MatchResult r (IsEnded g w words show counts middle.output output) (IsHalfEnded g w words show counts middle.output output)
+        → MatchResult r (IsGiven g run b show file list before (record { output = output; file = middle.file })) (IsNotGiven g run (forgotten b) show file list before (record { output = output; file = middle.file }))
+    ended output (Ok status) (reported, concluded, took) = given reported status concluded output took
+    ended output (Err fault) (inl half) = half_reported output fault half
+    ended output (Err fault) (inr (unwritten, (reported, status, concluded, part))) = half_counted reported status concluded output fault unwritten part

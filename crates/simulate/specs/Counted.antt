@@ -1,5 +1,8 @@
 -- The counts behind a report.
-use Rattle.std.specs.Prelude.{ℕ, ◌++◌, List, []}
+use Rattle.std.specs.Prelude.{ℕ, ◌≡◌, ◌⊎◌, ◌++◌, List, []}
+use Rattle.words.specs.Sinks.{SinkState, TookAll, TookPart}
+use Rattle.protocol.specs.Caches.{Geometry}
+use Rattle.machine.specs.States.{State, setting_of}
 use Rattle.command_line.specs.declared.request.Show.{Show}
 use Rattle.command_line.specs.declared.request.Show.TheVariants.{Counts}
 use Rattle.command_line.specs.declared.request.Stats.{Stats}
@@ -13,6 +16,9 @@ use Rattle.watch.specs.Traffic.{figure_at, figure_of}
 use Rattle.watch.specs.Runs.{IsTally}
 use Rattle.watch.specs.CountTexts.{table, csv}
 use Rattle.watch.specs.MachineTexts.{machine_table, machine_lines}
+use Rattle.requests.specs.Conclusions.{IsConcluded, IsHalfConcluded}
+use Rattle.requests.specs.declared.fault.Fault.{Fault}
+use Rattle.requests.specs.declared.fault.Fault.TheVariants.{Unwritten}
 
 -- the counts of so many harts, and what is told of the machine, in a form
 abbrev pub counts_text : Stats → (ℕ → Kind → ℕ) → ℕ → (Figure → ℕ) → List ℕ
@@ -33,3 +39,13 @@ counts_part other t harts = []
 abbrev pub AreCounts : Show → ℕ → List Moment → Tally → Type 0
 AreCounts (Counts form) sets ms t = IsTally sets ms t
 AreCounts other sets ms t = Unit {0}
+
+module _ (g : Geometry) (m : State) (words : List ℕ) (show : Show) (counts : Tally) (before after : SinkState) where
+  -- the report on a machine was put, and behind it the counts of its harts, where they are shown; the status goes with the report
+  abbrev pub IsEnded : ℕ → Type 0
+  IsEnded status = (middle : SinkState) × IsConcluded g m words before middle status × TookAll middle after (counts_part show counts (setting_of m).count)
+
+  -- or a put failed: a beginning of the report was taken, or of the counts behind it
+  abbrev pub IsHalfEnded : Fault → Type 0
+  IsHalfEnded fault = IsHalfConcluded g m words before after fault
+      ⊎ ((fault ≡ Unwritten) × ((middle : SinkState) × (status : ℕ) × IsConcluded g m words before middle status × TookPart middle after (counts_part show counts (setting_of m).count)))

@@ -6,13 +6,13 @@ ghost use Rattle.requests.specs.FileRequests.{cache_of};
 ghost use Rattle.simulate.specs.Carried.{IsCarriedOut, IsDoneOn, IsNotDoneOn, RunGives, RunFails, asked_for};
 
 use crate::debugging::play_by_hand;
-use crate::kept::{chance_of, run_and_keep};
+use crate::kept::{run_and_keep, run_by_chance};
 use crate::steps::run_by_steps;
 use crate::threads::run_in_threads;
 use command_line::{Cache, Request, Run, Way};
 use debugger::LineInput;
 use requests::{Fault, Live, Outcome, Page, on_file};
-use schedule::{Chance, Turns};
+use schedule::Turns;
 use std::alloc::Global;
 use std::sync::Wait;
 use std::thread::Threads;
@@ -75,40 +75,26 @@ fn try_carry_out<'a, R: Threads + Wait + Sync, I: LineInput, P: Live, T: Page, O
         (record { output = O.state out.old; file = T.state chart.old.sink }) (record { output = O.state out.new; file = T.state chart.new.sink })
         request.now fault × IsUntouched (E.state error.old) (E.state error.new)) }
 {
+    // Each size has the machine's code compiled once more.
+    macro_rules! on_caches {
+        ($sets:literal, $ways:literal) => {
+            on_machine::<$sets, $ways, R, I, P, T, O, E>(
+                rt, alloc, request, file, schedule, input, prompt, progress, chart, out, error,
+            )
+        };
+    }
     match cache_of(request) {
-        Some(Cache::OneByOne) => on_machine::<1, 1, R, I, P, T, O, E>(
-            rt, alloc, request, file, schedule, input, prompt, progress, chart, out, error,
-        ),
-        Some(Cache::OneByTwo) => on_machine::<1, 2, R, I, P, T, O, E>(
-            rt, alloc, request, file, schedule, input, prompt, progress, chart, out, error,
-        ),
-        Some(Cache::Small) => on_machine::<2, 1, R, I, P, T, O, E>(
-            rt, alloc, request, file, schedule, input, prompt, progress, chart, out, error,
-        ),
-        Some(Cache::TwoByTwo) => on_machine::<2, 2, R, I, P, T, O, E>(
-            rt, alloc, request, file, schedule, input, prompt, progress, chart, out, error,
-        ),
-        Some(Cache::FourByOne) => on_machine::<4, 1, R, I, P, T, O, E>(
-            rt, alloc, request, file, schedule, input, prompt, progress, chart, out, error,
-        ),
-        Some(Cache::FourByTwo) => on_machine::<4, 2, R, I, P, T, O, E>(
-            rt, alloc, request, file, schedule, input, prompt, progress, chart, out, error,
-        ),
-        Some(Cache::EightByTwo) => on_machine::<8, 2, R, I, P, T, O, E>(
-            rt, alloc, request, file, schedule, input, prompt, progress, chart, out, error,
-        ),
-        Some(Cache::EightByFour) => on_machine::<8, 4, R, I, P, T, O, E>(
-            rt, alloc, request, file, schedule, input, prompt, progress, chart, out, error,
-        ),
-        Some(Cache::Normal) => on_machine::<16, 4, R, I, P, T, O, E>(
-            rt, alloc, request, file, schedule, input, prompt, progress, chart, out, error,
-        ),
-        Some(Cache::SixtyFourByFour) => on_machine::<64, 4, R, I, P, T, O, E>(
-            rt, alloc, request, file, schedule, input, prompt, progress, chart, out, error,
-        ),
-        Some(Cache::SixtyFourByEight) => on_machine::<64, 8, R, I, P, T, O, E>(
-            rt, alloc, request, file, schedule, input, prompt, progress, chart, out, error,
-        ),
+        Some(Cache::OneByOne) => on_caches!(1, 1),
+        Some(Cache::OneByTwo) => on_caches!(1, 2),
+        Some(Cache::Small) => on_caches!(2, 1),
+        Some(Cache::TwoByTwo) => on_caches!(2, 2),
+        Some(Cache::FourByOne) => on_caches!(4, 1),
+        Some(Cache::FourByTwo) => on_caches!(4, 2),
+        Some(Cache::EightByTwo) => on_caches!(8, 2),
+        Some(Cache::EightByFour) => on_caches!(8, 4),
+        Some(Cache::Normal) => on_caches!(16, 4),
+        Some(Cache::SixtyFourByFour) => on_caches!(64, 4),
+        Some(Cache::SixtyFourByEight) => on_caches!(64, 8),
         None => on_file(alloc, request, file, progress, &mut chart.sink, out),
     }
 }
@@ -125,17 +111,7 @@ fn cache_of(request: &Request<'_>) -> Option<Cache>
 }
 
 /// Carries out a request on a machine with caches of SETS sets of WAYS ways.
-fn on_machine<
-    'a,
-    const SETS: usize,
-    const WAYS: usize,
-    R: Threads + Wait + Sync,
-    I: LineInput,
-    P: Live,
-    T: Page,
-    O: Sink,
-    E: Sink,
->(
+fn on_machine<'a, const SETS: usize, const WAYS: usize, R, I, P: Live, T: Page, O: Sink, E: Sink>(
     rt: &R,
     alloc: Global,
     request: &Request<'a>,
@@ -148,6 +124,9 @@ fn on_machine<
     out: &mut O,
     error: &mut E,
 ) -> Result<Outcome, Fault<'a>>
+where
+    R: Threads + Wait + Sync,
+    I: LineInput,
     requires sets { 0 < SETS }
     requires ways { 0 < WAYS }
     requires lines { SETS * WAYS < 2 ^ 32 }
@@ -176,15 +155,7 @@ fn on_machine<
 }
 
 /// Makes a run in its way.
-fn make_run<
-    'a,
-    const SETS: usize,
-    const WAYS: usize,
-    R: Threads + Wait + Sync,
-    P: Live,
-    T: Page,
-    O: Sink,
->(
+fn make_run<'a, const SETS: usize, const WAYS: usize, R, P: Live, T: Page, O: Sink>(
     rt: &R,
     alloc: Global,
     run: &Run<'a>,
@@ -194,6 +165,8 @@ fn make_run<
     chart: &mut Chart<T>,
     out: &mut O,
 ) -> Result<u8, Fault<'a>>
+where
+    R: Threads + Wait + Sync,
     requires sets { 0 < SETS }
     requires ways { 0 < WAYS }
     requires lines { SETS * WAYS < 2 ^ 32 }
@@ -207,16 +180,8 @@ fn make_run<
         Way::Turns { show, .. } => run_by_steps::<SETS, WAYS, Turns, P, T, O>(
             alloc, run, show, &mut Turns, file, schedule, progress, chart, out,
         ),
-        Way::Chance { chance, show, .. } => run_by_steps::<SETS, WAYS, Chance, P, T, O>(
-            alloc,
-            run,
-            show,
-            &mut chance_of(chance),
-            file,
-            schedule,
-            progress,
-            chart,
-            out,
+        Way::Chance { chance, show, .. } => run_by_chance::<SETS, WAYS, P, T, O>(
+            alloc, run, chance, show, file, schedule, progress, chart, out,
         ),
         Way::Kept {
             chance,
@@ -226,14 +191,9 @@ fn make_run<
         } => run_and_keep::<SETS, WAYS, P, T, O>(
             alloc, run, chance, history, print, file, schedule, progress, chart, out,
         ),
-        Way::Threads { history } => run_in_threads::<SETS, WAYS, R, T, O>(
-            rt,
-            alloc,
-            run,
-            history,
-            file,
-            &mut chart.sink,
-            out,
-        ),
+        Way::Threads { history } => {
+            let page = &mut chart.sink;
+            run_in_threads::<SETS, WAYS, R, T, O>(rt, alloc, run, history, file, page, out)
+        }
     }
 }

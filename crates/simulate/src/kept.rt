@@ -1,11 +1,15 @@
-//! A run by chance whose history is written.
-ghost use Rattle.std.specs.Prelude.{◌≡◌, ◌<◌, ◌*◌, ◌^◌, ◌++◌, MatchResult, take};
+//! A run by chance, and one whose history is written.
+ghost use Rattle.std.specs.Prelude.{◌≡◌, ◌<◌, ◌*◌, ◌^◌, ◌++◌, MatchResult, None, take};
 ghost use Rattle.words.specs.Sinks.{TookAll};
 ghost use Rattle.command_line.specs.Runs.{shown};
 ghost use Rattle.machine.specs.States.{geometry};
+ghost use Rattle.schedule.specs.Courses as behind;
 ghost use Rattle.schedule.specs.Written.{text_of};
 ghost use Rattle.texts.specs.Puts.{Puts};
+ghost use Rattle.requests.specs.Begins.{IsUnbegun};
 ghost use Rattle.requests.specs.Conclusions.{IsHistoryUnput};
+ghost use Rattle.requests.specs.Schedules.{AreChosenBy};
+ghost use Rattle.simulate.specs.Given.{IsGiven, IsNotGiven};
 ghost use Rattle.simulate.specs.Kept.{IsGivenAndKept, IsNotGivenOrKept};
 
 use crate::steps::run_by_steps;
@@ -19,7 +23,7 @@ use timeline::Chart;
 use words::{Sink, SinkFault};
 
 /// Chance as it is asked for.
-pub(crate) fn chance_of(asked: Asked) -> Chance {
+fn chance_of(asked: Asked) -> Chance {
     let Weights {
         cores,
         arrivals,
@@ -31,6 +35,40 @@ pub(crate) fn chance_of(asked: Asked) -> Chance {
         evictions,
     };
     Chance::new(u64::from(asked.seed), mix)
+}
+
+/// Runs the program in a file by chance behind its schedule, as [`run_by_steps`] does, and keeps no history.
+pub(crate) fn run_by_chance<
+    'a,
+    const SETS: usize,
+    const WAYS: usize,
+    P: Progress,
+    T: Page,
+    O: Sink,
+>(
+    alloc: Global,
+    run: &Run<'a>,
+    asked: Asked,
+    show: Show<'a>,
+    file: &'a [u8],
+    schedule: &[u8],
+    progress: &mut P,
+    chart: &mut Chart<T>,
+    out: &mut O,
+) -> Result<u8, Fault<'a>>
+    requires sets { 0 < SETS }
+    requires ways { 0 < WAYS }
+    requires lines { SETS * WAYS < 2 ^ 32 }
+    ensures { MatchResult result
+        (IsGiven (geometry SETS WAYS) run.now (behind.Chance None) show.entry file.now schedule.now
+        (record { output = O.state out.old; file = T.state chart.old.sink }) (record { output = O.state out.new; file = T.state chart.new.sink }))
+        (IsNotGiven (geometry SETS WAYS) run.now (behind.Chance None) show.entry file.now schedule.now
+        (record { output = O.state out.old; file = T.state chart.old.sink }) (record { output = O.state out.new; file = T.state chart.new.sink })) }
+{
+    let chooser = &mut chance_of(asked);
+    run_by_steps::<SETS, WAYS, Chance, P, T, O>(
+        alloc, run, show, chooser, file, schedule, progress, chart, out,
+    )
 }
 
 /// Runs the program in a file by chance behind its schedule, and puts what is shown of it into `out`; then the history of the run into `chart`, whose
@@ -56,8 +94,7 @@ pub(crate) fn run_and_keep<'a, const SETS: usize, const WAYS: usize, P: Progress
         (IsNotGivenOrKept (geometry SETS WAYS) run.now print path.entry file.now schedule.now
         (record { output = O.state out.old; file = T.state chart.old.sink }) (record { output = O.state out.new; file = T.state chart.new.sink })) }
 {
-    let begun: Begun<SETS, WAYS> = begin(alloc, run, file, schedule)?;
-    let choices = begun.choices;
+    let choices = first_choices(alloc, run, file, schedule)?;
     let mut chooser = KeptChance::new(alloc, chance_of(asked));
     let status = run_by_steps::<SETS, WAYS, KeptChance, P, T, O>(
         alloc,
@@ -78,6 +115,19 @@ pub(crate) fn run_and_keep<'a, const SETS: usize, const WAYS: usize, P: Progress
         &mut chart.sink,
     )?;
     Ok(status)
+}
+
+/// The choices that the lines of a schedule spell, if a run by it can begin; else why it can't. The machine that this boots is gone before the run.
+fn first_choices<'a>(
+    alloc: Global,
+    run: &Run<'a>,
+    file: &'a [u8],
+    schedule: &[u8],
+) -> Result<Vec<Choice>, Fault<'a>>
+    ensures { MatchResult result (λ choices. AreChosenBy schedule.now choices.items) (IsUnbegun run.now file.now schedule.now) }
+{
+    let begun: Begun<1, 1> = begin(alloc, run, file, schedule)?;
+    Ok(begun.choices)
 }
 
 /// What is shown of a run.

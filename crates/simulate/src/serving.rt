@@ -23,6 +23,7 @@ impl<'p, const SETS: usize, const WAYS: usize, T: Trace<SETS, WAYS>> Gate<Lease<
         true
     }
 
+    /// The next turn is made at once.
     fn settled(&self, _hart: HartId, _turn: u64) {}
 }
 

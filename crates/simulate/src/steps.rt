@@ -1,9 +1,11 @@
 //! A run by turns or by chance: its steps, what is shown of them, and its report.
 ghost use Rattle.std.specs.Prelude.{◌≡◌, ◌<◌, ◌*◌, ◌^◌, MatchResult};
-ghost use Rattle.machine.specs.States.{geometry};
+ghost use Rattle.machine.specs.States.{geometry, setting_of};
 ghost use Rattle.schedule.specs.Courses.{IsUnbegun, course, forgotten};
 ghost use Rattle.command_line.specs.declared.request.Show.TheVariants as shows;
 ghost use Rattle.command_line.specs.declared.request.View.TheVariants.{Trace, Timeline, Picture, Page};
+ghost use Rattle.render.specs.Reports.{AllReadable};
+ghost use Rattle.simulate.specs.Counted.{IsEnded, IsHalfEnded};
 ghost use Rattle.simulate.specs.Given.{IsGiven, IsNotGiven};
 ghost use Rattle.simulate.specs.Shown.{IsShown, IsCutShort, IsViewed, IsViewCut, IsViewFault};
 
@@ -56,37 +58,38 @@ pub(crate) fn run_by_steps<
 {
     let names = names_in(alloc, run.setup.file, file)?;
     let mut begun: Begun<SETS, WAYS> = begin(alloc, run, file, schedule)?;
+    let machine = &mut begun.machine;
+    let choices = &begun.choices;
+    let words = &begun.addrs;
     let played = play(
-        alloc,
-        &names,
-        &mut begun.machine,
-        &begun.choices,
-        &begun.addrs,
-        run.steps,
-        show,
-        chooser,
-        progress,
-        chart,
-        out,
+        alloc, &names, machine, choices, words, run.steps, show, chooser, progress, chart, out,
     );
     progress.end();
     let counts = played?;
-    let harts = begun.machine.harts();
-    let status = conclude(&begun.machine, &begun.addrs, out)?;
-    put_counts(show, &counts, harts, out)?;
+    put_end(&begun.machine, &begun.addrs, show, &counts, out)
+}
+
+/// Puts the report on the machine that a run has led to, and behind it the counts, where these are shown. It answers the status that the program ends
+/// with.
+fn put_end<'a, const SETS: usize, const WAYS: usize, O: Sink>(
+    machine: &Machine<SETS, WAYS>,
+    words: &[Addr],
+    show: Show<'_>,
+    counts: &Tally,
+    out: &mut O,
+) -> Result<u8, Fault<'a>>
+    requires { AllReadable (setting_of machine.now) words.now }
+    ensures { MatchResult result
+        (IsEnded (geometry SETS WAYS) machine.now words.now show.entry counts.now (O.state out.old) (O.state out.new))
+        (IsHalfEnded (geometry SETS WAYS) machine.now words.now show.entry counts.now (O.state out.old) (O.state out.new)) }
+{
+    let status = conclude(machine, words, out)?;
+    put_counts(show, counts, machine.harts(), out)?;
     Ok(status)
 }
 
 /// Makes the steps of a run, and puts what is shown of them before the report. It answers their counts, where these are shown.
-fn play<
-    'a,
-    const SETS: usize,
-    const WAYS: usize,
-    C: Chooser<SETS, WAYS>,
-    P: Progress,
-    T: Page,
-    O: Sink,
->(
+fn play<'a, const SETS: usize, const WAYS: usize, C, P: Progress, T: Page, O: Sink>(
     alloc: Global,
     names: &Symbols<'_>,
     machine: &mut Machine<SETS, WAYS>,
@@ -99,6 +102,8 @@ fn play<
     chart: &mut Chart<T>,
     out: &mut O,
 ) -> Result<Tally, Fault<'a>>
+where
+    C: Chooser<SETS, WAYS>,
     requires { IsUnbegun (C.behind chooser.old) }
     ensures { MatchResult result
         (λ counts. IsShown names.now show.entry (geometry SETS WAYS) words.now (course choices.now (C.behind chooser.new)) steps machine.old machine.new counts
@@ -175,27 +180,17 @@ fn put_form<const SETS: usize, const WAYS: usize, C: Chooser<SETS, WAYS>, P: Pro
         (IsViewCut names.now view (geometry SETS WAYS) words.now (course choices.now (forgotten (C.behind chooser.new))) steps machine.old machine.new (T.state chart.old.sink) (T.state chart.new.sink)) }
 {
     match view {
-        View::Trace => put_trace(
-            names,
-            machine,
-            choices,
-            steps,
-            chooser,
-            &mut chart.sink,
-            progress,
-        ),
+        View::Trace => {
+            let sink = &mut chart.sink;
+            put_trace(names, machine, choices, steps, chooser, sink, progress)
+        }
         View::Timeline => put_timeline(machine, choices, steps, chooser, chart, progress),
         View::Picture => put_picture(alloc, machine, choices, steps, chooser, &mut chart.sink),
-        View::Page => put_page(
-            alloc,
-            names,
-            machine,
-            choices,
-            steps,
-            chooser,
-            words,
-            &mut chart.sink,
-            progress,
-        ),
+        View::Page => {
+            let sink = &mut chart.sink;
+            put_page(
+                alloc, names, machine, choices, steps, chooser, words, sink, progress,
+            )
+        }
     }
 }

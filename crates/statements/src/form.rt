@@ -5,14 +5,14 @@ ghost use Rattle.statements.specs.Forms as spec;
 use table::{BranchOp, Row, row_named};
 
 /// A pseudo-instruction without operands.
-#[derive(Clone, Copy, Debug, PartialEq, Eq)]
+#[derive(Clone, Copy)]
 pub enum Alone {
     Nop,
     Ret,
 }
 
 /// A pseudo-instruction `op d, s`.
-#[derive(Clone, Copy, Debug, PartialEq, Eq)]
+#[derive(Clone, Copy)]
 pub enum Pair {
     Mv,
     Not,
@@ -24,7 +24,7 @@ pub enum Pair {
 }
 
 /// A directive.
-#[derive(Clone, Copy, Debug, PartialEq, Eq)]
+#[derive(Clone, Copy)]
 pub enum Directive {
     Text,
     Data,
@@ -37,14 +37,14 @@ pub enum Directive {
 }
 
 /// The bits aq and rl of an atomic operation, LR or SC. They are the suffix of its mnemonic.
-#[derive(Clone, Copy, Debug, PartialEq, Eq)]
+#[derive(Clone, Copy)]
 pub struct Order {
     pub aq: bool,
     pub rl: bool,
 }
 
 /// The operands that a mnemonic has, and what it makes of them.
-#[derive(Clone, Copy, Debug, PartialEq, Eq)]
+#[derive(Clone, Copy)]
 pub enum Form {
     /// The operands of a row of the instruction table, whose words have this order.
     Row(Row, Order),

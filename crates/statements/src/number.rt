@@ -8,7 +8,7 @@ use std::marker::Model;
 pub(crate) const FAR: u64 = 1 << 40;
 
 /// A number of source, -2^40 to 2^40.
-#[derive(Clone, Copy, Debug, PartialEq, Eq)]
+#[derive(Clone, Copy)]
 pub(crate) struct Number {
     negative: bool,
     magnitude: u64,

@@ -1,5 +1,6 @@
 pub mod Atomics
 pub mod Effects
+pub mod Groups
 pub mod Numbers
 pub mod Program
 pub mod Slots

@@ -1,5 +1,6 @@
 ghost use Rattle.std.specs.Prelude.{◌≡◌, ◌<◌, ◌*◌, ◌/◌, ◌%◌, ◌^◌, ℕ, bit_and, Some};
 ghost use Rattle.operands.specs.Fields.{opcode_of, rd_of, funct3_of, rs1_of, rs2_of, funct7_of, funct5_of, aq_of, rl_of, imm_i_of, imm_s_of, imm_b_of, imm_u_of, imm_j_of, fence_bits_of};
+ghost use Rattle.table.specs.Groups.{IsAtomic};
 ghost use Rattle.table.specs.Table.{decoded};
 
 use crate::instr::{AluOp, AmoOp, BranchOp, ImmOp, Instr, LoadOp, ShiftOp, StoreOp};
@@ -43,6 +44,25 @@ fn word_of(instr: Instr) -> u32
             amount,
         } => encode_shift_imm(op, rd, rs1, amount),
         Instr::Op { op, rd, rs1, rs2 } => encode_op(op, rd, rs1, rs2),
+        Instr::Amo { .. } | Instr::LoadReserved { .. } | Instr::StoreConditional { .. } => {
+            atomic_word(instr)
+        }
+        Instr::Fence { bits } => fence_word(bits),
+        Instr::Ecall => 0x0000_0073,
+        Instr::Ebreak => 0x0010_0073,
+        Instr::TBegin { offset } => begin_word(offset),
+        Instr::TCommit => 0x0000_100b,
+        Instr::TAbort => 0x0000_200b,
+    }
+}
+
+/// The word of an atomic operation, LR or SC.
+#[tactic(auto, unfolding(crate::specs::Table::decoded))]
+fn atomic_word(instr: Instr) -> u32
+    requires { IsAtomic instr }
+    ensures { decoded result ≡ Some instr }
+{
+    match instr {
         Instr::Amo {
             op,
             rd,
@@ -61,12 +81,7 @@ fn word_of(instr: Instr) -> u32
             aq,
             rl,
         } => amo_word(0x2f, rd, 2, rs1, rs2, 0x03, aq, rl),
-        Instr::Fence { bits } => fence_word(bits),
-        Instr::Ecall => 0x0000_0073,
-        Instr::Ebreak => 0x0010_0073,
-        Instr::TBegin { offset } => begin_word(offset),
-        Instr::TCommit => 0x0000_100b,
-        Instr::TAbort => 0x0000_200b,
+        _ => unreachable!(),
     }
 }
 

@@ -1,9 +1,9 @@
 -- Hexadecimal digits are text.
-use Rattle.std.proofs.Common.{◌≡◌, ℕ, ◌+◌, ◌*◌, ◌<◌, slice_index_or, Bool, true, ◌&&◌, ◌==◌, nat_lt, zero, suc, List, [], ◌∷◌, length, get_or, codes, IsAscii, refl, sym, ap, ◌∙◌, arith, ◌/◌, ◌%◌, ◌^◌}
+use Rattle.std.proofs.Common.{◌≡◌, ℕ, ◌+◌, ◌<◌, Bool, true, ◌&&◌, ◌==◌, nat_lt, nat_le, cond, bit_and, slice_index, ◌++◌, zero, suc, List, [], ◌∷◌, length, get_or, codes, IsAscii, refl, sym, ap, ◌∙◌, arith, ◌/◌, ◌%◌, ◌^◌}
 use Rattle.std.proofs.lemmas.Bool.Decides.{Decides-below_and, Decides-ltb, Decides-eqb}
 use Rattle.std.proofs.lemmas.Str.Ascii.{IsAscii-from_reads, IsAscii-map}
 use Rattle.std.specs.Char.{digit_value}
-use Rattle.std.specs.List.{flat_map, range_with_len}
+use Rattle.std.specs.List.{flat_map}
 use Rattle.texts.specs.Numerals.{hex_digit, hexadecimal}
 
 -- whether each number below n passes a test
@@ -58,30 +58,43 @@ pub hexadecimal-length : (n : ℕ) → length (hexadecimal n) ≡ 8
 unfolding hexadecimal
 hexadecimal-length n = refl
 
+-- what is found at a place among the digits: a place from 128 on has none
+abbrev pub found : ℕ → ℕ
+found place = cond (nat_le 128 place) 0 (slice_index (codes "0123456789abcdef") (0 + place))
+
 -- the two digits of a byte
 abbrev pub pair : ℕ → List ℕ
-pair byte = hex_digit (byte / 16) ∷ hex_digit (byte % 16) ∷ []
+pair byte = found (byte / 16) ∷ found (bit_and byte 15) ∷ []
 
--- those of each byte, one after another
-abbrev pub pairs : List ℕ
-pairs = flat_map pair (range_with_len 0 256)
+found-digit : (d : ℕ) → d < 16 → found d ≡ hex_digit d
+found-digit d less = (Decides-eqb (found d) (hex_digit d)).0 (passes 16 (λ k. found k == hex_digit k) refl d less)
 
-pub pair-high : (k : ℕ) → k < 256 → slice_index_or pairs (2 * k) 0 ≡ hex_digit (k / 16)
-pair-high k less = (Decides-eqb (slice_index_or pairs (2 * k) 0) (hex_digit (k / 16))).0 (passes 256 (λ j. slice_index_or pairs (2 * j) 0 == hex_digit (j / 16)) refl k less)
+low-bits : (byte : ℕ) → byte < 256 → bit_and byte 15 ≡ byte % 16
+low-bits byte less = (Decides-eqb (bit_and byte 15) (byte % 16)).0 (passes 256 (λ k. bit_and k 15 == k % 16) refl byte less)
 
-pub pair-low : (k : ℕ) → k < 256 → slice_index_or pairs (2 * k + 1) 0 ≡ hex_digit (k % 16)
-pair-low k less = (Decides-eqb (slice_index_or pairs (2 * k + 1) 0) (hex_digit (k % 16))).0 (passes 256 (λ j. slice_index_or pairs (2 * j + 1) 0 == hex_digit (j % 16)) refl k less)
+pair-digits : (byte : ℕ) → byte < 256 → pair byte ≡ hex_digit (byte / 16) ∷ hex_digit (byte % 16) ∷ []
+pair-digits byte less =
+    let high = found-digit (byte / 16) (omega arith) in
+    let low = ap found (low-bits byte less) ∙ found-digit (byte % 16) (omega arith) in
+    rw (high, low) refl
 
--- a word's digits, by its bytes
-pub hexadecimal-bytes : (n : ℕ) → n < 2 ^ 32 → flat_map pair (n / 2 ^ 24 ∷ n / 2 ^ 16 % 256 ∷ n / 2 ^ 8 % 256 ∷ n % 256 ∷ []) ≡ hexadecimal n
+four : {p q r s p2 q2 r2 s2 : List ℕ} → p ≡ p2 → q ≡ q2 → r ≡ r2 → s ≡ s2 → p ++ (q ++ (r ++ (s ++ []))) ≡ p2 ++ (q2 ++ (r2 ++ (s2 ++ [])))
+four e f g h = cc
+
+-- a word's digits, by its bytes, from the last that a processor's vector has to the first
+pub hexadecimal-bytes : (n : ℕ) → n < 2 ^ 32 → flat_map pair ((n + 0) / 256 / 256 / 256 % 256 ∷ (n + 0) / 256 / 256 % 256 ∷ (n + 0) / 256 % 256 ∷ (n + 0) % 256 ∷ []) ≡ hexadecimal n
 unfolding hexadecimal
 hexadecimal-bytes n word =
-    let a : n / 2 ^ 24 / 16 ≡ n / 2 ^ 28 % 16 = omega arith in
-    let b : n / 2 ^ 24 % 16 ≡ n / 2 ^ 24 % 16 = omega arith in
-    let c : n / 2 ^ 16 % 256 / 16 ≡ n / 2 ^ 20 % 16 = omega arith in
-    let d : n / 2 ^ 16 % 256 % 16 ≡ n / 2 ^ 16 % 16 = omega arith in
-    let e : n / 2 ^ 8 % 256 / 16 ≡ n / 2 ^ 12 % 16 = omega arith in
-    let f : n / 2 ^ 8 % 256 % 16 ≡ n / 2 ^ 8 % 16 = omega arith in
-    let g : n % 256 / 16 ≡ n / 2 ^ 4 % 16 = omega arith in
-    let h : n % 256 % 16 ≡ n / 2 ^ 0 % 16 = omega arith in
-    rw (a, b, c, d, e, f, g, h)
+    let p = pair-digits ((n + 0) / 256 / 256 / 256 % 256) (omega arith) in
+    let q = pair-digits ((n + 0) / 256 / 256 % 256) (omega arith) in
+    let r = pair-digits ((n + 0) / 256 % 256) (omega arith) in
+    let s = pair-digits ((n + 0) % 256) (omega arith) in
+    let a : (n + 0) / 256 / 256 / 256 % 256 / 16 ≡ n / 2 ^ 28 % 16 = omega arith in
+    let b : (n + 0) / 256 / 256 / 256 % 256 % 16 ≡ n / 2 ^ 24 % 16 = omega arith in
+    let c : (n + 0) / 256 / 256 % 256 / 16 ≡ n / 2 ^ 20 % 16 = omega arith in
+    let d : (n + 0) / 256 / 256 % 256 % 16 ≡ n / 2 ^ 16 % 16 = omega arith in
+    let e : (n + 0) / 256 % 256 / 16 ≡ n / 2 ^ 12 % 16 = omega arith in
+    let f : (n + 0) / 256 % 256 % 16 ≡ n / 2 ^ 8 % 16 = omega arith in
+    let g : (n + 0) % 256 / 16 ≡ n / 2 ^ 4 % 16 = omega arith in
+    let h : (n + 0) % 256 % 16 ≡ n / 2 ^ 0 % 16 = omega arith in
+    four p q r s ∙ rw (a, b, c, d, e, f, g, h)

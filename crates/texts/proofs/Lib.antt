@@ -1,4 +1,5 @@
 pub mod AsciiText
+pub mod Decimals
 pub mod Digits
 pub mod Pieces
 pub mod Putting

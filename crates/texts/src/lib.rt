@@ -2,6 +2,7 @@
 #![tactic(auto)]
 
 mod characters;
+mod copies;
 mod line;
 mod numbers;
 mod numerals;

@@ -1,8 +1,9 @@
 //! A line, written from left to right.
-ghost use Rattle.std.specs.Prelude.{◌≡◌, ◌≤◌, ◌+◌, [], ◌++◌, length};
+ghost use Rattle.std.specs.Prelude.{◌≡◌, ◌≤◌, ◌<◌, ◌+◌, [], ◌++◌, length, decimal};
 ghost use Rattle.texts.specs.Numerals.{hexadecimal};
 
-use crate::numerals::hexadecimal;
+use crate::copies::{copy, copy_ends};
+use crate::numerals::write_word;
 use std::marker::Model;
 
 /// What is written of a line, in the value itself: no more than `CAP` bytes.
@@ -44,7 +45,7 @@ impl<const CAP: usize> Line<CAP> {
     }
 
     /// Writes a text, which has room.
-    #[inline]
+    #[inline(always)]
     pub fn put(&mut self, text: &str)
         requires { length self.old + length text.now ≤ CAP }
         ensures { self.new ≡ self.old ++ text.now }
@@ -53,23 +54,69 @@ impl<const CAP: usize> Line<CAP> {
     }
 
     /// Writes the eight digits of a word, which have room.
-    #[inline]
+    #[inline(always)]
     pub fn put_word(&mut self, n: u32)
         requires { length self.old + 8 ≤ CAP }
         ensures text { self.new ≡ self.old ++ hexadecimal n }
         ensures longer { length self.new ≡ length self.old + 8 }
     {
-        self.put_bytes(&hexadecimal(n));
+        let end = self.len + 8;
+        let bytes = &mut self.bytes[..];
+        write_word(n, &mut bytes[self.len..end]);
+        self.len = end;
     }
 
-    #[inline]
+    /// Writes a number of one digit, in base 10.
+    #[inline(always)]
+    #[tactic(auto, using(std::proofs::lemmas::Fmt::decimal_digit))]
+    pub fn put_digit(&mut self, n: u32)
+        requires digit { n < 10 }
+        requires room { length self.old < CAP }
+        ensures text { self.new ≡ self.old ++ decimal n }
+        ensures longer { length self.new ≡ length self.old + 1 }
+    {
+        self.put_bytes(&[b'0' + n as u8]);
+    }
+
+    /// Writes a number of one digit or two, in base 10.
+    #[inline(always)]
+    pub fn put_small(&mut self, n: u32)
+        requires small { n < 100 }
+        requires room { length self.old + 2 ≤ CAP }
+        ensures text { self.new ≡ self.old ++ decimal n }
+        ensures longer { length self.new ≤ length self.old + 2 }
+    {
+        if n < 10 {
+            self.put_digit(n);
+        } else {
+            self.put_digit(n / 10);
+            self.put_digit(n % 10);
+        }
+    }
+
+    /// Writes a name of two to four bytes, which has room.
+    #[inline(always)]
+    pub fn put_name(&mut self, name: &str)
+        requires long { 2 ≤ length name.now }
+        requires short { length name.now ≤ 4 }
+        requires room { length self.old + length name.now ≤ CAP }
+        ensures { self.new ≡ self.old ++ name.now }
+    {
+        let end = self.len + name.len();
+        let bytes = &mut self.bytes[..];
+        copy_ends::<2>(name.as_bytes(), &mut bytes[self.len..end]);
+        self.len = end;
+    }
+
+    /// Writes bytes, which have room.
+    #[inline(always)]
     pub fn put_bytes(&mut self, text: &[u8])
         requires { length self.old + length text.now ≤ CAP }
         ensures { self.new ≡ self.old ++ text.now }
     {
         let end = self.len + text.len();
         let bytes = &mut self.bytes[..];
-        bytes[self.len..end].copy_from_slice(text);
+        copy(text, &mut bytes[self.len..end]);
         self.len = end;
     }
 }

@@ -1,33 +1,23 @@
-ghost use Rattle.std.specs.Prelude.{◌≡◌, ◌<◌, ◌/◌, ◌%◌, IsAscii};
-ghost use Rattle.texts.specs.Numerals.{hex_digit, hexadecimal};
+ghost use Rattle.std.specs.Prelude.{◌≡◌, length, IsAscii};
+ghost use Rattle.texts.specs.Numerals.{hexadecimal};
 
-/// The two digits of each byte, one after another.
-static PAIRS: [u8; 512] = *b"\
-    000102030405060708090a0b0c0d0e0f\
-    101112131415161718191a1b1c1d1e1f\
-    202122232425262728292a2b2c2d2e2f\
-    303132333435363738393a3b3c3d3e3f\
-    404142434445464748494a4b4c4d4e4f\
-    505152535455565758595a5b5c5d5e5f\
-    606162636465666768696a6b6c6d6e6f\
-    707172737475767778797a7b7c7d7e7f\
-    808182838485868788898a8b8c8d8e8f\
-    909192939495969798999a9b9c9d9e9f\
-    a0a1a2a3a4a5a6a7a8a9aaabacadaeaf\
-    b0b1b2b3b4b5b6b7b8b9babbbcbdbebf\
-    c0c1c2c3c4c5c6c7c8c9cacbcccdcecf\
-    d0d1d2d3d4d5d6d7d8d9dadbdcdddedf\
-    e0e1e2e3e4e5e6e7e8e9eaebecedeeef\
-    f0f1f2f3f4f5f6f7f8f9fafbfcfdfeff";
+use std::simd::{u8x4, u8x16, u32x1};
 
-/// The two digits of a byte.
-fn pair(byte: u32) -> (u8, u8)
-    requires { byte < 256 }
-    ensures high { result.0 ≡ hex_digit (byte / 16) }
-    ensures low { result.1 ≡ hex_digit (byte % 16) }
+const DIGITS: [u8; 16] = *b"0123456789abcdef";
+
+/// Writes the eight digits of a word: all are looked up at once.
+#[inline(always)]
+pub(crate) fn write_word(n: u32, to: &mut [u8])
+    requires { length to.old ≡ 8 }
+    ensures { to.new ≡ hexadecimal n }
 {
-    let place = 2 * byte as usize;
-    (PAIRS[place], PAIRS[place + 1])
+    let bytes: u8x4 = u32x1::splat(n).to_le_bytes();
+    let high = bytes >> u8x4::splat(4);
+    let low = bytes & u8x4::splat(15);
+    // From the last byte to the first, the two of each. Only the first eight places are used.
+    let places: u8x16 = high.shuffle(low, [3, 7, 2, 6, 1, 5, 0, 4, 0, 0, 0, 0, 0, 0, 0, 0]);
+    let digits = u8x16::from_array(DIGITS).swizzle_dyn(places);
+    digits.extract::<0, 8>().copy_to_slice(to);
 }
 
 /// The eight hexadecimal digits of a word, in lower case.
@@ -35,9 +25,7 @@ pub fn hexadecimal(n: u32) -> [u8; 8]
     ensures digits { result ≡ hexadecimal n }
     ensures ascii { IsAscii result }
 {
-    let (a, b) = pair(n >> 24);
-    let (c, d) = pair((n >> 16) % 256);
-    let (e, f) = pair((n >> 8) % 256);
-    let (g, h) = pair(n % 256);
-    [a, b, c, d, e, f, g, h]
+    let mut digits = [0; 8];
+    write_word(n, &mut digits);
+    digits
 }

@@ -8,6 +8,30 @@ use Rattle.command_line.proofs.Values.{behind_witness, first_behind, first_of_mo
 use Rattle.command_line.specs.declared.fault.OrderFault.TheVariants.{Value}
 use Rattle.command_line.proofs.reading.read_search.Goals as goal
 
+pub returns-in_err-harts : goal.returns-in_err-harts
+returns-in_err-harts c =
+    let rows = rows_of (found_of c.args.matches.now) in
+    let p = err_from_is_err_and c.from_residual.result c.from_residual.ensures.1 in
+    rw (p.1, p.2) (
+    first_of_more (malformed argument.Harts number_of (given (codes "harts") rows)) _ _ c.in_err-harts.ensures)
+
+pub returns-in_err-memory : goal.returns-in_err-memory
+returns-in_err-memory c =
+    let rows = rows_of (found_of c.args.matches.now) in
+    let p = err_from_is_err_and c.from_residual-in_err-memory.result c.from_residual-in_err-memory.ensures.1 in
+    rw (p.1, p.2) (
+    first_behind argument.Harts number_of 1 _ (first_of (codes "harts") rows) _ _ c.in_ok-harts.ensures (
+    first_of_more (malformed argument.Memory number_of (given (codes "memory") rows)) _ _ c.in_err-memory.ensures))
+
+pub returns-in_err-states : goal.returns-in_err-states
+returns-in_err-states c =
+    let rows = rows_of (found_of c.args.matches.now) in
+    let p = err_from_is_err_and c.from_residual-in_err-states.result c.from_residual-in_err-states.ensures.1 in
+    rw (p.1, p.2) (
+    first_behind argument.Harts number_of 1 _ (first_of (codes "harts") rows) _ _ c.in_ok-harts.ensures (
+    first_behind argument.Memory number_of 1048576 _ (first_of (codes "memory") rows) _ _ c.in_ok-memory.ensures (
+    first_of_more (malformed argument.States number_of (given (codes "states") rows)) _ _ c.in_err-states.ensures)))
+
 pub returns-in_err-witness : goal.returns-in_err-witness
 returns-in_err-witness c =
     let rows = rows_of (found_of c.args.matches.now) in

@@ -1,4 +1,4 @@
-use Rattle.std.proofs.Common.{◌≡◌, ◌<◌, ◌≤◌, ◌+◌, ◌-◌, ℕ, arith, sym, subst, subst₂}
+use Rattle.std.proofs.Common.{◌≡◌, ◌<◌, ◌≤◌, ◌+◌, ◌-◌, ℕ, arith, inr, sym, subst, subst₂}
 use Rattle.std.specs.Prelude.{IsTrue, MatchOption}
 use Rattle.std.proofs.lemmas.Result.{err_from_is_err_and}
 use Rattle.words.specs.declared.entry.Step.{Step}
@@ -6,58 +6,21 @@ use Rattle.machine.specs.States.{State, geometry}
 use Rattle.machine.specs.Turns.{IsQuiescent, hart_after}
 use Rattle.schedule.specs.Courses.{Behind, course, IsNoneNext}
 use Rattle.schedule.specs.Observed.{IsSeen, GoesSeen}
-use Rattle.schedule.proofs.Seeing.{HasSeen, HasSeenMore, seen_none, seen_choice, seen_first, seen_next, seen_more, seen_list, seen_all, seen_idle, stopped_choice, stopped_next}
+use Rattle.schedule.proofs.Seeing.{HasSeenMore, seen_begun, seen_left, seen_next, seen_more, seen_whole, seen_idle, stopped_next}
 use Rattle.schedule.proofs.runs.run.Goals as goal
 
-pub loop-choice-init : goal.loop-choice-init
-loop-choice-init g c =
-    let o = c.args.observer.now in
-    let O = g.O.Observer in (
-      seen_none (O.saw o) (O.missed o) (geometry g.row.SETS g.row.WAYS) c.args.choices.now c.args.machine.now c.last_hart-hart.result c.args.log.now c.last_hart-hart.ensures,
-      omega arith,
-    )
-
-pub returns-then-left-eq0 : goal.returns-then-left-eq0
-returns-then-left-eq0 g c =
-    let o = c.args.observer.now in
-    let O = g.O.Observer in
-    let G = geometry g.row.SETS g.row.WAYS in
-    let b = g.C.Chooser.behind c.args.chooser.now in
-    let all : c.loop-choice.choice-index ≡ c.args.steps = omega (arith, c.loop-choice.invariant.1, c.if-left-eq0.true) in
-    subst (λ (n : ℕ). IsSeen (O.saw o) G (course c.args.choices.now b) n c.args.machine.now c.loop-choice.machine c.args.log.now c.loop-choice.log) all
-    (seen_list (O.saw o) (O.missed o) G c.args.choices.now b c.loop-choice.choice-index c.args.machine.now c.loop-choice.machine c.loop-choice.hart c.args.log.now c.loop-choice.log c.requires c.loop-choice.invariant.0)
-
-pub returns-in_err-hart : goal.returns-in_err-hart
-returns-in_err-hart g c =
-    let o = c.args.observer.now in
-    let O = g.O.Observer in
-    let b = g.C.Chooser.behind c.args.chooser.now in
+-- the list fails
+pub returns-in_err-begun : goal.returns-in_err-begun
+returns-in_err-begun g c =
     let p = err_from_is_err_and c.from_residual.result c.from_residual.ensures.1 in
-    let stopped = c.in_err-hart.ensures in
-    let less : c.loop-choice.choice-index < c.args.steps = omega (arith, c.loop-choice.invariant.1, c.if-left-eq0.false) in
-    rw (p.1, p.2) (stopped_choice (O.saw o) (O.missed o) (geometry g.row.SETS g.row.WAYS) c.args.choices.now c.loop-choice.choice-index c.args.machine.now c.loop-choice.machine c.choose.new.machine
-    c.loop-choice.hart c.args.log.now c.loop-choice.log c.choose.new.log c.loop-choice.invariant.0 b c.args.steps c.choice-item.result stopped.0 _ c.requires c.loop-choice-test.true c.choice-item.is less stopped.1 stopped.2)
-
-pub loop-choice-preserved : goal.loop-choice-preserved
-loop-choice-preserved g c =
-    let o = c.args.observer.now in
-    let O = g.O.Observer in
-    let G = geometry g.row.SETS g.row.WAYS in
-    let made = c.in_ok-hart.ensures in (
-      subst (λ (i : ℕ). HasSeen (O.saw o) (O.missed o) G c.args.choices.now (c.loop-choice.choice-index + 1) c.args.machine.now c.choose.new.machine i c.args.log.now c.choose.new.log) (sym made.3)
-          (seen_choice (O.saw o) (O.missed o) G c.args.choices.now c.loop-choice.choice-index c.args.machine.now c.loop-choice.machine c.choose.new.machine c.loop-choice.hart
-          c.args.log.now c.loop-choice.log c.choose.new.log c.loop-choice.invariant.0 c.choice-item.result made.0 c.loop-choice-test.true c.choice-item.is made.1 made.2),
-      omega (arith, c.loop-choice.invariant.1, c.if-left-eq0.false),
-    )
+    rw (p.1, p.2) (c.in_err-begun.ensures (g.C.Chooser.behind c.args.chooser.now) c.requires)
 
 pub loop-left-init : goal.loop-left-init
 loop-left-init g c =
     let o = c.args.observer.now in
     let O = g.O.Observer in (
-      c.loop-choice.choice-index,
-      seen_first (O.saw o) (O.missed o) (geometry g.row.SETS g.row.WAYS) c.args.choices.now (g.C.Chooser.behind c.args.chooser.now) c.loop-choice.choice-index c.args.machine.now c.loop-choice.machine c.loop-choice.hart
-          c.args.log.now c.loop-choice.log c.requires (omega (arith, c.loop-choice-test.false)) c.loop-choice.invariant.0,
-      c.loop-choice.invariant.1,
+      seen_begun (O.saw o) (O.missed o) (geometry g.row.SETS g.row.WAYS) c.args.choices.now (g.C.Chooser.behind c.args.chooser.now) c.args.steps c.in_ok-begun.begun.left c.args.machine.now
+          c.make_choices.new.machine c.in_ok-begun.begun.hart c.args.log.now c.make_choices.new.log c.requires c.in_ok-begun.ensures,
       λ quiescent. absurd (cc),
     )
 
@@ -65,7 +28,8 @@ pub returns-in_err-next : goal.returns-in_err-next
 returns-in_err-next g c =
     let o = c.args.observer.now in
     let O = g.O.Observer in
-    let so_far = c.loop-left.invariant in
+    let so_far = seen_left (O.saw o) (O.missed o) (geometry g.row.SETS g.row.WAYS) c.args.choices.now (g.C.Chooser.behind c.loop-left.chooser) c.args.steps c.loop-left.left c.args.machine.now
+    c.loop-left.machine c.loop-left.last.hart c.args.log.now c.loop-left.log c.loop-left-test.true c.loop-left.invariant.0 in
     let p = err_from_is_err_and c.from_residual-in_err-next.result c.from_residual-in_err-next.ensures.1 in
     let less : so_far.0 < c.args.steps = omega (arith, so_far.2, c.loop-left-test.true) in
     rw (p.1, p.2) (stopped_next (O.saw o) (O.missed o) (geometry g.row.SETS g.row.WAYS) c.args.choices.now (g.C.Chooser.behind c.loop-left.chooser) so_far.0 c.args.machine.now c.loop-left.machine c.go_on.new.machine
@@ -78,7 +42,8 @@ returns-in_default g c =
     let O = g.O.Observer in
     let C = g.C.Chooser in
     let G = geometry g.row.SETS g.row.WAYS in
-    let so_far = c.loop-left.invariant in
+    let so_far = seen_left (O.saw o) (O.missed o) (geometry g.row.SETS g.row.WAYS) c.args.choices.now (g.C.Chooser.behind c.loop-left.chooser) c.args.steps c.loop-left.left c.args.machine.now
+    c.loop-left.machine c.loop-left.last.hart c.args.log.now c.loop-left.log c.loop-left-test.true c.loop-left.invariant.0 in
     let within : so_far.0 ≤ c.args.steps = omega (arith, so_far.2) in
     let b = C.behind c.loop-left.chooser in
     let idle = subst (λ t. MatchOption t
@@ -96,7 +61,8 @@ loop-left-preserved g c =
     let O = g.O.Observer in
     let C = g.C.Chooser in
     let G = geometry g.row.SETS g.row.WAYS in
-    let so_far = c.loop-left.invariant in
+    let so_far = seen_left (O.saw o) (O.missed o) (geometry g.row.SETS g.row.WAYS) c.args.choices.now (g.C.Chooser.behind c.loop-left.chooser) c.args.steps c.loop-left.left c.args.machine.now
+    c.loop-left.machine c.loop-left.last.hart c.args.log.now c.loop-left.log c.loop-left-test.true c.loop-left.invariant.0 in
     let k = so_far.0 in
     let b = C.behind c.loop-left.chooser in
     let d = C.behind c.go_on.new.chooser in
@@ -109,10 +75,12 @@ loop-left-preserved g c =
     (seen_next (O.saw o) (O.missed o) G c.args.choices.now b k c.args.machine.now c.loop-left.machine c.go_on.new.machine c.loop-left.last.hart c.args.log.now c.loop-left.log c.go_on.new.log so_far.1 d made.0 made.1) in
     let more = c.take_turns-taken.result.0 in
     let count : k + 1 + more + (c.loop-left.left - 1 - more) ≡ c.args.steps = omega (arith, so_far.2, c.loop-left-test.true, c.take_turns-taken.ensures.most) in (
-      k + 1 + more,
-      seen_more (O.saw o) (O.missed o) G c.args.choices.now d (k + 1) c.args.machine.now c.go_on.new.machine c.take_turns-taken.new.machine c.in-Some.next.hart
-          c.args.log.now c.go_on.new.log c.take_turns-taken.new.log more c.take_turns-taken.result.1.hart one c.take_turns-taken.ensures.turns,
-      count,
+      inr (
+        k + 1 + more,
+        seen_more (O.saw o) (O.missed o) G c.args.choices.now d (k + 1) c.args.machine.now c.go_on.new.machine c.take_turns-taken.new.machine c.in-Some.next.hart
+            c.args.log.now c.go_on.new.log c.take_turns-taken.new.log more c.take_turns-taken.result.1.hart one c.take_turns-taken.ensures.turns,
+        count,
+      ),
       c.take_turns-taken.ensures.quiescent,
     )
 
@@ -120,7 +88,5 @@ pub returns : goal.returns
 returns g c =
     let o = c.args.observer.now in
     let O = g.O.Observer in
-    let G = geometry g.row.SETS g.row.WAYS in
-    let so_far = c.loop-left.invariant in
-    let all : so_far.0 ≡ c.args.steps = omega (arith, so_far.2, c.loop-left-test.false) in
-    seen_all (O.saw o) (O.missed o) G c.args.choices.now (g.C.Chooser.behind c.loop-left.chooser) so_far.0 c.args.steps c.args.machine.now c.loop-left.machine c.loop-left.last.hart c.args.log.now c.loop-left.log all so_far.1
+    seen_whole (O.saw o) (O.missed o) (geometry g.row.SETS g.row.WAYS) c.args.choices.now (g.C.Chooser.behind c.loop-left.chooser) c.args.steps c.loop-left.left c.args.machine.now c.loop-left.machine
+    c.loop-left.last.hart c.args.log.now c.loop-left.log c.loop-left-test.false c.loop-left.invariant.0

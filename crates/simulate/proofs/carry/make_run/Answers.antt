@@ -15,9 +15,9 @@ returns-in-Turns g c =
 pub returns-in-Chance : goal.returns-in-Chance
 returns-in-Chance g c =
     let before : Sinks = record { output = g.O.Sink.state c.args.out.now; file = g.T.Sink.state c.args.chart.now.sink } in
-    let after : Sinks = record { output = g.O.Sink.state c.run_by_steps-in-Chance.new.out; file = g.T.Sink.state c.run_by_steps-in-Chance.new.chart.sink } in
+    let after : Sinks = record { output = g.O.Sink.state c.run_by_chance.new.out; file = g.T.Sink.state c.run_by_chance.new.chart.sink } in
     let G = geometry g.row.SETS g.row.WAYS in
-    subst (λ (w : Way). MatchResult c.run_by_steps-in-Chance.result (RunGives G c.args.run.now c.args.file.now c.args.schedule.now before after w) (RunFails G c.args.run.now c.args.file.now c.args.schedule.now before after w)) (sym c.in-Chance.is) c.run_by_steps-in-Chance.ensures
+    subst (λ (w : Way). MatchResult c.run_by_chance.result (RunGives G c.args.run.now c.args.file.now c.args.schedule.now before after w) (RunFails G c.args.run.now c.args.file.now c.args.schedule.now before after w)) (sym c.in-Chance.is) c.run_by_chance.ensures
 
 pub returns-in-Kept : goal.returns-in-Kept
 returns-in-Kept g c =

@@ -1,4 +1,4 @@
-use Rattle.std.proofs.Common.{Bor, List, Option, ℕ, inl, inr, refl, ap, subst, subst₂, sym}
+use Rattle.std.proofs.Common.{Bor, List, Option, ℕ, inl, inr, refl, subst, subst₂, sym}
 use Rattle.std.proofs.lemmas.Result.{err_from_is_err_and, MatchResult-weaker}
 use Rattle.requests.specs.NamedFiles.{IsReadAt, IsReadIf, IsUnreadAt, IsUnreadIf, file_of, schedule_of}
 use Rattle.requests.specs.declared.fault.Fault.{Fault}

@@ -3,7 +3,7 @@ use Rattle.std.proofs.lemmas.Result.{err_from_is_err_and}
 use Rattle.machine.specs.States.{geometry}
 use Rattle.schedule.specs.Courses.{forgotten}
 use Rattle.requests.specs.Outputs.{Sinks}
-use Rattle.simulate.proofs.StepRuns.{not_begun, cut_short, given, half_counted, half_reported, readable_then}
+use Rattle.simulate.proofs.StepRuns.{not_begun, cut_short, ended, readable_then}
 use Rattle.simulate.proofs.steps.run_by_steps.Goals as goal
 
 -- the run did not begin
@@ -22,8 +22,8 @@ returns-in_err-counts g c =
     rw (p.1, p.2) (cut_short (geometry g.row.SETS g.row.WAYS) c.args.run.now (forgotten (g.C.Chooser.behind c.play-played.new.chooser)) c.args.show c.args.file.now c.args.schedule.now c.in_ok-begun.begun.machine c.play-played.new.machine c.in_ok-begun.begun.addrs.items c.in_ok-begun.begun.choices.items
     c.deref.result.now c.in_ok-begun.ensures c.deref.ensures.value c.deref-2.result.now c.deref-2.ensures.value before after c.in_err-counts.field-0.0 (rw c.in_ok-names.ensures at c.in_err-counts.ensures))
 
-pub conclude-requires : goal.conclude-requires
-conclude-requires g c =
+pub put_end-requires : goal.put_end-requires
+put_end-requires g c =
     let before : Sinks = record { output = g.O.Sink.state c.args.out.now; file = g.T.Sink.state c.args.chart.now.sink } in
     let middle : Sinks = record { output = g.O.Sink.state c.play-played.new.out; file = g.T.Sink.state c.play-played.new.chart.sink } in (
       omega arith,
@@ -31,31 +31,10 @@ conclude-requires g c =
           c.deref.result.now c.in_ok-begun.ensures c.deref.ensures.value c.deref-2.result.now c.deref-2.ensures.value c.deref-3.result.now c.deref-3.ensures.value c.in_ok-counts.counts before middle (rw c.in_ok-names.ensures at c.in_ok-counts.ensures),
     )
 
--- a put of the report failed
-pub returns-in_err-status : goal.returns-in_err-status
-returns-in_err-status g c =
-    let p = err_from_is_err_and c.from_residual-in_err-status.result c.from_residual-in_err-status.ensures.1 in
-    let before : Sinks = record { output = g.O.Sink.state c.args.out.now; file = g.T.Sink.state c.args.chart.now.sink } in
-    let middle : Sinks = record { output = g.O.Sink.state c.play-played.new.out; file = g.T.Sink.state c.play-played.new.chart.sink } in
-    rw (p.1, p.2) (half_reported (geometry g.row.SETS g.row.WAYS) c.args.run.now (g.C.Chooser.behind c.play-played.new.chooser) c.args.show c.args.file.now c.args.schedule.now c.in_ok-begun.begun.machine c.play-played.new.machine c.in_ok-begun.begun.addrs.items c.in_ok-begun.begun.choices.items
-    c.deref.result.now c.in_ok-begun.ensures c.deref.ensures.value c.deref-2.result.now c.deref-2.ensures.value c.deref-3.result.now c.deref-3.ensures.value c.in_ok-counts.counts before middle (rw c.in_ok-names.ensures at c.in_ok-counts.ensures)
-    (g.O.Sink.state c.conclude.new.sink) c.in_err-status.field-0.0 c.in_err-status.ensures)
-
--- a put of the counts failed
-pub returns-in_err-put_counts : goal.returns-in_err-put_counts
-returns-in_err-put_counts g c =
-    let p = err_from_is_err_and c.from_residual-in_err-put_counts.result c.from_residual-in_err-put_counts.ensures.1 in
-    let before : Sinks = record { output = g.O.Sink.state c.args.out.now; file = g.T.Sink.state c.args.chart.now.sink } in
-    let middle : Sinks = record { output = g.O.Sink.state c.play-played.new.out; file = g.T.Sink.state c.play-played.new.chart.sink } in
-    rw (p.1, p.2) (half_counted (geometry g.row.SETS g.row.WAYS) c.args.run.now (g.C.Chooser.behind c.play-played.new.chooser) c.args.show c.args.file.now c.args.schedule.now c.in_ok-begun.begun.machine c.play-played.new.machine c.in_ok-begun.begun.addrs.items c.in_ok-begun.begun.choices.items
-    c.deref.result.now c.in_ok-begun.ensures c.deref.ensures.value c.deref-2.result.now c.deref-2.ensures.value c.deref-3.result.now c.deref-3.ensures.value c.in_ok-counts.counts before middle (rw c.in_ok-names.ensures at c.in_ok-counts.ensures)
-    (g.O.Sink.state c.conclude.new.sink) c.in_ok-status.status c.in_ok-status.ensures c.harts-harts.result c.harts-harts.ensures.value (g.O.Sink.state c.put_counts.new.sink) c.in_err-put_counts.field-0.0 c.in_err-put_counts.ensures)
-
--- all was put
 pub returns : goal.returns
 returns g c =
     let before : Sinks = record { output = g.O.Sink.state c.args.out.now; file = g.T.Sink.state c.args.chart.now.sink } in
     let middle : Sinks = record { output = g.O.Sink.state c.play-played.new.out; file = g.T.Sink.state c.play-played.new.chart.sink } in
-    given (geometry g.row.SETS g.row.WAYS) c.args.run.now (g.C.Chooser.behind c.play-played.new.chooser) c.args.show c.args.file.now c.args.schedule.now c.in_ok-begun.begun.machine c.play-played.new.machine c.in_ok-begun.begun.addrs.items c.in_ok-begun.begun.choices.items
+    ended (geometry g.row.SETS g.row.WAYS) c.args.run.now (g.C.Chooser.behind c.play-played.new.chooser) c.args.show c.args.file.now c.args.schedule.now c.in_ok-begun.begun.machine c.play-played.new.machine c.in_ok-begun.begun.addrs.items c.in_ok-begun.begun.choices.items
     c.deref.result.now c.in_ok-begun.ensures c.deref.ensures.value c.deref-2.result.now c.deref-2.ensures.value c.deref-3.result.now c.deref-3.ensures.value c.in_ok-counts.counts before middle (rw c.in_ok-names.ensures at c.in_ok-counts.ensures)
-    (g.O.Sink.state c.conclude.new.sink) c.in_ok-status.status c.in_ok-status.ensures c.harts-harts.result c.harts-harts.ensures.value (g.O.Sink.state c.put_counts.new.sink) c.in_ok-put_counts.ensures
+    (g.O.Sink.state c.put_end.new.out) c.put_end.result c.put_end.ensures

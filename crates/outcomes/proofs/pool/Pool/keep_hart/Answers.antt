@@ -13,3 +13,6 @@ returns-clause-kept c =
     IfOk-weaker c.number.result _ _
     (λ n is. (there.0, subst (λ m. slice_get c.insert_full.new.self.keys m ≡ Some there.0) (sym is) there.1, λ size. sym (same_hart c.args.hart there.0 there.2 size)))
     c.number.ensures
+
+pub returns-clause-grows : goal.returns-clause-grows
+returns-clause-grows c = IfOk-weaker c.number.result _ _ (λ n is. record { harts = λ m x at. still_there hart_eq _ _ c.args.hart c.in_ok-place.ensures.keys m x at; memories = λ m x at. at; reservations = λ m x at. at }) c.number.ensures

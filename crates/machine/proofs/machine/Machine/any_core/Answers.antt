@@ -8,8 +8,8 @@ use Rattle.machine.specs.Mail.{SendsOn, mail_of}
 use Rattle.machine.specs.States.{State, geometry, IsSound}
 use Rattle.machine.proofs.Acting.{Acts, rests_still}
 use Rattle.machine.proofs.Cores.{MakesOf, core_makes, core_rests, core_of_none}
-use Rattle.machine.proofs.machine.Machine.core.Given.{Over}
-use Rattle.machine.proofs.machine.Machine.core.Goals as goal
+use Rattle.machine.proofs.machine.Machine.any_core.Given.{Over}
+use Rattle.machine.proofs.machine.Machine.any_core.Goals as goal
 
 pub returns-then-i-len-clause-steps : goal.returns-then-i-len-clause-steps
 returns-then-i-len-clause-steps g c =
@@ -21,13 +21,13 @@ returns-then-i-len-clause-steps g c =
 -- The core made a step
 
 -- the machine before and after
-abbrev before : (g : Over) (c : goal.After-send g) → State
+abbrev before : (g : Over) (c : goal.After-note g) → State
 before g c = record { program = c.self.inside.program; seats = c.self.inside.seats.items; directory = c.self.inside.directory; flights = c.self.inside.net.slots; sent = c.self.inside.net.next; stamps = c.self.inside.stamps }
 
-abbrev after : (g : Over) (c : goal.After-send g) → State
-after g c = record (before g c) { seats = slice_set (before g c).seats c.index-i.result c.core_step.new.self; flights = c.send.new.net.slots; sent = c.send.new.net.next; stamps = c.stamps_after-self-inside.result }
+abbrev after : (g : Over) (c : goal.After-note g) → State
+after g c = record (before g c) { seats = slice_set (before g c).seats c.index-i.result c.core_step.new.self; flights = c.note.new.net.slots; sent = c.note.new.net.next; stamps = c.note.new.stamps }
 
-makes : (g : Over) (c : goal.After-send g)
+makes : (g : Over) (c : goal.After-note g)
     → MakesStep (geometry g.row.SETS g.row.WAYS) (before g c) (Core c.index-i.result) c.in-Some.made.entry (after g c) × IsSound g.row.SETS g.row.WAYS (after g c)
 makes g c =
     let acts : Acts c.index-i.result (before g c) (after g c) c.index_mut.result.now c.core_step.new.self = record {
@@ -42,8 +42,8 @@ makes g c =
     subst (λ made. MakesOf g.row.SETS (before g c).program.segments (before g c).stamps c.index_mut.result.now c.core_step.new.self made) c.in-Some.is
     (subst (λ segments. MakesOf g.row.SETS segments (before g c).stamps c.index_mut.result.now c.core_step.new.self c.in_ok-core_step.field-0) c.text.ensures c.in_ok-core_step.ensures.row) in
     core_makes g.row.SETS g.row.WAYS c.index-i.result (before g c) (after g c) c.index_mut.result.now c.core_step.new.self c.self.invariant acts c.in-Some.made c.in_ok-core_step.ensures.victim c.core_step.ensures.ways row
-    c.stamps_after-self-inside.ensures
-    (subst₂ (λ f n. SendsOn (mail_of f) n (option_to_list (option_map shown_message c.in-Some.made.message)) (mail_of (after g c).flights) (after g c).sent) c.reserve.ensures.same c.reserve.ensures.number c.send.ensures)
+    c.note.ensures.stamps
+    (subst₂ (λ f n. SendsOn (mail_of f) n (option_to_list (option_map shown_message c.in-Some.made.message)) (mail_of (after g c).flights) (after g c).sent) c.reserve.ensures.same c.reserve.ensures.number c.note.ensures.sent)
 
 pub invariant_of-self-in-Some : goal.invariant_of-self-in-Some
 invariant_of-self-in-Some g c = (makes g c).1
