@@ -7,7 +7,6 @@ mod drawing;
 mod faults;
 mod memory;
 mod meters;
-mod orders;
 mod paper;
 mod running;
 mod searching;

@@ -7,5 +7,6 @@ mod large;
 mod listings;
 mod memory;
 mod names;
+mod orders;
 mod sample;
 mod sample_programs;

@@ -12,13 +12,6 @@ pub(crate) fn holds(rt: &impl Abort, yes: bool)
     assert!(rt; yes);
 }
 
-/// That something is true of a case.
-pub(crate) fn holds_at<C: Debug>(rt: &impl Abort, yes: bool, case: &C)
-    ensures { yes ≡ true }
-{
-    assert!(rt; yes, "{case:?}");
-}
-
 /// That a value is the one that is wanted.
 pub(crate) fn equal<T: PartialEq + Debug>(rt: &impl Abort, found: &T, wanted: &T) {
     assert_eq!(rt; found, wanted);

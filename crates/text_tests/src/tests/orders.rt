@@ -1,4 +1,5 @@
 //! What the words of a command line ask for, and how they are refused.
+
 use crate::tests::claims::{equal, equal_at, holds, holds_at};
 use command_line::{
     Argument, Cache, OrderFault, Request, Run, Setup, Show, Stats, View, Way, parse,
