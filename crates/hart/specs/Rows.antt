@@ -5,19 +5,58 @@ use Rattle.words.specs.Bytes.{bytes_in}
 use Rattle.table.specs.Program.{Segment}
 use Rattle.table.specs.declared.effect.Act.{Act}
 use Rattle.table.specs.declared.effect.Act.TheVariants as act
+use Rattle.words.specs.declared.entry.Entry.{Entry}
+use Rattle.words.specs.declared.entry.Entry.TheVariants.{Refuse}
 use Rattle.transaction.specs.Value.{Transaction}
 use Rattle.flat.specs.State.{Setting, FlatHart}
 use Rattle.cache.specs.declared.ways.Victim.{Victim}
 use Rattle.cache.specs.declared.ways.Victim.TheVariants.{Free, Drop, WriteBack}
 use Rattle.cache.specs.Sets.{Sets, victim_at}
-use Rattle.protocol.specs.Messages.{shown}
+use Rattle.protocol.specs.Messages.{Message, Done, Ack, Nack, shown}
 use Rattle.protocol.specs.Hart.{HartResult, flat_hart}
 use Rattle.hart.specs.declared.reply.Reply.{Reply}
+use Rattle.hart.specs.declared.reply.Settled.{Settled}
+use Rattle.hart.specs.declared.reply.Settled.TheVariants as request
+use Rattle.hart.specs.declared.reply.ForwardAnswer.{ForwardAnswer}
+use Rattle.hart.specs.declared.reply.ForwardAnswer.TheVariants as answer
 use Rattle.hart.specs.declared.reply.CoreStep.{CoreStep}
 use Rattle.hart.specs.Parts.{Parts}
 use Rattle.hart.specs.Shown.{shown_hart}
 
--- what became of a hart that has put out these bytes, and its reply to a message or to an eviction
+-- what hart i tells the directory of its request, which goes on so
+abbrev pub done_of : ℕ → Settled → Option Message
+done_of i request.Waiting = None
+done_of i (request.Refused b) = Some (Done i b false None)
+done_of i (request.Granted b content) = Some (Done i b true content)
+
+-- what became of a hart, which has put out these bytes, and of its request
+abbrev pub settled : ℕ → List ℕ → Parts → Settled → HartResult
+settled sets output new s = record {
+  hart = shown_hart sets output new;
+  sent = done_of new.index s;
+  entry = None;
+  stamped = false;
+}
+
+-- what hart i answers to hart r's request for block b, and the entry that it gives
+abbrev pub answer_of : ℕ → ℕ → ℕ → ForwardAnswer → Message
+answer_of i r b (answer.Nack stamp) = Nack i r b stamp
+answer_of i r b (answer.Ack content) = Ack i r b content
+
+abbrev pub refusal_of : ℕ → ℕ → ℕ → ForwardAnswer → Option Entry
+refusal_of i r b (answer.Nack stamp) = Some (Refuse i r b)
+refusal_of i r b (answer.Ack content) = None
+
+-- what became of a hart, which has put out these bytes, and its answer to hart r's request for block b
+abbrev pub answered : ℕ → List ℕ → Parts → ℕ → ℕ → ForwardAnswer → HartResult
+answered sets output new r b a = record {
+  hart = shown_hart sets output new;
+  sent = Some (answer_of new.index r b a);
+  entry = refusal_of new.index r b a;
+  stamped = false;
+}
+
+-- what became of a hart that has put out these bytes, and its reply to an eviction
 abbrev pub replied : ℕ → List ℕ → Parts → Reply → HartResult
 replied sets output new r = record {
   hart = shown_hart sets output new;

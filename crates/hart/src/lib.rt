@@ -23,4 +23,4 @@ mod transactions;
 
 pub use conflict::{Granted, PutOut, Request};
 pub use hart::Hart;
-pub use reply::{CoreStep, Local, Reply};
+pub use reply::{CoreStep, ForwardAnswer, Local, Reply, Settled};

@@ -1,110 +1,43 @@
 ghost use Rattle.std.specs.Prelude.{◌≡◌, ℕ, List, Option, Some, None, IsSomeAnd, IfSome, true, false};
 ghost use Rattle.std.specs.Option.{option_map};
 ghost use Rattle.cache.specs.Sets.{line_at};
-ghost use Rattle.protocol.specs.Messages.{shown, Done};
 ghost use Rattle.protocol.specs.Lines.{refuses, line_given, line_filled, state_given};
-ghost use Rattle.protocol.specs.Hart.{Request as ProtocolRequest, quiet, sends, with_line, overflow_of};
+ghost use Rattle.protocol.specs.Hart.{Request as ProtocolRequest, quiet, with_line, overflow_of, stamp_of};
 ghost use Rattle.protocol.specs.Requests.{granted_so_far, gives_way, grant_row, ack_row, nack_row};
-ghost use Rattle.protocol.specs.HartMessages.{message_row, forward_row, refuse_row, acknowledge_row, put_ack_row, content_held, reserved_given};
+ghost use Rattle.protocol.specs.HartMessages.{forward_row, tx_refusing, put_ack_row, content_held, reserved_given};
 
 use crate::hart::Hart;
-use crate::reply::Reply;
+use crate::reply::{ForwardAnswer, Settled};
 use crate::reservation::reserved_given;
 use crate::transactions::{give_way, note_refusal};
 use cache::Line;
 use conflict::{
     Granted, content_back, earlier, have_answered, keep_ack, keep_grant, keep_nack, refuses,
 };
-use words::{Block, BlockNo, Entry, HartId, Kind, LineState, Message, Stamp};
+use words::{Block, BlockNo, HartId, Kind, LineState, Stamp};
 
 impl<const SETS: usize, const WAYS: usize> Hart<SETS, WAYS> {
     ghost use Rattle.hart.specs.Staying.{StaysPut};
     ghost use Rattle.hart.specs.Places.{KeepsWays};
     ghost use Rattle.conflict.specs.Requests.{shown_granted};
     ghost use Rattle.hart.specs.Shown.{shown_line, shown_tx, shown_hart};
-    ghost use Rattle.hart.specs.Rows.{replied};
+    ghost use Rattle.hart.specs.Rows.{settled, answered};
 
-    /// Does what the protocol's row for the message says. A message that the hart doesn't await, or that is for the directory,
-    /// changes nothing.
+    /// Another hart asks for a block. The hart refuses, or it shares the block's line or gives it up.
     #[inline(always)]
-    pub fn on_message(&mut self, message: &Message) -> Reply
-        ensures row { (output : List ℕ) →
-            message_row self.old.harts self.old.index (shown message.now) (shown_hart SETS output self.old)
-            ≡ replied SETS output self.new result }
-        ensures ways { KeepsWays SETS self.old.cache self.new.cache }
-        ensures stays { StaysPut self.old self.new }
-    {
-        match message {
-            Message::Grant {
-                to: _,
-                block,
-                give,
-                content,
-                expect,
-            } => self.on_grant(
-                *block,
-                &Granted {
-                    give: *give,
-                    content: *content,
-                    expect: *expect,
-                },
-            ),
-            Message::Forward {
-                to: _,
-                block,
-                kind,
-                requester,
-                stamp,
-            } => self.on_forward(*block, *kind, *requester, *stamp),
-            Message::PutAck { to: _, block } => {
-                self.on_put_ack(*block);
-                Reply::none()
-            }
-            Message::Ack {
-                from,
-                to: _,
-                block,
-                content,
-            } => self.on_ack(*block, *from, content),
-            Message::Nack {
-                from,
-                to: _,
-                block,
-                stamp,
-            } => self.on_nack(*block, *from, *stamp),
-            Message::Get { .. } | Message::Put { .. } | Message::Done { .. } => Reply::none(),
-        }
-    }
-
-    /// Another hart asks for a block.
-    #[inline(always)]
-    fn on_forward(
-        &mut self,
-        block: BlockNo,
-        kind: Kind,
-        requester: HartId,
-        stamp: Option<Stamp>,
-    ) -> Reply
-        ensures row { (output : List ℕ) → forward_row self.old.index block kind requester stamp (shown_hart SETS output self.old)
-            ≡ replied SETS output self.new result }
+    pub fn on_forward(&mut self, block: BlockNo, kind: Kind, stamp: Option<Stamp>) -> ForwardAnswer
+        ensures row { (output : List ℕ) (requester : ℕ) → forward_row self.old.index block kind requester stamp (shown_hart SETS output self.old)
+            ≡ answered SETS output self.new requester block result }
         ensures ways { KeepsWays SETS self.old.cache self.new.cache }
         ensures stays { StaysPut self.old self.new }
     {
         let line = self.line(block);
         if self.refuses(&line, kind) {
-            return self.refuse(block, requester, stamp);
+            return ForwardAnswer::Nack(self.refuse(stamp));
         }
         let content = self.content_held(block, &line);
         self.give(block, &line, kind);
-        Reply {
-            message: Some(Message::Ack {
-                from: self.index,
-                to: requester,
-                block,
-                content,
-            }),
-            entry: None,
-        }
+        ForwardAnswer::Ack(content)
     }
 
     /// Whether the hart keeps a block from others: by the marks of its line, or without a line if it has overflowed.
@@ -119,28 +52,17 @@ impl<const SETS: usize, const WAYS: usize> Hart<SETS, WAYS> {
         }
     }
 
-    /// Keeps a block from another hart.
-    fn refuse(&mut self, block: BlockNo, requester: HartId, stamp: Option<Stamp>) -> Reply
-        ensures row { (output : List ℕ) → refuse_row self.old.index block requester stamp (shown_hart SETS output self.old)
-            ≡ replied SETS output self.new result }
+    /// Keeps a block from another hart, and answers the stamp of the transaction that does.
+    fn refuse(&mut self, stamp: Option<Stamp>) -> Option<Stamp>
+        ensures own { result ≡ stamp_of (shown_tx self.old.tx) }
+        ensures hart { (output : List ℕ) → let h = shown_hart SETS output self.old in
+            shown_hart SETS output self.new ≡ record h { tx = option_map (tx_refusing stamp) h.tx } }
         ensures cache { self.new.cache ≡ self.old.cache }
         ensures stays { StaysPut self.old self.new }
     {
         let own = self.stamp();
         note_refusal(&mut self.tx, stamp);
-        Reply {
-            message: Some(Message::Nack {
-                from: self.index,
-                to: requester,
-                block,
-                stamp: own,
-            }),
-            entry: Some(Entry::Refuse {
-                hart: self.index,
-                requester,
-                block,
-            }),
-        }
+        own
     }
 
     /// The content of a block that memory may lack: of its line, if that is E or M, else of the Put that isn't over.
@@ -181,7 +103,7 @@ impl<const SETS: usize, const WAYS: usize> Hart<SETS, WAYS> {
 
     /// The hart's Put of a block is over.
     #[inline(always)]
-    fn on_put_ack(&mut self, block: BlockNo)
+    pub fn on_put_ack(&mut self, block: BlockNo)
         ensures row { (output : List ℕ) → put_ack_row block (shown_hart SETS output self.old)
             ≡ quiet (shown_hart SETS output self.new) }
         ensures cache { self.new.cache ≡ self.old.cache }
@@ -194,129 +116,106 @@ impl<const SETS: usize, const WAYS: usize> Hart<SETS, WAYS> {
         }
     }
 
+    /// The directory grants the request that is out for a block.
     #[inline(always)]
-    fn on_grant(&mut self, block: BlockNo, granted: &Granted) -> Reply
+    pub fn on_grant(&mut self, block: BlockNo, granted: &Granted) -> Settled
         ensures row { (output : List ℕ) →
             grant_row self.old.harts self.old.index block (shown_granted granted.now) (shown_hart SETS output self.old)
-            ≡ replied SETS output self.new result }
+            ≡ settled SETS output self.new result }
         ensures ways { KeepsWays SETS self.old.cache self.new.cache }
         ensures stays { StaysPut self.old self.new }
     {
         if !keep_grant(&mut self.request, block, granted) {
-            return Reply::none();
+            return Settled::Waiting;
         }
         self.settle()
     }
 
+    /// Another hart has given up a block for the request that is out.
     #[inline(always)]
-    fn on_ack(&mut self, block: BlockNo, from: HartId, content: &Option<Block>) -> Reply
+    pub fn on_ack(&mut self, block: BlockNo, from: HartId, content: &Option<Block>) -> Settled
         ensures row { (output : List ℕ) →
             ack_row self.old.harts self.old.index block from content.now (shown_hart SETS output self.old)
-            ≡ replied SETS output self.new result }
+            ≡ settled SETS output self.new result }
         ensures ways { KeepsWays SETS self.old.cache self.new.cache }
         ensures stays { StaysPut self.old self.new }
     {
         if !keep_ack(&mut self.request, block, from, content) {
-            return Reply::none();
+            return Settled::Waiting;
         }
         self.settle()
     }
 
+    /// Another hart refuses the request that is out for a block.
     #[inline(always)]
-    fn on_nack(&mut self, block: BlockNo, from: HartId, stamp: Option<Stamp>) -> Reply
+    pub fn on_nack(&mut self, block: BlockNo, from: HartId, stamp: Option<Stamp>) -> Settled
         ensures row { (output : List ℕ) →
             nack_row self.old.harts self.old.index block from stamp (shown_hart SETS output self.old)
-            ≡ replied SETS output self.new result }
+            ≡ settled SETS output self.new result }
         ensures ways { KeepsWays SETS self.old.cache self.new.cache }
         ensures stays { StaysPut self.old self.new }
     {
         let is_earlier = earlier(stamp, self.stamp());
         if !keep_nack(&mut self.request, block, from, is_earlier) {
-            return Reply::none();
+            return Settled::Waiting;
         }
         self.settle()
     }
 
     /// Ends the request that is out, which has got another answer, if that was the last one; else waits on.
     #[inline(always)]
-    fn settle(&mut self) -> Reply
+    fn settle(&mut self) -> Settled
         ensures row { (output : List ℕ) (r : ProtocolRequest) → let h = shown_hart SETS output self.old in
-            h.request ≡ Some r → granted_so_far self.old.harts self.old.index r r.grant h ≡ replied SETS output self.new result }
+            h.request ≡ Some r → granted_so_far self.old.harts self.old.index r r.grant h ≡ settled SETS output self.new result }
         ensures ways { KeepsWays SETS self.old.cache self.new.cache }
         ensures stays { StaysPut self.old self.new }
     {
         let Some(request) = &self.request else {
-            return Reply::none();
+            return Settled::Waiting;
         };
         let Some(granted) = &request.grant else {
-            return Reply::none();
+            return Settled::Waiting;
         };
         if !have_answered(&granted.expect, &request.answered, self.harts) {
-            return Reply::none();
+            return Settled::Waiting;
         }
         let block = request.block;
         if request.refused {
             let earlier = request.earlier;
-            return self.end_refused(block, earlier);
+            self.end_refused(earlier);
+            return Settled::Refused(block);
         }
         let give = granted.give;
         let content = request.content.unwrap_or(granted.content);
         let back = content_back(give, request.content);
-        self.end_granted(block, give, &content, back)
+        self.end_granted(block, give, &content);
+        Settled::Granted(block, back)
     }
 
-    /// The request for a block ends refused, by an earlier transaction or not: the hart is free to ask again, unless its transaction aborts now.
-    fn end_refused(&mut self, block: BlockNo, earlier: bool) -> Reply
-        ensures row { (output : List ℕ) → let h = shown_hart SETS output self.old in
-            sends (Done self.old.index block false None) (record h { request = None; tx = option_map (gives_way earlier) h.tx })
-            ≡ replied SETS output self.new result }
+    /// The request that is out ends refused, by an earlier transaction or not: the hart is free to ask again, unless its transaction aborts now.
+    fn end_refused(&mut self, earlier: bool)
+        ensures hart { (output : List ℕ) → let h = shown_hart SETS output self.old in
+            shown_hart SETS output self.new ≡ record h { request = None; tx = option_map (gives_way earlier) h.tx } }
         ensures cache { self.new.cache ≡ self.old.cache }
         ensures stays { StaysPut self.old self.new }
     {
         self.request = None;
         give_way(&mut self.tx, earlier);
-        Reply {
-            message: Some(self.done(block, false, None)),
-            entry: None,
-        }
     }
 
-    /// The request for a block ends granted, and the hart is fresh: the block's line gets this content, and the directory is told what memory lacks.
+    /// The request for a block ends granted, and the hart is fresh: the block's line gets this content.
     #[inline(always)]
-    fn end_granted(
-        &mut self,
-        block: BlockNo,
-        give: LineState,
-        content: &Block,
-        back: Option<Block>,
-    ) -> Reply
+    fn end_granted(&mut self, block: BlockNo, give: LineState, content: &Block)
         requires { IsSomeAnd self.old.request (λ old. block ≡ old.block) }
-        ensures row { (output : List ℕ) → let h = shown_hart SETS output self.old in
-            sends (Done self.old.index block true back)
-            (with_line block (Some (line_filled give (overflow_of h.tx) content.now (h.lines block))) (record h { request = None; fresh = true }))
-            ≡ replied SETS output self.new result }
+        ensures hart { (output : List ℕ) → let h = shown_hart SETS output self.old in
+            shown_hart SETS output self.new
+            ≡ with_line block (Some (line_filled give (overflow_of h.tx) content.now (h.lines block))) (record h { request = None; fresh = true }) }
         ensures ways { KeepsWays SETS self.old.cache self.new.cache }
         ensures stays { StaysPut self.old self.new }
     {
         self.receive(block, give, *content);
         self.request = None;
         self.fresh = true;
-        Reply {
-            message: Some(self.done(block, true, back)),
-            entry: None,
-        }
-    }
-
-    /// What tells the directory that a request is over.
-    fn done(&self, block: BlockNo, ok: bool, content: Option<Block>) -> Message
-        ensures { shown result ≡ Done self.now.index block ok content }
-    {
-        Message::Done {
-            from: self.index,
-            block,
-            ok,
-            content,
-        }
     }
 
     /// The block that the hart waits for is given: an absent line is filled, and one that is there may be written from now on, if

@@ -1,25 +1,32 @@
 ghost use Rattle.std.specs.Prelude.{◌≡◌, false, Some, None};
 
-use words::{Entry, Message};
+use words::{Block, BlockNo, Entry, Message, Stamp};
 
-/// What a hart sends, and the entry that it gives, when a message arrives at it or a line is evicted.
+/// What a hart sends, and the entry that it gives, when a line is evicted.
 #[derive(Clone, Copy, Debug, PartialEq, Eq)]
 pub struct Reply {
     pub message: Option<Message>,
     pub entry: Option<Entry>,
 }
 
-impl Reply {
-    /// Nothing to send, and nothing to show.
-    pub(crate) const fn none() -> Self
-        ensures message { result.message ≡ None }
-        ensures entry { result.entry ≡ None }
-    {
-        Reply {
-            message: None,
-            entry: None,
-        }
-    }
+/// How the request that is out goes on, once an answer to it has arrived.
+#[derive(Clone, Copy, Debug, PartialEq, Eq)]
+pub enum Settled {
+    /// It awaits others still, or none was out for the answer's block.
+    Waiting,
+    /// That for a block has ended: a hart refused it.
+    Refused(BlockNo),
+    /// That for a block has ended granted. The directory is told of its content what memory lacks.
+    Granted(BlockNo, Option<Block>),
+}
+
+/// What a hart answers to another's request for a block.
+#[derive(Clone, Copy, Debug, PartialEq, Eq)]
+pub enum ForwardAnswer {
+    /// It refuses: its transaction, if it has one, has this stamp.
+    Nack(Option<Stamp>),
+    /// It shares the block or has given it up. It sends the content, where only it had it.
+    Ack(Option<Block>),
 }
 
 /// What a core step sends and shows.

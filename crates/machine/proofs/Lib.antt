@@ -11,6 +11,7 @@ mod Staying
 mod Sound
 mod Steps
 mod Deliveries
+mod Arriving
 mod Served
 mod Blocks
 mod Beginning

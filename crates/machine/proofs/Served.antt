@@ -88,7 +88,7 @@ row_is sets ways key v m sound here =
 -- a message that is held stays in flight
 pub holds : (sets ways key : ℕ) (v : State) (m : Message) → IsSound sets ways v → in_flight v.flights key ≡ Some (shown_message m) → receiver_of (shown_message m) ≡ None
     → row_of v.directory (shown_message m) ≡ None → MakesStep (geometry sets ways) v (Deliver key) None v
-holds sets ways key v m sound here goes held = arrives sets ways key v m None None v here goes (seats_stay sets v v refl) (logs_stay v v refl) sound.kept
+holds sets ways key v m sound here goes held = arrives sets ways key v (shown_message m) None None v here goes (seats_stay sets v v refl) (logs_stay v v refl) sound.kept
     (subst (λ o. BringsAbout sets v (served_change key (block_of (shown_message m)) o (shown sets v)) None v) (sym (row_is sets ways key v m sound here ∙ held)) (nothing sets v))
 
 -- and one that is served is taken, and the answers are sent
@@ -121,7 +121,7 @@ serves sets ways key v w m s sound here goes d = (made, kept)
     about = record { entry = refl; machine = same; left = put_at key None (mail_of v.flights); leaves = left_without key v.flights; sends = d.sends }
 
     made : MakesStep (geometry sets ways) v (Deliver key) None w
-    made = arrives sets ways key v m None None w here goes (seats_stay sets v w d.seats) (logs_stay v w d.seats) d.used
+    made = arrives sets ways key v (shown_message m) None None w here goes (seats_stay sets v w d.seats) (logs_stay v w d.seats) d.used
         (subst (λ o. BringsAbout sets v (served_change key b o (shown sets v)) None w) (sym (row_is sets ways key v m sound here ∙ d.row)) about)
 
     kept : IsSound sets ways w

@@ -1,6 +1,7 @@
 //! The coherent machine: harts with caches and undo logs, a directory, and the messages in flight between them.
 #![tactic(auto)]
 
+mod arrivals;
 mod engine;
 mod flights;
 mod info;

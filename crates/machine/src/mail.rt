@@ -1,4 +1,4 @@
-ghost use Rattle.std.specs.Prelude.{◌≡◌, ◌<◌, ◌≤◌, ◌+◌, None, option_to_list, IsSome};
+ghost use Rattle.std.specs.Prelude.{◌≡◌, ◌<◌, ◌≤◌, ◌+◌, [], ◌∷◌, None, option_to_list, IsSome};
 ghost use Rattle.std.specs.Option.{option_map};
 ghost use Rattle.protocol.specs.Messages.{shown, receiver_of};
 ghost use Rattle.flat.specs.Bytes.{put_at};
@@ -6,11 +6,13 @@ ghost use Rattle.words.specs.Harts.{names};
 ghost use Rattle.words.specs.Limits.{most_harts};
 ghost use Rattle.protocol.specs.Directory.{forwards};
 ghost use Rattle.directory.specs.Sends.{messages_in};
+ghost use Rattle.hart.specs.Rows.{done_of, answer_of, refusal_of};
 ghost use Rattle.machine.specs.Mail.{in_flight, mail_of, SendsOn};
 
 use directory::{Answer, Request};
+use hart::{ForwardAnswer, Settled};
 use network::Net;
-use words::{HartId, HartSet, Message};
+use words::{BlockNo, Entry, HartId, HartSet, Message};
 
 /// The hart that a message goes to. `None` where it goes to the directory.
 pub fn receiver(message: &Message) -> Option<HartId>
@@ -45,6 +47,72 @@ pub fn send(net: &mut Net, message: Option<Message>)
 {
     if let Some(message) = message {
         net.send(message);
+    }
+}
+
+/// Tells the directory how a hart's request goes on, if it has ended.
+#[inline(always)]
+pub fn send_done(net: &mut Net, from: HartId, settled: Settled)
+    requires { 0 < net.old.room }
+    ensures { SendsOn (mail_of net.old.slots) net.old.next (option_to_list (done_of from settled)) (mail_of net.new.slots) net.new.next }
+{
+    match settled {
+        Settled::Waiting => {}
+        Settled::Refused(block) => {
+            net.send(Message::Done {
+                from,
+                block,
+                ok: false,
+                content: None,
+            });
+        }
+        Settled::Granted(block, content) => {
+            net.send(Message::Done {
+                from,
+                block,
+                ok: true,
+                content,
+            });
+        }
+    }
+}
+
+/// Sends what a hart answers to another's request for a block, and gives the entry that there is of it.
+#[inline(always)]
+pub fn send_reply(
+    net: &mut Net,
+    from: HartId,
+    requester: HartId,
+    block: BlockNo,
+    answer: ForwardAnswer,
+) -> Option<Entry>
+    requires { 0 < net.old.room }
+    ensures sent { SendsOn (mail_of net.old.slots) net.old.next (answer_of from requester block answer ∷ []) (mail_of net.new.slots) net.new.next }
+    ensures entry { result ≡ refusal_of from requester block answer }
+{
+    match answer {
+        ForwardAnswer::Ack(content) => {
+            net.send(Message::Ack {
+                from,
+                to: requester,
+                block,
+                content,
+            });
+            None
+        }
+        ForwardAnswer::Nack(stamp) => {
+            net.send(Message::Nack {
+                from,
+                to: requester,
+                block,
+                stamp,
+            });
+            Some(Entry::Refuse {
+                hart: from,
+                requester,
+                block,
+            })
+        }
     }
 }
 

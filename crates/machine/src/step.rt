@@ -2,18 +2,19 @@ ghost use Rattle.std.specs.Prelude.{◌≡◌, ◌<◌, ℕ, IfOk, IfSome, IfNon
 ghost use Rattle.std.specs.Option.{option_map};
 ghost use Rattle.words.specs.declared.entry.Step.TheVariants.{Core, Evict, Deliver};
 ghost use Rattle.protocol.specs.Machine.{Steps, stamps_after};
-ghost use Rattle.protocol.specs.Messages.{shown as shown_message, receiver_of};
+ghost use Rattle.protocol.specs.Messages.{shown as shown_message};
 ghost use Rattle.isolation.specs.Reasons.{LeadOn};
-ghost use Rattle.machine.specs.Mail.{SendsOn, in_flight, mail_of};
+ghost use Rattle.machine.specs.Mail.{SendsOn, mail_of};
 ghost use Rattle.machine.specs.Making.{MakesStep};
 
 use crate::listener::{Caller, Listener};
 use crate::machine::Machine;
-use crate::mail::{receiver, send, send_answer, take};
+use crate::mail::send;
+use crate::play::{ELSEWHERE, TOLD_STEP};
 use hart::CoreStep;
 use network::Net;
 use std::alloc::AllocError;
-use words::{BlockNo, Entry, HARTS, HartId, Message, Step};
+use words::{BlockNo, Entry, HartId, Step};
 
 /// How many new stamps were taken, up to the greatest u64.
 #[inline(always)]
@@ -41,13 +42,17 @@ fn note(stamps: &mut u64, net: &mut Net, made: &CoreStep)
 impl<const SETS: usize, const WAYS: usize> Machine<SETS, WAYS> {
     ghost use Rattle.machine.specs.States.{shown, geometry};
 
-    /// One step of a hart's core. It is too large to be inlined at more than one place, so there is one of it for each listener.
+    /// One step of a hart's core. It is too large to be inlined at more than one place, so there is one of it for each listener, and the common steps have
+    /// a number for each place.
     #[inline(always)]
-    pub(crate) fn core<L: Listener>(&mut self, id: HartId) -> Result<Option<Entry>, AllocError>
+    pub(crate) fn core<L: Listener, const PLACE: usize>(
+        &mut self,
+        id: HartId,
+    ) -> Result<Option<Entry>, AllocError>
         ensures steps { IfOk result (λ e. MakesStep (geometry SETS WAYS) self.old (Core id) e self.new) }
         ensures err { OnErr result (self.new ≡ self.old) }
     {
-        match self.common_core::<L>(id)? {
+        match self.common_core::<L, PLACE>(id)? {
             Some(entry) => Ok(entry),
             None => self.any_core::<L>(id),
         }
@@ -55,7 +60,10 @@ impl<const SETS: usize, const WAYS: usize> Machine<SETS, WAYS> {
 
     /// One of the common steps of a hart's core, made quickly. The answer is `None`, and nothing changes, where the hart declines.
     #[inline(always)]
-    fn common_core<L: Listener>(&mut self, id: HartId) -> Result<Option<Option<Entry>>, AllocError>
+    fn common_core<L: Listener, const PLACE: usize>(
+        &mut self,
+        id: HartId,
+    ) -> Result<Option<Option<Entry>>, AllocError>
         ensures steps { IfOk result (λ made. IfSome made (λ e. MakesStep (geometry SETS WAYS) self.old (Core id) e self.new)) }
         ensures none { IfOk result (λ made. IfNone made (self.new ≡ self.old)) }
         ensures err { OnErr result (self.new ≡ self.old) }
@@ -65,7 +73,7 @@ impl<const SETS: usize, const WAYS: usize> Machine<SETS, WAYS> {
             return Ok(None);
         }
         self.net.reserve(1)?;
-        match self.seats[i].common_step(&self.program.text(), self.stamps)? {
+        match self.seats[i].common_step::<PLACE>(&self.program.text(), self.stamps)? {
             None => Ok(None),
             Some(made) => {
                 note(&mut self.stamps, &mut self.net, &made);
@@ -114,61 +122,6 @@ impl<const SETS: usize, const WAYS: usize> Machine<SETS, WAYS> {
         }
     }
 
-    /// The message under a key arrives. A message that is held stays in flight.
-    #[inline(always)]
-    pub(crate) fn deliver(&mut self, key: usize) -> Result<Option<Entry>, AllocError>
-        ensures steps { IfOk result (λ e. MakesStep (geometry SETS WAYS) self.old (Deliver key) e self.new) }
-        ensures err { OnErr result (self.new ≡ self.old) }
-    {
-        match self.net.peek(key) {
-            None => Ok(None),
-            Some(message) => match receiver(message) {
-                Some(id) => Ok(self.deliver_to_hart(key, id)),
-                None => self.deliver_to_directory(key),
-            },
-        }
-    }
-
-    /// The message under a key arrives at a hart. One for no hart stays in flight.
-    #[inline(always)]
-    fn deliver_to_hart(&mut self, key: usize, id: HartId) -> Option<Entry>
-        requires { option_map receiver_of (in_flight self.old.flights key) ≡ Some (Some id) }
-        ensures { MakesStep (geometry SETS WAYS) self.old (Deliver key) result self.new }
-    {
-        let Some(message) = self.net.peek(key) else {
-            return None;
-        };
-        let i = id.index();
-        if i >= self.seats.len() {
-            return None;
-        }
-        let reply = self.seats[i].hart.on_message(message);
-        take(&mut self.net, key);
-        send(&mut self.net, reply.message);
-        reply.entry
-    }
-
-    /// The message under a key arrives at the directory.
-    #[inline(always)]
-    fn deliver_to_directory(&mut self, key: usize) -> Result<Option<Entry>, AllocError>
-        requires { option_map receiver_of (in_flight self.old.flights key) ≡ Some None }
-        ensures steps { IfOk result (λ e. MakesStep (geometry SETS WAYS) self.old (Deliver key) e self.new) }
-        ensures err { OnErr result (self.new ≡ self.old) }
-    {
-        self.net.reserve(HARTS)?;
-        let Some(message) = self.net.peek(key) else {
-            return Ok(None);
-        };
-        match self.directory.serve(message)? {
-            None => Ok(None),
-            Some(answer) => {
-                take(&mut self.net, key);
-                send_answer(&mut self.net, &answer, self.directory.harts());
-                Ok(None)
-            }
-        }
-    }
-
     /// One step, enabled or not. One that isn't enabled changes nothing, and gives no entry. It fails only if memory runs out.
     pub fn step(&mut self, step: Step) -> Result<Option<Entry>, AllocError>
         // Exactly one step of the protocol's machine is made, in which the cache's rule says which line makes way, and messages are numbered as they are sent.
@@ -181,10 +134,10 @@ impl<const SETS: usize, const WAYS: usize> Machine<SETS, WAYS> {
         match step {
             Step::Core(id) => match self.retire_plain(id) {
                 Some(entry) => Ok(Some(entry)),
-                None => self.core::<Caller>(id),
+                None => self.core::<Caller, ELSEWHERE>(id),
             },
             Step::Evict(id, block) => self.evict(id, block),
-            Step::Deliver(key) => self.deliver(key),
+            Step::Deliver(key) => self.deliver::<TOLD_STEP>(key),
         }
     }
 }

@@ -96,7 +96,7 @@ fn harts_turn<const SETS: usize, const WAYS: usize>(
 
 /// The key of the oldest message that the directory doesn't hold.
 #[inline(always)]
-fn oldest_free(directory: &Directory, net: &Net) -> Option<usize>
+pub(crate) fn oldest_free(directory: &Directory, net: &Net) -> Option<usize>
     ensures some { IfSome result (λ key. (w : MachineState) → w.entries ≡ entry_at directory.now → IsOldestFree w net.now.slots key) }
     ensures none { IfNone result ((w : MachineState) → w.entries ≡ entry_at directory.now → AllHeld w net.now.slots) }
 {

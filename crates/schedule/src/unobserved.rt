@@ -9,7 +9,7 @@ use crate::chooser::Chooser;
 use crate::halt::{Halt, Unseen};
 use crate::observer::Observer;
 use crate::runs::run;
-use machine::{Machine, Nobody, Progress, Turned};
+use machine::{Machine, Progress, Turned};
 use network::Flight;
 use std::alloc::AllocError;
 use words::{Entry, Step};
@@ -44,7 +44,7 @@ impl<const SETS: usize, const WAYS: usize> Observer<SETS, WAYS, ()> for Unobserv
         _log: &mut (),
     ) -> Result<(), Halt> {
         if declined {
-            machine.make_step(step, &mut Nobody)?;
+            machine.take_declined(step)?;
         } else {
             machine.take_step(step)?;
         }
@@ -59,9 +59,14 @@ impl<const SETS: usize, const WAYS: usize> Observer<SETS, WAYS, ()> for Unobserv
         most: u32,
         _log: &mut (),
     ) -> (u32, Turned) {
-        // Most turns under contention are messages' turns: nothing is set up behind those.
+        // Most turns under contention are messages' turns.
         if !last.quiescent {
-            return (0, last);
+            let taken = machine.take_arrivals(most);
+            let behind = Turned {
+                hart: last.hart,
+                quiescent: machine.is_quiescent(),
+            };
+            return (taken, behind);
         }
         let plain = machine.plain_turns(last, most);
         (plain.turns, plain.last)

@@ -1,10 +1,10 @@
 //! What has to come of each row.
 
 use super::moves::{
-    ONES, Small, block, forward, grant, grant_but_for_one, one, own_stamp, step, step_at, zero,
+    ONES, Small, block, forward, grant, grant_but_for_one, one, own_stamp, step, step_at,
 };
 use crate::tests::claims::{equal, equal_at, holds};
-use hart::Local;
+use hart::{ForwardAnswer, Local, Settled};
 use std::process::Abort;
 use table::Text;
 use words::{
@@ -61,14 +61,8 @@ fn check_asks(rt: &impl Abort, hart: &mut Small, text: &Text, kind: Kind) {
 
 /// The request for the block is granted.
 fn check_granted(rt: &impl Abort, hart: &mut Small, give: LineState) {
-    let reply = grant(hart, block(), give, HartSet::empty());
-    let done = Message::Done {
-        from: one(),
-        block: block(),
-        ok: true,
-        content: None,
-    };
-    equal(rt, &reply.message, &Some(done));
+    let settled = grant(hart, block(), give, HartSet::empty());
+    equal(rt, &settled, &Settled::Granted(block(), None));
     check_fresh(rt, hart, true);
 }
 
@@ -112,48 +106,29 @@ fn check_waiting(rt: &impl Abort, hart: &Small, want: bool) {
 }
 
 pub(crate) fn check_waits(rt: &impl Abort, hart: &mut Small, block: BlockNo) {
-    equal(rt, &grant_but_for_one(hart, block).message, &None);
+    equal(rt, &grant_but_for_one(hart, block), &Settled::Waiting);
     check_waiting(rt, hart, true);
 }
 
 pub(crate) fn check_ends_refused(rt: &impl Abort, hart: &mut Small, block: BlockNo) {
-    let done = Message::Done {
-        from: one(),
-        block,
-        ok: false,
-        content: None,
-    };
-    equal(rt, &grant_but_for_one(hart, block).message, &Some(done));
+    let settled = grant_but_for_one(hart, block);
+    equal(rt, &settled, &Settled::Refused(block));
     check_waiting(rt, hart, false);
 }
 
 pub(crate) fn check_shared(rt: &impl Abort, hart: &mut Small, content: Block) {
-    let ack = Message::Ack {
-        from: one(),
-        to: zero(),
-        block: block(),
-        content: Some(content),
-    };
-    let reply = forward(hart, Kind::Read, None);
-    equal(rt, &(reply.message, reply.entry), &(Some(ack), None));
+    let answer = forward(hart, Kind::Read, None);
+    equal(rt, &answer, &ForwardAnswer::Ack(Some(content)));
 }
 
 pub(crate) fn check_given(rt: &impl Abort, hart: &mut Small, kind: Kind, stamp: Option<u64>) {
-    let reply = forward(hart, kind, stamp);
-    holds(rt, matches!(reply.message, Some(Message::Ack { .. })));
-    equal(rt, &reply.entry, &None);
+    let answer = forward(hart, kind, stamp);
+    holds(rt, matches!(answer, ForwardAnswer::Ack(_)));
 }
 
 pub(crate) fn check_refused(rt: &impl Abort, hart: &mut Small, kind: Kind, stamp: Option<u64>) {
-    let nack = Message::Nack {
-        from: one(),
-        to: zero(),
-        block: block(),
-        stamp: own_stamp(),
-    };
-    let reply = forward(hart, kind, stamp);
-    equal(rt, &reply.message, &Some(nack));
-    holds(rt, matches!(reply.entry, Some(Entry::Refuse { .. })));
+    let answer = forward(hart, kind, stamp);
+    equal(rt, &answer, &ForwardAnswer::Nack(own_stamp()));
 }
 
 pub(crate) fn check_retires_alone(rt: &impl Abort, hart: &mut Small, text: &Text) {

@@ -1,7 +1,7 @@
 //! Hart 1 of 2, its program, and what happens to it.
 
 use crate::tests::claims::{equal, holds, holds_at};
-use hart::{CoreStep, Hart, Reply};
+use hart::{CoreStep, ForwardAnswer, Granted, Hart, Settled};
 use std::alloc::{AllocError, Global};
 use std::process::Abort;
 use table::{Segment, Text};
@@ -91,48 +91,33 @@ pub(crate) fn ask(rt: &impl Abort, hart: &mut Small, text: &Text) {
 }
 
 /// The grant of a request, which these harts have to answer.
-pub(crate) fn grant(hart: &mut Small, block: BlockNo, give: LineState, expect: HartSet) -> Reply {
-    hart.on_message(&Message::Grant {
-        to: one(),
-        block,
-        give,
+pub(crate) fn grant(hart: &mut Small, block: BlockNo, give: LineState, expect: HartSet) -> Settled {
+    let granted = Granted {
         content: ONES,
+        give,
         expect,
-    })
+    };
+    hart.on_grant(block, &granted)
 }
 
 /// The grant of a request that hart 0 has to answer.
-pub(crate) fn grant_but_for_one(hart: &mut Small, block: BlockNo) -> Reply {
+pub(crate) fn grant_but_for_one(hart: &mut Small, block: BlockNo) -> Settled {
     let mut expect = HartSet::empty();
     expect.insert(zero());
     grant(hart, block, LineState::Shared, expect)
 }
 
 /// Hart 0 asks for the block.
-pub(crate) fn forward(hart: &mut Small, kind: Kind, stamp: Option<u64>) -> Reply {
-    hart.on_message(&Message::Forward {
-        to: one(),
-        block: block(),
-        kind,
-        requester: zero(),
-        stamp: stamp.map(stamp_of_zero),
-    })
+pub(crate) fn forward(hart: &mut Small, kind: Kind, stamp: Option<u64>) -> ForwardAnswer {
+    hart.on_forward(block(), kind, stamp.map(stamp_of_zero))
 }
 
 /// Hart 0 refuses a request.
 pub(crate) fn nack(hart: &mut Small, block: BlockNo, stamp: u64) {
-    hart.on_message(&Message::Nack {
-        from: zero(),
-        to: one(),
-        block,
-        stamp: Some(stamp_of_zero(stamp)),
-    });
+    hart.on_nack(block, zero(), Some(stamp_of_zero(stamp)));
 }
 
 /// The Put of the block is over.
 pub(crate) fn put_over(hart: &mut Small) {
-    hart.on_message(&Message::PutAck {
-        to: one(),
-        block: block(),
-    });
+    hart.on_put_ack(block());
 }

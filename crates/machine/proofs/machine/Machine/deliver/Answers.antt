@@ -6,7 +6,7 @@ use Rattle.machine.specs.Mail.{in_flight}
 use Rattle.machine.proofs.Deliveries.{arrives_none}
 use Rattle.machine.proofs.machine.Machine.deliver.Goals as goal
 
-pub returns-in-None-clause-steps : goal.returns-in-None-clause-steps
-returns-in-None-clause-steps g c =
+pub returns-in_default-clause-steps : goal.returns-in_default-clause-steps
+returns-in_default-clause-steps g c =
     arrives_none g.row.SETS g.row.WAYS c.args.key c.args.self.now (subst (IsSound g.row.SETS g.row.WAYS) c.self.view_is c.self.invariant)
-    (ap (λ (m : State). in_flight m.flights c.args.key) (sym c.self.view_is) ∙ ap (option_map shown_message) (sym c.in-None.ensures))
+    (ap (λ (m : State). in_flight m.flights c.args.key) (sym c.self.view_is) ∙ ap (option_map shown_message) (sym c.in_default.ensures))
