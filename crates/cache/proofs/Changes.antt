@@ -1,5 +1,5 @@
 -- Filling, replacing and removing a block's line.
-use Rattle.std.proofs.Common.{◌≡◌, ◌≢◌, ℕ, ◌<◌, ◌≤◌, ◌*◌, ◌^◌, ◌%◌, Bool, true, false, is_some, map, IsTrue, Option, Some, None, List, [], length, get_or, set, refl, sym, ◌∙◌, ap, arith, position, get_or-set_same, length-set, subst}
+use Rattle.std.proofs.Common.{◌≡◌, ◌≢◌, ℕ, ◌<◌, ◌≤◌, ◌*◌, ◌^◌, ◌%◌, Bool, true, false, is_some, map, IsTrue, IsSome, Option, Some, None, List, [], length, get_or, set, refl, sym, ◌∙◌, ap, arith, position, get_or-set_same, length-set, subst}
 use Rattle.std.proofs.lemmas.Bool.Decides.{nat_tests}
 use Rattle.std.proofs.Math.Nat.{le-mul_of_pos_right, mul_comm}
 use Rattle.std.proofs.lemmas.Option.{same_Some}
@@ -7,7 +7,7 @@ use Rattle.std.specs.Option.{option_map}
 use Rattle.cache.specs.declared.line.Line.{Line}
 use Rattle.words.specs.declared.message.LineState.TheVariants.{Modified}
 use Rattle.cache.specs.Ways.{holds, is_free, has_line}
-use Rattle.cache.specs.Sets.{Sets, at, line_at, with_way, CanStand, IsSound, HasRoom, with_first, SetsLine, ChangesLine}
+use Rattle.cache.specs.Sets.{Sets, at, line_at, way_at, with_way, CanStand, IsSound, HasRoom, with_first, SetsLine, ChangesLine}
 use Rattle.cache.proofs.Found.{IsFirst, is_first, some-position, held, holds-other, free_is_none, none-holds}
 use Rattle.cache.proofs.OneWay.{line_at-with_way, line_at-with_way_none, line_at-with_way_other}
 use Rattle.cache.proofs.Sound.{alone-holds, IsSound-with_way}
@@ -79,6 +79,16 @@ stands count size sets b w sound len found =
       inside = first.inside;
       only = λ v ne. rw (l.2) at (alone-holds count size sets (b % count) w v l.0 sound l.1 ne);
     }
+
+-- the way of a block holds it
+pub found_way : (count : ℕ) (sets : Sets) (b w : ℕ) → way_at count sets b ≡ Some w → position (holds b) (get_or sets (b % count) []) ≡ Some w
+unfolding way_at
+found_way count sets b w is = is
+
+-- a block with a line has a way
+pub has_way : (count : ℕ) (sets : Sets) (b : ℕ) → way_at count sets b ≡ None → IsSome (line_at count sets b) → ⊥
+unfolding way_at line_at
+has_way count sets b none some = let no : false ≡ true = rw none at some in cc
 
 -- the way that holds a block holds no other
 stands-other : (count : ℕ) (sets : Sets) (b w a : ℕ) → Stands count sets b w → a ≢ b → holds a (at sets (b % count) w) ≡ false

@@ -13,7 +13,9 @@ use crate::bytes::with_bytes;
 use crate::line::Line;
 use crate::occupied::Occupied;
 use crate::sets::{assign_sets, clear_sets, same_sets};
-use crate::ways::{Victim, free_way, has_line, line_of, mark, put_word, victim_of, way_of};
+use crate::ways::{
+    Victim, free_way, has_line, line_of, mark, put_word, set_state, victim_of, way_of,
+};
 use std::array;
 use std::marker::Model;
 use words::{Addr, BLOCK_WORDS, Block, BlockNo, LineState, Marks, Width};
@@ -89,17 +91,19 @@ impl<const SETS: usize, const WAYS: usize> Cache<SETS, WAYS> {
     }
 
     /// A block's line, in the way in which it stands.
-    #[tactic(auto, unfolding(crate::specs::Sets::line_at, crate::specs::Sets::way_at))]
     #[inline(always)]
-    pub fn line_in(&self, block: BlockNo, way: usize) -> Option<&Line>
+    pub fn line_in(&self, block: BlockNo, way: usize) -> &Line
         requires { way_at SETS self.now block ≡ Some way }
-        ensures value { option_map (λ line. line.now) result ≡ line_at SETS self.now block }
-        ensures block { IfSome result (λ line. line.now.block ≡ block) }
-        ensures owned { IfSome result (λ line. IsTrue line.now.marks.written → line.now.state ≡ Modified) }
+        ensures value { line_at SETS self.now block ≡ Some result.now }
+        ensures block { result.now.block ≡ block }
+        ensures owned { IsTrue result.now.marks.written → result.now.state ≡ Modified }
     {
         let sets = &self.sets[..];
         let ways = &sets[block.index() % SETS];
-        ways[way].as_ref()
+        match &ways[way] {
+            Some(line) => line,
+            None => unreachable!(),
+        }
     }
 
     /// Gives a block's line other marks, in the way in which it stands.
@@ -215,29 +219,41 @@ impl<const SETS: usize, const WAYS: usize> Cache<SETS, WAYS> {
     }
 
     /// Makes a block's line modified, so that it may be stored to.
+    #[inline(always)]
     pub fn promote(&mut self, block: BlockNo)
         requires { IsSome (line_at SETS self.old block) }
-        ensures { ChangesLine SETS self.old self.new block (in_state Modified) }
+        ensures line { ChangesLine SETS self.old self.new block (in_state Modified) }
+        ensures rooms { (b : ℕ) → HasRoom SETS self.old b → HasRoom SETS self.new b }
     {
-        if let Some(line) = self.look(block) {
-            self.replace(Line {
-                state: LineState::Modified,
-                ..line
-            });
+        if let Some(way) = self.way(block) {
+            self.set_state_in(block, way, LineState::Modified);
         }
     }
 
     /// Makes a block's line shared, so that it is only read. Its marks stay.
+    #[inline(always)]
     pub fn downgrade(&mut self, block: BlockNo)
         requires { IsSomeAnd (line_at SETS self.old block) (λ line. IsFalse line.marks.written) }
-        ensures { ChangesLine SETS self.old self.new block (in_state Shared) }
+        ensures line { ChangesLine SETS self.old self.new block (in_state Shared) }
+        ensures rooms { (b : ℕ) → HasRoom SETS self.old b → HasRoom SETS self.new b }
     {
-        if let Some(line) = self.look(block) {
-            self.replace(Line {
-                state: LineState::Shared,
-                ..line
-            });
+        if let Some(way) = self.way(block) {
+            self.set_state_in(block, way, LineState::Shared);
         }
+    }
+
+    /// Gives a block's line another state, in the way in which it stands.
+    #[inline(always)]
+    #[tactic(auto, unfolding(crate::specs::Sets::line_at, crate::specs::Sets::way_at))]
+    fn set_state_in(&mut self, block: BlockNo, way: usize, state: LineState)
+        requires way { way_at SETS self.old block ≡ Some way }
+        requires owned { IsSomeAnd (line_at SETS self.old block) (λ line. IsTrue line.marks.written → state ≡ Modified) }
+        ensures line { ChangesLine SETS self.old self.new block (in_state state) }
+        ensures rooms { (b : ℕ) → HasRoom SETS self.old b → HasRoom SETS self.new b }
+    {
+        let sets = &mut self.sets[..];
+        let ways = &mut sets[block.index() % SETS];
+        set_state(ways, way, state);
     }
 
     /// Puts a line in the place of the one that its block has.

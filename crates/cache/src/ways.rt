@@ -1,7 +1,7 @@
 ghost use Rattle.std.specs.Prelude.{◌≡◌, ◌<◌, position, length, is_some, map, replicate, None, get_or, slice_set};
 ghost use Rattle.std.specs.Option.{option_map};
 ghost use Rattle.words.specs.Limits.{block_words};
-ghost use Rattle.cache.specs.Line.{without_marks, with_marks, put_into, put_out_by};
+ghost use Rattle.cache.specs.Line.{without_marks, with_marks, put_into, put_out_by, in_state};
 ghost use Rattle.cache.specs.Ways.{holds, is_free, is_unmarked, has_line, line_in, victim_in};
 
 use crate::line::Line;
@@ -128,6 +128,17 @@ pub fn mark(ways: &mut [Option<Line>], way: usize, marks: Marks)
 {
     if let Some(line) = &mut ways[way] {
         line.marks = marks;
+    }
+}
+
+/// Gives a way's line another state.
+#[inline(always)]
+pub fn set_state(ways: &mut [Option<Line>], way: usize, state: LineState)
+    requires { way < length ways.old }
+    ensures { ways.new ≡ slice_set ways.old way (option_map (in_state state) (get_or ways.old way None)) }
+{
+    if let Some(line) = &mut ways[way] {
+        line.state = state;
     }
 }
 

@@ -1,32 +1,24 @@
 -- Which entries are kept, as they change.
 use Rattle.std.proofs.Common.{◌≡◌, ◌≢◌, ◌<◌, ◌↔◌, ℕ, Bool, true, false, cond, Option, Some, None, List, length, refl, sym, ap, ◌∙◌, subst, inl, inr, arith, nat_cmp}
 use Rattle.std.proofs.lemmas.Bool.{cases_eq, cases_lt}
-use Rattle.std.proofs.lemmas.Bool.Decides.{nat_tests}
+use Rattle.std.proofs.lemmas.Map.Steps.{set_value_same}
 use Rattle.std.proofs.lemmas.Option.{same_Some}
 use Rattle.std.proofs.Math.Path.{fun_ext}
-use Rattle.std.specs.Prelude.{IsTrue}
+use Rattle.std.specs.Prelude.{is_some, IsTrue}
 use Rattle.std.specs.Option.{option_map}
 use Rattle.std.specs.Cmp.{nat_cmp_is}
 use Rattle.std.specs.Ordering.{is_eq}
 use Rattle.std.specs.declared.cmp.Ordering.TheVariants.{Less, Equal, Greater}
 use Rattle.std.specs.BTreeMap.{is_at}
-use Rattle.std.specs.Map.{lookup}
+use Rattle.std.specs.Map.{lookup, set_value}
 use Rattle.words.specs.Harts.{names}
-use Rattle.words.specs.declared.message.Kind.{Kind}
-use Rattle.words.specs.declared.message.Kind.TheVariants.{Read, Write}
 use Rattle.protocol.specs.Messages.{Block}
-use Rattle.protocol.specs.Directory.{DirEntry, Owner, Nobody, Owned, Sticky, first_entry, must_answer, expected_now}
+use Rattle.protocol.specs.Directory.{DirEntry, Served, unless_busy, Nobody, Owned, Sticky, first_entry}
 use Rattle.directory.specs.declared.entry.Busy.{Busy as CodedBusy}
 use Rattle.directory.specs.declared.entry.DirEntry.{DirEntry as CodedEntry}
 use Rattle.directory.specs.declared.entry.Owner.TheVariants as coded
 use Rattle.directory.specs.Entries.{shown_busy, shown_entry, NamesBelow}
 use Rattle.directory.specs.Blocks.{IsKept, IsSound}
-
-pub must_answer-self : (r : ℕ) (kind : Kind) (owner : Owner) (sharers : ℕ → Bool) → must_answer owner sharers r kind r ≡ false
-must_answer-self r Read Nobody sharers = refl
-must_answer-self r Write Nobody sharers = grind (arith, nat_tests)
-must_answer-self r kind (Owned o) sharers = grind (arith, nat_tests)
-must_answer-self r kind (Sticky o) sharers = grind (arith, nat_tests)
 
 -- the first entry names nobody
 pub NamesBelow-first : (n : ℕ) (e : DirEntry) → e ≡ first_entry → NamesBelow n e
@@ -77,6 +69,21 @@ IsSound-put harts memory old new b x sound kept may =
     let P : CodedEntry → Type 0 = IsKept harts (length memory) b in
     IsSound-update harts memory old new b (Some x) sound kept (λ e at. subst P (same_Some x e at) may)
 
+-- words that change keep it sound
+pub IsSound-words : (harts : ℕ) (old new : List Block) (kept : List (ℕ × CodedEntry)) → length new ≡ length old
+    → IsSound (record { harts = harts; kept = kept; memory = old }) → IsSound (record { harts = harts; kept = kept; memory = new })
+IsSound-words harts old new kept size sound = record { some = sound.some; few = sound.few; blocks = rw size sound.blocks; kept = rw size sound.kept }
+
+-- what was found under a key, and is put back there, changes nothing
+pub put_back : (b : ℕ) (e : CodedEntry) (old new : List (ℕ × CodedEntry)) → new ≡ set_value (is_at (nat_cmp b)) old e → lookup (is_at (nat_cmp b)) old ≡ Some e → new ≡ old
+put_back b e old new set found = set ∙ set_value_same (is_at (nat_cmp b)) old e found
+
+pub IsSound-put_back : (harts : ℕ) (memory : List Block) (old new : List (ℕ × CodedEntry)) (b : ℕ) (e : CodedEntry)
+    → IsSound (record { harts = harts; kept = old; memory = memory })
+    → new ≡ set_value (is_at (nat_cmp b)) old e → lookup (is_at (nat_cmp b)) old ≡ Some e
+    → IsSound (record { harts = harts; kept = new; memory = memory })
+IsSound-put_back harts memory old new b e sound set found = rw (put_back b e old new set found) sound
+
 -- a busy block's entry isn't the first one
 pub busy-not_first : (e : CodedEntry) (q : CodedBusy) → e.busy ≡ Some q → shown_entry e ≢ first_entry
 busy-not_first e q at is =
@@ -84,9 +91,10 @@ busy-not_first e q at is =
     let some : option_map shown_busy e.busy ≡ Some (shown_busy q) = rw at refl in
     cc
 
--- the requester isn't among those whose answers it awaits
-pub expected_now-self : (r : ℕ) (kind : Kind) (e : DirEntry) → expected_now r kind e r ≡ false
-expected_now-self r kind e = must_answer-self r kind e.owner e.sharers
+-- and what is asked of it waits
+pub busy-waits : (busy : Option CodedBusy) (s : Served) → is_some busy ≡ true → unless_busy (option_map shown_busy busy) s ≡ None
+busy-waits None s is = let no : false ≡ true = is in cc
+busy-waits (Some q) s is = refl
 
 module _ (harts : ℕ) (e : CodedEntry) (named : NamesBelow harts (shown_entry e)) where
   -- a hart isn't named, if none below the number of harts is
@@ -102,3 +110,17 @@ module _ (harts : ℕ) (e : CodedEntry) (named : NamesBelow harts (shown_entry e
     λ yes. let none : names e.sharers ≡ (λ h. false) = fun_ext (λ h. unnamed h (names e.sharers h) refl (test.0 yes h)) in rw (owner, busy, none) refl,
     λ is. test.1 (λ h below. ap (λ (x : DirEntry). x.sharers h) is),
   )
+
+-- a block may be made busy
+pub IsKept-busy : (harts blocks b : ℕ) (e : CodedEntry) (q : CodedBusy) → b < blocks → NamesBelow harts (shown_entry e) → q.requester < harts
+    → IsKept harts blocks b (record e { busy = Some q })
+IsKept-busy harts blocks b e q inside named hart = record {
+  inside = inside;
+  used = busy-not_first (record e { busy = Some q }) q refl;
+  named = record {
+    owned = named.owned;
+    sticky = named.sticky;
+    sharers = named.sharers;
+    busy = λ p at. rw (← same_Some (shown_busy q) p at) hart;
+  };
+}

@@ -13,6 +13,9 @@ use Rattle.directory.specs.declared.entry.DirEntry.{DirEntry as CodedEntry}
 use Rattle.directory.specs.declared.received.Received.{Received}
 use Rattle.directory.specs.declared.received.Received.TheVariants.{Held, Sent}
 use Rattle.directory.specs.declared.received.Answer.{Answer}
+use Rattle.directory.specs.declared.received.Answer.TheVariants.{Granted}
+use Rattle.directory.specs.declared.received.Given.{Given}
+use Rattle.directory.specs.declared.rules.Request.{Request}
 use Rattle.directory.specs.Sends.{messages_of, messages_in}
 use Rattle.directory.specs.Entries.{shown_entry, NamesBelow}
 
@@ -92,3 +95,7 @@ Follows (Sent sends) row b old new = IsSomeAnd row (λ served. (messages_of send
 abbrev pub Answers : Option Answer → Option Served → ℕ → Blocks → Blocks → Type 0
 Answers None row b old new = (row ≡ None) × (new ≡ old)
 Answers (Some answer) row b old new = IsSomeAnd row (λ served. (messages_in old.harts answer ≡ served.sent) × SetsBlock old new b served.entry served.memory)
+
+-- what a request is answered with, by what it is given
+abbrev pub answer_to : Blocks → Request → Given → Answer
+answer_to d q g = Granted q.requester g.give g.expect (memory_at d q.block) q.block q.kind q.stamp

@@ -1,14 +1,18 @@
-ghost use Rattle.std.specs.Prelude.{◌≡◌, ◌≢◌, ◌<◌, ◌≤◌, ◌↔◌, ℕ, [], None, is_some, length, vec_len, Some, OnOk, OnErr, IfOk, IfSome, IsTrue, IsFalse, IsSome};
+ghost use Rattle.std.specs.Prelude.{IsTrue, IsFalse, ◌≡◌, ◌≢◌, ◌<◌, ◌≤◌, ◌↔◌, ℕ, [], None, is_some, length, vec_len, Some, false, OnOk, OnErr, IfOk, IfSome, IsSome, unwrap_or};
+ghost use Rattle.std.specs.List.{slice_index_or};
+ghost use Rattle.std.specs.Option.{option_map};
+ghost use Rattle.words.specs.Harts.{names};
 ghost use Rattle.words.specs.Limits.{most_harts};
 ghost use Rattle.protocol.specs.Messages.{shown, block_of, Get, Put};
-ghost use Rattle.protocol.specs.Directory.{first_entry, done_of, done_row};
-ghost use Rattle.directory.specs.Entries.{shown_entry, NamesBelow};
-ghost use Rattle.directory.specs.Blocks.{kept_at, entry_at, memory_at, row_of, sender_of, SetsBlock, Follows, Answers, IsInOrder, IsGet, KeepsUsed};
-ghost use Rattle.directory.specs.Sends.{AwaitsOthers};
+ghost use Rattle.protocol.specs.Directory.{first_entry, done_of};
+ghost use Rattle.directory.specs.Entries.{shown_busy, shown_entry, NamesBelow};
+ghost use Rattle.directory.specs.Blocks.{kept_at, entry_at, memory_at, row_of, sender_of, SetsBlock, Follows, Answers, answer_to, IsInOrder, IsGet, KeepsUsed};
+ghost use Rattle.directory.specs.declared.received.Answer.TheVariants.{Acknowledged};
+ghost use Rattle.directory.specs.Sends.{messages_in, messages_of};
 
 use crate::entry::{Busy, DirEntry, Owner};
-use crate::received::{Answer, Received, sends_of};
-use crate::rules::{Request, expected, given, is_owned_by, owner_after, sharers_after, words_back};
+use crate::received::{Answer, Given, Received, Sends, sends_of};
+use crate::rules::{Request, expected, given, granted, is_owned_by, words_back};
 use std::alloc::{AllocError, Global};
 use std::collections::BTreeMap;
 use std::marker::Model;
@@ -130,137 +134,101 @@ impl Directory {
         ensures absent { OnErr result (kept_at self.old (block_of (shown message)) ≡ None) }
         ensures kept { KeepsUsed self.new }
     {
-        match self.serve(&message)? {
-            Some(answer) => Ok(Received::Sent(sends_of(&answer, self.harts))),
-            None => Ok(Received::Held),
-        }
-    }
-
-    /// The same, with the messages told in short. `None` where the message has to wait.
-    #[inline(always)]
-    pub fn serve(&mut self, message: &Message) -> Result<Option<Answer>, AllocError>
-        requires block { block_of (shown message.now) < length self.old.memory }
-        requires hart { IfSome (sender_of (shown message.now)) (λ h. h < self.old.harts) }
-        ensures ok { let row = row_of self.old (shown message.now) in
-            IfOk result (λ answer. Answers answer row (block_of (shown message.now)) self.old self.new) }
-        ensures harts { self.new.harts ≡ self.old.harts }
-        ensures others { IfOk result (λ answer. IfSome answer AwaitsOthers) }
-        ensures err { OnErr result (self.new ≡ self.old) }
-        ensures request { OnErr result (IsGet (shown message.now)) }
-        ensures absent { OnErr result (kept_at self.old (block_of (shown message.now)) ≡ None) }
-        ensures kept { KeepsUsed self.new }
-    {
-        let answer = self.follow(message);
-        let _used = self.used();
-        answer
-    }
-
-    /// The same, of which `used` tells that just the entries in use are kept.
-    #[inline(always)]
-    fn follow(&mut self, message: &Message) -> Result<Option<Answer>, AllocError>
-        requires block { block_of (shown message.now) < length self.old.memory }
-        requires hart { IfSome (sender_of (shown message.now)) (λ h. h < self.old.harts) }
-        ensures ok { let row = row_of self.old (shown message.now) in
-            IfOk result (λ answer. Answers answer row (block_of (shown message.now)) self.old self.new) }
-        ensures harts { self.new.harts ≡ self.old.harts }
-        ensures others { IfOk result (λ answer. IfSome answer AwaitsOthers) }
-        ensures err { OnErr result (self.new ≡ self.old) }
-        ensures request { OnErr result (IsGet (shown message.now)) }
-        ensures absent { OnErr result (kept_at self.old (block_of (shown message.now)) ≡ None) }
-    {
-        match message {
+        match &message {
             Message::Get {
                 from,
                 block,
                 kind,
                 stamp,
-            } => self.get(&Request {
-                requester: *from,
-                block: *block,
-                kind: *kind,
-                stamp: *stamp,
-            }),
+            } => {
+                let request = Request {
+                    requester: *from,
+                    block: *block,
+                    kind: *kind,
+                    stamp: *stamp,
+                };
+                return Ok(match self.get(&request)? {
+                    Some(given) => Received::Sent(self.grant(&request, &given)),
+                    None => Received::Held,
+                });
+            }
             Message::Put {
                 from,
                 block,
                 content,
                 marked,
-            } => Ok(self.put(*from, *block, content, *marked)),
+            } => {
+                return Ok(if self.put(*from, *block, content, *marked) {
+                    Received::Sent(self.acknowledge(*from, *block))
+                } else {
+                    Received::Held
+                });
+            }
             Message::Done {
                 from,
                 block,
                 ok,
                 content,
-            } => {
-                self.done(*from, *block, *ok, content);
-                Ok(Some(Answer::Silent))
-            }
-            _ => Ok(Some(Answer::Silent)),
+            } => self.done(*from, *block, *ok, content),
+            _ => self.keeps_used(),
         }
+        Ok(Received::Sent(Sends::new()))
     }
 
-    /// A hart asks for a block: the grant comes first.
+    /// A hart asks for a block. `None` where the request has to wait, as the block is busy. It fails only if memory runs out, where
+    /// the block has no entry yet.
     #[inline(always)]
-    fn get(&mut self, request: &Request) -> Result<Option<Answer>, AllocError>
+    pub fn get(&mut self, request: &Request) -> Result<Option<Given>, AllocError>
         requires block { request.now.block < length self.old.memory }
         requires hart { request.now.requester < self.old.harts }
         ensures ok { let row = row_of self.old (Get request.now.requester request.now.block request.now.kind request.now.stamp) in
-            IfOk result (λ answer. Answers answer row request.now.block self.old self.new) }
+            IfOk result (λ given. Answers (option_map (answer_to self.old request.now) given) row request.now.block self.old self.new) }
         ensures harts { self.new.harts ≡ self.old.harts }
-        ensures others { IfOk result (λ answer. IfSome answer AwaitsOthers) }
+        ensures memory { self.new.memory ≡ self.old.memory }
+        ensures others { IfOk result (λ given. IfSome given (λ g. names g.expect request.now.requester ≡ false)) }
         ensures err { OnErr result (self.new ≡ self.old) }
         ensures absent { OnErr result (kept_at self.old request.now.block ≡ None) }
+        ensures kept { KeepsUsed self.new }
     {
-        let entry = self.entry(request.block);
-        if entry.busy.is_some() {
-            return Ok(None);
-        }
         let requester = request.requester;
-        let give = given(&entry, requester, request.kind, self.harts);
-        self.occupy(request.block, entry, Busy { requester, give })?;
-        Ok(Some(Answer::Granted {
-            to: requester,
-            block: request.block,
-            kind: request.kind,
-            stamp: request.stamp,
-            give,
-            content: self.memory(request.block),
-            expect: expected(&entry, requester, request.kind),
-        }))
-    }
-
-    /// Makes a block, whose entry this is, busy with a request.
-    #[inline(always)]
-    fn occupy(&mut self, block: BlockNo, entry: DirEntry, busy: Busy) -> Result<(), AllocError>
-        requires inside { block < length self.old.memory }
-        requires named { NamesBelow self.old.harts (shown_entry (record entry { busy = Some busy })) }
-        ensures ok { let occupied = shown_entry (record entry { busy = Some busy }) in
-            OnOk result (SetsBlock self.old self.new block occupied (memory_at self.old block)) }
-        ensures err { OnErr result (self.new ≡ self.old) }
-        ensures absent { OnErr result (kept_at self.old block ≡ None) }
-    {
-        let occupied = DirEntry {
-            busy: Some(busy),
-            ..entry
-        };
-        if !self.overwrite(block, &occupied) {
-            self.entries.insert(block.number(), occupied)?;
+        if let Some(kept) = self.entries.get_mut(&request.block.number()) {
+            if kept.busy.is_some() {
+                self.keeps_used();
+                return Ok(None);
+            }
+            let give = given(kept, requester, request.kind, self.harts);
+            let expect = expected(kept, requester, request.kind);
+            *kept = DirEntry {
+                busy: Some(Busy { requester, give }),
+                ..*kept
+            };
+            self.keeps_used();
+            return Ok(Some(Given { give, expect }));
         }
-        Ok(())
+        let first = DirEntry::first();
+        let give = given(&first, requester, request.kind, self.harts);
+        let expect = expected(&first, requester, request.kind);
+        let occupied = self.occupy(request.block, Busy { requester, give });
+        self.keeps_used();
+        occupied?;
+        Ok(Some(Given { give, expect }))
     }
 
-    /// A hart gives up a block: its content becomes memory's if the hart is the owner.
+    /// A hart gives up a block: its content becomes memory's if the hart is the owner. It is acknowledged; the answer is false, and nothing changes, where
+    /// it has to wait, as the block is busy.
     #[inline(always)]
-    fn put(&mut self, from: HartId, block: BlockNo, content: &Block, marked: bool) -> Option<Answer>
+    pub fn put(&mut self, from: HartId, block: BlockNo, content: &Block, marked: bool) -> bool
         requires block { block < length self.old.memory }
         requires hart { from < self.old.harts }
-        ensures answers { Answers result (row_of self.old (Put from block content.now marked)) block self.old self.new }
+        ensures served { IsTrue result → Answers (Some (Acknowledged from block)) (row_of self.old (Put from block content.now marked)) block self.old self.new }
+        ensures held { IsFalse result → Answers None (row_of self.old (Put from block content.now marked)) block self.old self.new }
         ensures harts { self.new.harts ≡ self.old.harts }
-        ensures others { IfSome result AwaitsOthers }
+        ensures kept { KeepsUsed self.new }
     {
         let mut entry = self.entry(block);
         if entry.busy.is_some() {
-            return None;
+            self.keeps_used();
+            return false;
         }
         if is_owned_by(&entry, from) {
             entry.owner = if marked {
@@ -271,52 +239,80 @@ impl Directory {
             self.replace(block, entry);
             self.memory[block.index()] = *content;
         }
-        Some(Answer::Acknowledged { to: from, block })
+        self.keeps_used();
+        true
     }
 
     /// A request is over: it was granted (`ok`) or refused. A Done from a hart whose request the block isn't busy with changes nothing.
     #[inline(always)]
-    fn done(&mut self, from: HartId, block: BlockNo, ok: bool, content: &Option<Block>)
+    pub fn done(&mut self, from: HartId, block: BlockNo, ok: bool, content: &Option<Block>)
         requires block { block < length self.old.memory }
         requires hart { from < self.old.harts }
-        ensures { let served = done_of (entry_at self.old block).busy from ok content.now (entry_at self.old block) (memory_at self.old block) in
+        ensures set { let served = done_of (entry_at self.old block).busy from ok content.now (entry_at self.old block) (memory_at self.old block) in
             SetsBlock self.old self.new block served.entry served.memory }
+        ensures kept { KeepsUsed self.new }
     {
-        let entry = self.entry(block);
-        if let Some(busy) = &entry.busy {
-            if busy.requester.index() == from.index() {
-                if ok {
-                    self.settle(block, &entry, busy, content);
+        let Some(kept) = self.entries.get_mut(&block.number()) else {
+            self.keeps_used();
+            return;
+        };
+        if let Some(give) = kept.given_to(from) {
+            if ok {
+                take_words(&mut self.memory, block, &words_back(kept, give, content));
+                *kept = granted(kept, from, give);
+            } else {
+                let ended = kept.ended();
+                if ended.is_first(self.harts) {
+                    self.entries.remove(&block.number());
                 } else {
-                    self.replace(block, entry.ended());
+                    *kept = ended;
                 }
             }
         }
+        self.keeps_used();
     }
 
-    /// A request was granted, and its hart has what it was given.
-    #[inline(always)]
-    fn settle(&mut self, block: BlockNo, entry: &DirEntry, busy: &Busy, content: &Option<Block>)
-        requires block { block < length self.old.memory }
-        requires present { IsSome (kept_at self.old block) }
-        requires named { NamesBelow self.old.harts (shown_entry entry.now) }
-        requires hart { busy.now.requester < self.old.harts }
-        ensures { let served = done_row busy.now.requester busy.now.give content.now (shown_entry entry.now) (memory_at self.old block) in
-            SetsBlock self.old self.new block served.entry served.memory }
+    /// The messages that a request is answered with, by what it is given.
+    fn grant(&self, request: &Request, given: &Given) -> Sends
+        requires block { request.now.block < length self.now.memory }
+        requires others { names given.now.expect request.now.requester ≡ false }
+        ensures { messages_of result ≡ messages_in self.now.harts (answer_to self.now request.now given.now) }
     {
-        let owner = owner_after(busy.requester, busy.give);
-        let sharers = sharers_after(entry, busy.requester, busy.give);
-        self.replace(
-            block,
-            DirEntry {
-                owner,
-                sharers,
-                busy: None,
-            },
-        );
-        if let Some(words) = words_back(entry, busy.give, content) {
-            self.memory[block.index()] = words;
-        }
+        let answer = Answer::Granted {
+            to: request.requester,
+            block: request.block,
+            kind: request.kind,
+            stamp: request.stamp,
+            give: given.give,
+            content: self.memory(request.block),
+            expect: given.expect,
+        };
+        sends_of(&answer, self.harts)
+    }
+
+    /// The acknowledgement of a Put.
+    fn acknowledge(&self, to: HartId, block: BlockNo) -> Sends
+        ensures { messages_of result ≡ messages_in self.now.harts (Acknowledged to block) }
+    {
+        sends_of(&Answer::Acknowledged { to, block }, self.harts)
+    }
+
+    /// Makes a block that nobody has asked for busy with a request.
+    #[inline(always)]
+    fn occupy(&mut self, block: BlockNo, busy: Busy) -> Result<(), AllocError>
+        requires inside { block < length self.old.memory }
+        requires hart { busy.requester < self.old.harts }
+        ensures ok { let occupied = record first_entry { busy = Some (shown_busy busy) } in
+            OnOk result (SetsBlock self.old self.new block occupied (memory_at self.old block)) }
+        ensures memory { self.new.memory ≡ self.old.memory }
+        ensures err { OnErr result (self.new ≡ self.old) }
+    {
+        let occupied = DirEntry {
+            busy: Some(busy),
+            ..DirEntry::first()
+        };
+        self.entries.insert(block.number(), occupied)?;
+        Ok(())
     }
 
     /// Puts an entry in the place of the one that a block has, and keeps it unless it is the first one again.
@@ -326,25 +322,32 @@ impl Directory {
         requires named { NamesBelow self.old.harts (shown_entry entry) }
         ensures { SetsBlock self.old self.new block (shown_entry entry) (memory_at self.old block) }
     {
+        let number = block.number();
         if entry.is_first(self.harts) {
-            self.entries.remove(&block.number());
-        } else {
-            self.overwrite(block, &entry);
+            self.entries.remove(&number);
+        } else if let Some(kept) = self.entries.get_mut(&number) {
+            *kept = entry;
         }
     }
 
-    /// Puts an entry, which isn't the first one, in the place of the one that is kept for a block. The answer is whether one is.
+    /// Just the entries in use are kept: a fact for proofs, for which nothing is done.
     #[inline(always)]
-    fn overwrite(&mut self, block: BlockNo, entry: &DirEntry) -> bool
-        requires used { shown_entry entry.now ≢ first_entry }
-        requires named { NamesBelow self.old.harts (shown_entry entry.now) }
-        ensures set { IsTrue result → SetsBlock self.old self.new block (shown_entry entry.now) (memory_at self.old block) }
-        ensures none { IsFalse result → (self.new ≡ self.old) × (kept_at self.old block ≡ None) }
+    fn keeps_used(&self)
+        ensures { KeepsUsed self.now }
     {
-        let Some(kept) = self.entries.get_mut(&block.number()) else {
-            return false;
-        };
-        *kept = *entry;
-        true
+        let _used = self.used();
+    }
+}
+
+/// Memory gets the words of a block, if there are any.
+#[inline(always)]
+fn take_words(memory: &mut Vec<Block>, block: BlockNo, words: &Option<Block>)
+    requires { block < vec_len memory.old }
+    ensures this { slice_index_or memory.new.items block [] ≡ unwrap_or words.now (slice_index_or memory.old.items block []) }
+    ensures others { (b : ℕ) → b ≢ block → slice_index_or memory.new.items b [] ≡ slice_index_or memory.old.items b [] }
+    ensures size { length memory.new.items ≡ length memory.old.items }
+{
+    if let Some(words) = words {
+        memory[block.index()] = *words;
     }
 }

@@ -1,4 +1,4 @@
-ghost use Rattle.std.specs.Prelude.{◌≡◌, ◌↔◌, ◌<◌, ◌≤◌, ℕ, false, None, IsTrue};
+ghost use Rattle.std.specs.Prelude.{◌≡◌, ◌↔◌, ◌<◌, ◌≤◌, ◌≢◌, ℕ, false, None, Some, IfSome, IfNone, IsTrue};
 ghost use Rattle.words.specs.Harts.{names};
 ghost use Rattle.words.specs.Limits.{most_harts};
 ghost use Rattle.protocol.specs.Directory.{first_entry};
@@ -34,6 +34,7 @@ pub struct DirEntry {
 
 impl DirEntry {
     ghost use Rattle.directory.specs.Entries.{shown_entry, NamesBelow};
+    ghost use Rattle.directory.specs.declared.entry.Busy.{Busy};
 
     /// The entry of a block that nobody has asked for.
     pub fn first() -> Self
@@ -43,6 +44,18 @@ impl DirEntry {
             owner: Owner::Nobody,
             sharers: HartSet::empty(),
             busy: None,
+        }
+    }
+
+    /// What a hart is given by the request that the block is busy with, if it is the hart's own.
+    #[inline(always)]
+    pub(crate) fn given_to(&self, hart: HartId) -> Option<LineState>
+        ensures some { IfSome result (λ give. self.now.busy ≡ Some (record { requester = hart; give = give })) }
+        ensures none { IfNone result ((q : Busy) → self.now.busy ≡ Some q → q.requester ≢ hart) }
+    {
+        match self.busy {
+            Some(busy) if busy.requester.index() == hart.index() => Some(busy.give),
+            _ => None,
         }
     }
 

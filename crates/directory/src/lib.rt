@@ -9,5 +9,5 @@ mod rules;
 
 pub use directory::{BLOCKS, Directory};
 pub use entry::{Busy, DirEntry, Owner};
-pub use received::{Answer, Outgoing, Received, Sends};
+pub use received::{Answer, Given, Outgoing, Received, Sends};
 pub use rules::Request;

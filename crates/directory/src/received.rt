@@ -27,6 +27,13 @@ impl Default for Outgoing {
 /// The messages that one message makes the directory send: a grant and up to 7 forwards, or an acknowledgement, or none.
 pub type Sends = ArrayVec<Outgoing, HARTS>;
 
+/// What a request is given: how its hart may hold the block, and the harts whose answers it has to await.
+#[derive(Clone, Copy, Debug, PartialEq, Eq)]
+pub struct Given {
+    pub give: LineState,
+    pub expect: HartSet,
+}
+
 /// The messages that a message to the directory is answered with.
 #[derive(Clone, Copy, Debug, PartialEq, Eq)]
 pub enum Answer {

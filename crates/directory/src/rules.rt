@@ -1,4 +1,4 @@
-ghost use Rattle.std.specs.Prelude.{◌≡◌, ◌≢◌, ◌<◌, ◌≤◌, ◌+◌, ◌∷◌, [], ◌++◌, ◌&&◌, ◌==◌, ℕ, true, false, not, unwrap_or};
+ghost use Rattle.std.specs.Prelude.{◌≡◌, ◌≢◌, ◌<◌, ◌≤◌, ◌+◌, ◌∷◌, [], ◌++◌, ◌&&◌, ◌==◌, ℕ, true, false, not, unwrap_or, None};
 ghost use Rattle.arrayvec.specs.ArrayVec.{array_vec_len};
 ghost use Rattle.words.specs.Harts.{names};
 ghost use Rattle.words.specs.Limits.{most_harts};
@@ -137,7 +137,7 @@ pub(crate) fn push<T: Copy>(list: &mut ArrayVec<T, HARTS>, item: &T)
 }
 
 /// Who owns a block once a hart has what it was given.
-pub(crate) fn owner_after(hart: HartId, give: LineState) -> Owner
+fn owner_after(hart: HartId, give: LineState) -> Owner
     ensures { shown_owner result ≡ owner_done hart give }
 {
     match give {
@@ -148,7 +148,7 @@ pub(crate) fn owner_after(hart: HartId, give: LineState) -> Owner
 
 /// Who shares a block once a hart has what it was given: the hart beside the sharers, or beside the owner that it read from. A
 /// sticky owner has no line.
-pub(crate) fn sharers_after(entry: &DirEntry, hart: HartId, give: LineState) -> HartSet
+fn sharers_after(entry: &DirEntry, hart: HartId, give: LineState) -> HartSet
     ensures { (h : ℕ) → names result h ≡ sharer_done (shown_owner entry.now.owner) (names entry.now.sharers) hart give h }
 {
     if give != LineState::Shared {
@@ -164,6 +164,7 @@ pub(crate) fn sharers_after(entry: &DirEntry, hart: HartId, give: LineState) -> 
 }
 
 /// What memory gets of a block where a request is over, if anything: the content of an owner that was read, if it was sent along.
+#[inline(always)]
 pub(crate) fn words_back(
     entry: &DirEntry,
     give: LineState,
@@ -174,6 +175,22 @@ pub(crate) fn words_back(
     match (entry.owner, give) {
         (Owner::Owned(_), LineState::Shared) => *content,
         _ => None,
+    }
+}
+
+/// The entry once a request was granted, and its hart has what it was given.
+#[inline(always)]
+pub(crate) fn granted(entry: &DirEntry, hart: HartId, give: LineState) -> DirEntry
+    ensures { shown_entry result ≡ record {
+      owner = owner_done hart give;
+      sharers = sharer_done (shown_owner entry.now.owner) (names entry.now.sharers) hart give;
+      busy = None;
+    } }
+{
+    DirEntry {
+        owner: owner_after(hart, give),
+        sharers: sharers_after(entry, hart, give),
+        busy: None,
     }
 }
 

@@ -12,16 +12,18 @@ use Rattle.flat.specs.State.{Setting, FlatHart}
 use Rattle.cache.specs.declared.ways.Victim.{Victim}
 use Rattle.cache.specs.declared.ways.Victim.TheVariants.{Free, Drop, WriteBack}
 use Rattle.cache.specs.Sets.{Sets, victim_at}
-use Rattle.protocol.specs.Messages.{Message, Done, Ack, Nack, shown}
-use Rattle.protocol.specs.Hart.{HartResult, flat_hart}
+use Rattle.protocol.specs.Messages.{Message, Get, Done, Ack, Nack, shown}
+use Rattle.protocol.specs.Hart.{HartResult, flat_hart, stamp_of}
 use Rattle.hart.specs.declared.reply.Reply.{Reply}
 use Rattle.hart.specs.declared.reply.Settled.{Settled}
 use Rattle.hart.specs.declared.reply.Settled.TheVariants as request
 use Rattle.hart.specs.declared.reply.ForwardAnswer.{ForwardAnswer}
 use Rattle.hart.specs.declared.reply.ForwardAnswer.TheVariants as answer
 use Rattle.hart.specs.declared.reply.CoreStep.{CoreStep}
+use Rattle.hart.specs.declared.reply.CommonStep.{CommonStep}
+use Rattle.hart.specs.declared.reply.Asked.{Asked}
 use Rattle.hart.specs.Parts.{Parts}
-use Rattle.hart.specs.Shown.{shown_hart}
+use Rattle.hart.specs.Shown.{shown_tx, shown_hart}
 
 -- what hart i tells the directory of its request, which goes on so
 abbrev pub done_of : ℕ → Settled → Option Message
@@ -75,6 +77,19 @@ abbrev pub stepped : ℕ → List ℕ → Parts → CoreStep → HartResult
 stepped sets output new s = record {
   hart = shown_hart sets (with_byte output s.output) new;
   sent = option_map shown s.message;
+  entry = s.entry;
+  stamped = s.stamped;
+}
+
+-- what it asks for of the directory
+abbrev pub request_of : Parts → Asked → Message
+request_of p a = Get p.index a.block a.kind (stamp_of (shown_tx p.tx))
+
+-- what became of it by one of the common steps
+abbrev pub advanced : ℕ → List ℕ → Parts → CommonStep → HartResult
+advanced sets output new s = record {
+  hart = shown_hart sets output new;
+  sent = option_map (request_of new) s.asked;
   entry = s.entry;
   stamped = s.stamped;
 }

@@ -23,4 +23,4 @@ mod transactions;
 
 pub use conflict::{Granted, PutOut, Request};
 pub use hart::Hart;
-pub use reply::{CoreStep, ForwardAnswer, Local, Reply, Settled};
+pub use reply::{Asked, CommonStep, CoreStep, ForwardAnswer, Local, Reply, Settled};

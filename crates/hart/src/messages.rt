@@ -1,7 +1,7 @@
 ghost use Rattle.std.specs.Prelude.{◌≡◌, ℕ, List, Option, Some, None, IsSomeAnd, IfSome, true, false};
 ghost use Rattle.std.specs.Option.{option_map};
 ghost use Rattle.cache.specs.Sets.{line_at};
-ghost use Rattle.protocol.specs.Lines.{refuses, line_given, line_filled, state_given};
+ghost use Rattle.protocol.specs.Lines.{refuses, line_given, line_filled};
 ghost use Rattle.protocol.specs.Hart.{Request as ProtocolRequest, quiet, with_line, overflow_of, stamp_of};
 ghost use Rattle.protocol.specs.Requests.{granted_so_far, gives_way, grant_row, ack_row, nack_row};
 ghost use Rattle.protocol.specs.HartMessages.{forward_row, tx_refusing, put_ack_row, content_held, reserved_given};
@@ -89,14 +89,11 @@ impl<const SETS: usize, const WAYS: usize> Hart<SETS, WAYS> {
         ensures stays { StaysPut self.old self.new }
     {
         self.reserved = reserved_given(kind, block, self.reserved);
-        let Some(line) = line else {
+        if line.is_none() {
             return;
-        };
+        }
         match kind {
-            Kind::Read => self.cache.replace(Line {
-                state: LineState::Shared,
-                ..*line
-            }),
+            Kind::Read => self.cache.downgrade(block),
             Kind::Write => self.cache.invalidate(block),
         }
     }
@@ -213,7 +210,7 @@ impl<const SETS: usize, const WAYS: usize> Hart<SETS, WAYS> {
         ensures ways { KeepsWays SETS self.old.cache self.new.cache }
         ensures stays { StaysPut self.old self.new }
     {
-        self.receive(block, give, *content);
+        self.receive(block, give, content);
         self.request = None;
         self.fresh = true;
     }
@@ -221,33 +218,22 @@ impl<const SETS: usize, const WAYS: usize> Hart<SETS, WAYS> {
     /// The block that the hart waits for is given: an absent line is filled, and one that is there may be written from now on, if
     /// M is given.
     #[inline(never)]
-    fn receive(&mut self, block: BlockNo, give: LineState, content: Block)
+    fn receive(&mut self, block: BlockNo, give: LineState, content: &Block)
         requires { IsSomeAnd self.old.request (λ old. block ≡ old.block) }
         ensures hart { (output : List ℕ) → let h = shown_hart SETS output self.old in
             shown_hart SETS output self.new ≡ with_line block
-            (Some (line_filled give (overflow_of h.tx) content (h.lines block))) h }
+            (Some (line_filled give (overflow_of h.tx) content.now (h.lines block))) h }
         ensures ways { KeepsWays SETS self.old.cache self.new.cache }
         ensures stays { StaysPut self.old self.new }
     {
-        match self.line(block) {
-            None => {
-                let overflowed = self.overflow();
-                self.cache.fill(block, content, give, overflowed);
-            }
-            Some(line) => {
-                let state = state_given(give, line.state);
-                self.cache.replace(Line { state, ..line });
-            }
+        if self.line(block).is_none() {
+            let overflowed = self.overflow();
+            self.cache.fill(block, *content, give, overflowed);
+            return;
         }
-    }
-}
-
-/// The state of a line that is there once its request is granted.
-fn state_given(give: LineState, state: LineState) -> LineState
-    ensures { result ≡ state_given give state }
-{
-    match give {
-        LineState::Modified => LineState::Modified,
-        LineState::Shared | LineState::Exclusive => state,
+        match give {
+            LineState::Modified => self.cache.promote(block),
+            LineState::Shared | LineState::Exclusive => {}
+        }
     }
 }

@@ -61,7 +61,7 @@ impl<const SETS: usize, const WAYS: usize> Hart<SETS, WAYS> {
     }
 
     /// The stamp that the hart's requests and refusals carry.
-    pub(crate) fn stamp(&self) -> Option<Stamp>
+    pub fn stamp(&self) -> Option<Stamp>
         ensures { result ≡ stamp_of (shown_tx self.now.tx) }
     {
         stamp_of(&self.tx)

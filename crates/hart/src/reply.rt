@@ -1,6 +1,6 @@
 ghost use Rattle.std.specs.Prelude.{◌≡◌, false, Some, None};
 
-use words::{Block, BlockNo, Entry, Message, Stamp};
+use words::{Block, BlockNo, Entry, Kind, Message, Stamp};
 
 /// What a hart sends, and the entry that it gives, when a line is evicted.
 #[derive(Clone, Copy, Debug, PartialEq, Eq)]
@@ -40,6 +40,23 @@ pub struct CoreStep {
     pub output: Option<u8>,
 }
 
+/// What one of the common steps of a core does: it asks for a block, or begins or ends a transaction.
+#[derive(Clone, Copy, Debug, PartialEq, Eq)]
+pub struct CommonStep {
+    /// The block that is asked for. The request carries the hart's stamp.
+    pub asked: Option<Asked>,
+    pub entry: Option<Entry>,
+    /// Whether the hart took a new stamp.
+    pub stamped: bool,
+}
+
+/// A block that a hart asks for, to read or to write it.
+#[derive(Clone, Copy, Debug, PartialEq, Eq)]
+pub struct Asked {
+    pub block: BlockNo,
+    pub kind: Kind,
+}
+
 impl CoreStep {
     /// A step that nobody else sees.
     pub(crate) const fn quiet() -> Self
@@ -74,6 +91,32 @@ impl CoreStep {
             entry: None,
             stamped: false,
             output: None,
+        }
+    }
+}
+
+impl CommonStep {
+    /// That which a step of a core does that sends nothing and puts nothing out.
+    #[inline(always)]
+    pub(crate) fn delimits(made: &CoreStep) -> Self
+        ensures { result ≡ record { asked = None; entry = made.now.entry; stamped = made.now.stamped } }
+    {
+        CommonStep {
+            asked: None,
+            entry: made.entry,
+            stamped: made.stamped,
+        }
+    }
+
+    /// A step that asks for a block.
+    #[inline(always)]
+    pub(crate) fn asks(kind: Kind, block: BlockNo) -> Self
+        ensures { result ≡ record { asked = Some (record { block = block; kind = kind }); entry = None; stamped = false } }
+    {
+        CommonStep {
+            asked: Some(Asked { block, kind }),
+            entry: None,
+            stamped: false,
         }
     }
 }

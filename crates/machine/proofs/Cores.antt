@@ -9,21 +9,22 @@ use Rattle.protocol.specs.Start.{first_hart}
 use Rattle.words.specs.declared.entry.Step.TheVariants.{Core}
 use Rattle.table.specs.Program.{Segment}
 use Rattle.protocol.specs.Messages.{shown as shown_message}
-use Rattle.protocol.specs.Hart.{Hart, HartResult, gives}
+use Rattle.protocol.specs.Hart.{Hart, HartResult, gives, stamp_of}
 use Rattle.protocol.specs.Caches.{Geometry, HasRoom, MayName}
 use Rattle.protocol.specs.Core.{Move, Rests, Makes, Lacks, core_move, core_row}
 use Rattle.protocol.specs.Machine.{MayLack, MayNameIn, change_of, stamps_after}
 use Rattle.directory.specs.Blocks.{KeepsUsed}
 use Rattle.hart.specs.declared.reply.CoreStep.{CoreStep}
+use Rattle.hart.specs.declared.reply.CommonStep.{CommonStep}
 use Rattle.hart.specs.declared.reply.Local.TheVariants.{Retired}
 use Rattle.words.specs.declared.entry.Entry.{Entry}
 use Rattle.hart.specs.Locals.{FollowsAlone, RetiresPlain}
 use Rattle.hart.specs.Places.{KeepsWays}
-use Rattle.hart.specs.Shown.{shown_hart, lines_of}
-use Rattle.hart.specs.Rows.{setting_of as hart_setting, victim_of}
+use Rattle.hart.specs.Shown.{shown_hart, shown_tx, lines_of}
+use Rattle.hart.specs.Rows.{setting_of as hart_setting, victim_of, advanced}
 use Rattle.machine.specs.Mail.{SendsOn, mail_of}
 use Rattle.machine.specs.Making.{BringsAbout, MakesStep, AllKeepWays, AllKeepLogs, victims}
-use Rattle.machine.specs.Rows.{stepped}
+use Rattle.machine.specs.Rows.{stepped, asking}
 use Rattle.machine.specs.States.{Seat, State, shown, geometry, hart_at, setting_of, IsSeated, IsSound}
 use Rattle.machine.proofs.Acting.{Acts, seat_before, hart_before, rests_still}
 use Rattle.machine.proofs.Made.{steps_of}
@@ -54,9 +55,9 @@ module _ (sets ways i : ℕ) (v w : State) (old new : Seat) (sound : IsSound set
   setting_is : hart_setting v.program.segments old.hart ≡ setting_of v
   setting_is = λ k. record { segments = v.program.segments; size = seated.size k; count = seated.harts k }
 
-  row_of : (made : Option CoreStep) → MakesOf sets v.program.segments v.stamps old new made
-      → core_row (setting_of v) i v.stamps (victim_of sets old.hart.cache) (hart_at sets v.seats i) ≡ option_map (stepped sets new) made
-  row_of made does =
+  row_of : (o : Option HartResult) → core_row (hart_setting v.program.segments old.hart) old.hart.index v.stamps (victim_of sets old.hart.cache) (shown_hart sets old.output old.hart) ≡ o
+      → core_row (setting_of v) i v.stamps (victim_of sets old.hart.cache) (hart_at sets v.seats i) ≡ o
+  row_of o does =
       ap (core_row (setting_of v) i v.stamps (victim_of sets old.hart.cache)) (hart_before sets i v w old new a)
       ∙ (λ k. core_row (sym setting_is k) (sym seated.index k) v.stamps (victim_of sets old.hart.cache) (shown_hart sets old.output old.hart))
       ∙ does
@@ -80,15 +81,29 @@ module _ (sets ways i : ℕ) (v w : State) (old new : Seat) (sound : IsSound set
     kept = subst KeepsUsed (sym same) sound.kept;
   }
 
-  -- the core made a step
+  -- the core made a step, of which this came
+  pub core_gives : (t : HartResult) → t.hart ≡ shown_hart sets new.output new.hart → Names sets ways old → KeepsWays sets old.hart.cache new.hart.cache
+      → core_row (hart_setting v.program.segments old.hart) old.hart.index v.stamps (victim_of sets old.hart.cache) (shown_hart sets old.output old.hart) ≡ Some t
+      → w.stamps ≡ stamps_after t.stamped v.stamps → SendsOn (mail_of v.flights) v.sent (option_to_list t.sent) (mail_of w.flights) w.sent
+      → MakesStep (geometry sets ways) v (Core i) t.entry w × IsSound sets ways w
+  core_gives t hart names keeps does stamps sends =
+      let about = row_does sets i _ t v w old new (row_of (Some t) does) (record { acts = a; hart = sym hart; stamps = stamps; left = mail_of v.flights; leaves = all_left v.flights; sends = sends }) in
+      let step : MakesStep (geometry sets ways) v (Core i) t.entry w = by_rule t.entry w names (others_stay sets i v w old new a keeps) (other_logs_stay i v w old new a) about a.directory in
+      (step, still_sound sets ways i v w old new (Core i) t.entry sound a (steps_of (geometry sets ways) v (Core i) t.entry w step))
+
   pub core_makes : (made : CoreStep) → Names sets ways old → KeepsWays sets old.hart.cache new.hart.cache → MakesOf sets v.program.segments v.stamps old new (Some made) → w.stamps ≡ stamps_after made.stamped v.stamps
       → SendsOn (mail_of v.flights) v.sent (option_to_list (option_map shown_message made.message)) (mail_of w.flights) w.sent
       → MakesStep (geometry sets ways) v (Core i) made.entry w × IsSound sets ways w
-  core_makes made names keeps does stamps sends =
-      let t : HartResult = stepped sets new made in
-      let about = row_does sets i _ t v w old new (row_of (Some made) does) (record { acts = a; hart = refl; stamps = stamps; left = mail_of v.flights; leaves = all_left v.flights; sends = sends }) in
-      let step : MakesStep (geometry sets ways) v (Core i) made.entry w = by_rule made.entry w names (others_stay sets i v w old new a keeps) (other_logs_stay i v w old new a) about a.directory in
-      (step, still_sound sets ways i v w old new (Core i) made.entry sound a (steps_of (geometry sets ways) v (Core i) made.entry w step))
+  core_makes made names keeps does stamps sends = core_gives (stepped sets new made) refl names keeps does stamps sends
+
+  -- one of the common steps, in which its hart may ask for a block
+  pub common_makes : (made : CommonStep) → Names sets ways old → KeepsWays sets old.hart.cache new.hart.cache
+      → core_row (hart_setting v.program.segments old.hart) old.hart.index v.stamps (victim_of sets old.hart.cache) (shown_hart sets old.output old.hart) ≡ Some (advanced sets new.output new.hart made)
+      → w.stamps ≡ stamps_after made.stamped v.stamps → SendsOn (mail_of v.flights) v.sent (option_to_list (option_map (asking i (stamp_of (shown_tx new.hart.tx))) made.asked)) (mail_of w.flights) w.sent
+      → MakesStep (geometry sets ways) v (Core i) made.entry w × IsSound sets ways w
+  common_makes made names keeps does stamps sends =
+      core_gives (advanced sets new.output new.hart made) refl names keeps does stamps
+      (subst (λ n. SendsOn (mail_of v.flights) v.sent (option_to_list (option_map (asking n (stamp_of (shown_tx new.hart.tx))) made.asked)) (mail_of w.flights) w.sent) (sym (a.stays.index ∙ seated.index)) sends)
 
   -- or none is enabled
   pub core_rests : Names sets ways old → MakesOf sets v.program.segments v.stamps old new None → MakesStep (geometry sets ways) v (Core i) None v

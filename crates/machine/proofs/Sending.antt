@@ -1,8 +1,9 @@
 -- Messages sent one after another, each with the next number.
-use Rattle.std.proofs.Common.{◌≡◌, ◌≢◌, ◌<◌, ◌∙◌, ℕ, Bool, true, false, cond, Option, Some, None, List, [], ◌∷◌, ◌++◌, refl, ap, subst}
+use Rattle.std.proofs.Common.{◌≡◌, ◌≢◌, ◌<◌, ◌∙◌, ℕ, Bool, true, false, cond, Option, Some, None, List, [], ◌∷◌, ◌++◌, arith, refl, sym, ap, subst}
 use Rattle.std.specs.Prelude.{◌==◌, IsSome}
 use Rattle.std.specs.List.{slice_index_or}
 use Rattle.std.specs.Option.{option_map}
+use Rattle.std.proofs.lemmas.Bool.Decides.{nat_tests}
 use Rattle.std.proofs.Math.Path.{fun_ext}
 use Rattle.flat.specs.Bytes.{put_at}
 use Rattle.network.specs.declared.net.Flight.{Flight}
@@ -22,6 +23,37 @@ pub record IsSent (old new : List (Option Flight)) (key : ℕ) (f : Flight) : Ty
 pub sends_one : (old new : List (Option Flight)) (key : ℕ) (f : Flight) (n next : ℕ) → IsSent old new key f → f.number ≡ n → next ≡ number_after n
     → SendsOn (mail_of old) n (shown f.message ∷ []) (mail_of new) next
 sends_one old new key f n next s is after = (key, f, record { free = s.free; lowest = s.lowest }, refl, is, (changed_at key (Some f) (mail_of old) (mail_of new) s.sent s.others, after))
+
+-- a flight under the lowest key that was free once that of another was
+pub record IsAnswered (old new : List (Option Flight)) (key place : ℕ) (f : Flight) : Type 0 where
+  pub free : place ≢ key → slice_index_or old place None ≡ None
+  pub lowest : (other : ℕ) → other < place → (other ≢ key) × IsSome (slice_index_or old other None)
+  pub sent : slice_index_or new place None ≡ Some f
+  pub taken : place ≢ key → slice_index_or new key None ≡ None
+  pub others : (other : ℕ) → other ≢ key → other ≢ place → slice_index_or new other None ≡ slice_index_or old other None
+
+-- a message is taken, and another is sent
+pub answers_one : (old new : List (Option Flight)) (key place : ℕ) (f : Flight) (n next : ℕ) → IsAnswered old new key place f → f.number ≡ n → next ≡ number_after n
+    → SendsOn (put_at key None (mail_of old)) n (shown f.message ∷ []) (mail_of new) next
+answers_one old new key place f n next s is after =
+    (place, f, record { free = free (place == key) refl; lowest = λ other below. lowest other (s.lowest other below) (other == key) refl }, refl, is, (changed_at place (Some f) left (mail_of new) s.sent (λ other ne. others other ne (other == key) refl), after))
+  where
+    left : Mail
+    left = put_at key None (mail_of old)
+
+    free : (b : Bool) → place == key ≡ b → cond b None (mail_of old place) ≡ None
+    free true same = refl
+    free false same = let ne : place ≢ key = grind (arith, nat_tests) in s.free ne
+
+    lowest : (other : ℕ) → (other ≢ key) × IsSome (mail_of old other) → (b : Bool) → other == key ≡ b → IsSome (cond b None (mail_of old other))
+    lowest other there true same = let e : other ≡ key = grind (arith, nat_tests) in absurd (there.0 e)
+    lowest other there false same = there.1
+
+    others : (other : ℕ) → other ≢ place → (b : Bool) → other == key ≡ b → mail_of new other ≡ cond b None (mail_of old other)
+    others other ne true same =
+        let e : other ≡ key = grind (arith, nat_tests) in
+        ap (mail_of new) e ∙ s.taken (λ at. ne (e ∙ sym at))
+    others other ne false same = let apart : other ≢ key = grind (arith, nat_tests) in s.others other apart ne
 
 -- messages, and then others
 pub sends_on : (ms others : List Message) (old mid new : Mail) (l m n : ℕ) → SendsOn old l ms mid m → SendsOn mid m others new n → SendsOn old l (ms ++ others) new n

@@ -1,6 +1,6 @@
 -- A message that arrives at the directory is a step of the machine.
-use Rattle.std.proofs.Common.{◌≡◌, ◌<◌, ◌≤◌, ◌*◌, ℕ, arith, Option, Some, None, List, [], length, replicate, inl, inr, refl, sym, ap, subst, ◌∙◌}
-use Rattle.std.specs.Prelude.{IfSome, ◌⊎◌, slice_get}
+use Rattle.std.proofs.Common.{◌≡◌, ◌<◌, ◌≤◌, ◌*◌, ℕ, Bool, true, false, cond, arith, Option, Some, None, List, [], length, replicate, inl, inr, refl, sym, ap, subst, ◌∙◌}
+use Rattle.std.specs.Prelude.{◌==◌, IfSome, ◌⊎◌, slice_get}
 use Rattle.std.specs.List.{slice_index_or}
 use Rattle.std.proofs.lemmas.Bool.{cases_lt}
 use Rattle.words.specs.Limits.{block_bytes, block_words}
@@ -9,7 +9,7 @@ use Rattle.words.specs.declared.entry.Step.TheVariants.{Deliver}
 use Rattle.flat.specs.Bytes.{put_at}
 use Rattle.protocol.specs.Messages.{Block, Message as Told, Get, Put, Done, Grant, Forward, PutAck, Ack, Nack, shown as shown_message, receiver_of, block_of}
 use Rattle.protocol.specs.Network.{taken}
-use Rattle.protocol.specs.Directory.{Served, directory_row}
+use Rattle.protocol.specs.Directory.{Busy, DirEntry, Served, directory_row, done_of, done_row, done_refused_row, unchanged}
 use Rattle.protocol.specs.Machine.{served_change, directory_change}
 use Rattle.directory.specs.Blocks.{Blocks, KeepsUsed, entry_at, row_of, sender_of, SetsBlock, Answers}
 use Rattle.directory.specs.Sends.{messages_in}
@@ -136,6 +136,16 @@ serves sets ways key v w m s sound here goes d = (made, kept)
           flat = next.0;
           belongs = next.2;
         }
+
+-- the end of a request sends nothing
+pub done_silent : (o : Option Busy) (from : ℕ) (ok : Bool) (content : Option Block) (e : DirEntry) (memory : Block) → (done_of o from ok content e memory).sent ≡ []
+done_silent None from ok content e memory = refl
+done_silent (Some q) from ok content e memory = by (q.requester == from) ok
+  where
+    by : (own ok : Bool) → (cond own (cond ok (done_row from q.give content e memory) (done_refused_row e memory)) (unchanged e memory)).sent ≡ []
+    by true true = refl
+    by true false = refl
+    by false ok = refl
 
 -- the same, of what the directory has answered
 pub follows : (sets ways key : ℕ) (v w : State) (m : Message) (answer : Answer) → IsSound sets ways v → in_flight v.flights key ≡ Some (shown_message m) → receiver_of (shown_message m) ≡ None

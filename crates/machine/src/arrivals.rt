@@ -1,12 +1,13 @@
-ghost use Rattle.std.specs.Prelude.{◌≡◌, ℕ, IfOk, OnErr, Some, None};
+ghost use Rattle.std.specs.Prelude.{◌≡◌, ℕ, IfOk, OnOk, OnErr, Some, None};
 ghost use Rattle.words.specs.declared.entry.Step.TheVariants.{Deliver};
-ghost use Rattle.protocol.specs.Messages.{shown as shown_message, receiver_of, Grant, Forward, PutAck, Ack, Nack};
+ghost use Rattle.protocol.specs.Messages.{Get, Put, Done, Grant, Forward, PutAck, Ack, Nack};
 ghost use Rattle.conflict.specs.Requests.{shown_granted};
 ghost use Rattle.machine.specs.Mail.{in_flight};
 ghost use Rattle.machine.specs.Making.{MakesStep};
 
 use crate::machine::Machine;
-use crate::mail::{send_answer, send_done, send_reply, take};
+use crate::mail::{answer, answer_done, answer_forward, answer_get, take};
+use directory::Request;
 use hart::{ForwardAnswer, Granted};
 use std::alloc::AllocError;
 use words::{Block, BlockNo, Entry, HARTS, HartId, Kind, Message, Stamp};
@@ -99,13 +100,27 @@ impl<const SETS: usize, const WAYS: usize> Machine<SETS, WAYS> {
                 kind,
                 stamp,
             } => {
-                let message = Message::Get {
-                    from: *from,
+                let request = Request {
+                    requester: *from,
                     block: *block,
                     kind: *kind,
                     stamp: *stamp,
                 };
-                self.deliver_to_directory(key, &message)
+                self.get_arrives(key, &request)?;
+                Ok(None)
+            }
+            Message::Put {
+                from,
+                block,
+                content,
+                marked,
+            } => {
+                let from = *from;
+                let block = *block;
+                let content = *content;
+                let marked = *marked;
+                self.put_arrives(key, from, block, &content, marked);
+                Ok(None)
             }
             Message::Done {
                 from,
@@ -113,17 +128,12 @@ impl<const SETS: usize, const WAYS: usize> Machine<SETS, WAYS> {
                 ok,
                 content,
             } => {
-                let message = Message::Done {
-                    from: *from,
-                    block: *block,
-                    ok: *ok,
-                    content: *content,
-                };
-                self.deliver_to_directory(key, &message)
-            }
-            Message::Put { .. } => {
-                let message = *message;
-                self.deliver_to_directory(key, &message)
+                let from = *from;
+                let block = *block;
+                let ok = *ok;
+                let content = *content;
+                self.done_arrives(key, from, block, ok, &content);
+                Ok(None)
             }
         }
     }
@@ -139,8 +149,7 @@ impl<const SETS: usize, const WAYS: usize> Machine<SETS, WAYS> {
             return;
         }
         let settled = self.seats[i].hart.on_grant(block, granted);
-        take(&mut self.net, key);
-        send_done(&mut self.net, to, settled);
+        answer_done(&mut self.net, key, to, settled);
     }
 
     /// An acknowledgement arrives at a hart. One for no hart stays in flight.
@@ -161,8 +170,7 @@ impl<const SETS: usize, const WAYS: usize> Machine<SETS, WAYS> {
             return;
         }
         let settled = self.seats[i].hart.on_ack(block, from, content);
-        take(&mut self.net, key);
-        send_done(&mut self.net, to, settled);
+        answer_done(&mut self.net, key, to, settled);
     }
 
     /// A refusal arrives at a hart. One for no hart stays in flight.
@@ -183,8 +191,7 @@ impl<const SETS: usize, const WAYS: usize> Machine<SETS, WAYS> {
             return;
         }
         let settled = self.seats[i].hart.on_nack(block, from, stamp);
-        take(&mut self.net, key);
-        send_done(&mut self.net, to, settled);
+        answer_done(&mut self.net, key, to, settled);
     }
 
     /// A forwarded request arrives at a hart. One for no hart stays in flight.
@@ -205,9 +212,8 @@ impl<const SETS: usize, const WAYS: usize> Machine<SETS, WAYS> {
         if i >= self.seats.len() {
             return None;
         }
-        let answer = self.seats[i].hart.on_forward(block, kind, stamp);
-        take(&mut self.net, key);
-        send_reply(&mut self.net, to, requester, block, answer)
+        let reply = self.seats[i].hart.on_forward(block, kind, stamp);
+        answer_forward(&mut self.net, key, to, requester, block, reply)
     }
 
     /// The acknowledgement of a Put arrives at a hart. One for no hart stays in flight.
@@ -224,26 +230,54 @@ impl<const SETS: usize, const WAYS: usize> Machine<SETS, WAYS> {
         take(&mut self.net, key);
     }
 
-    /// A message arrives at the directory.
+    /// A request arrives at the directory. One that has to wait stays in flight. It fails only if memory runs out.
     #[inline(always)]
-    fn deliver_to_directory(
-        &mut self,
-        key: usize,
-        message: &Message,
-    ) -> Result<Option<Entry>, AllocError>
-        requires here { in_flight self.old.flights key ≡ Some (shown_message message.now) }
-        requires directory { receiver_of (shown_message message.now) ≡ None }
-        ensures steps { IfOk result (λ e. MakesStep (geometry SETS WAYS) self.old (Deliver key) e self.new) }
+    fn get_arrives(&mut self, key: usize, request: &Request) -> Result<(), AllocError>
+        requires { in_flight self.old.flights key ≡ Some (Get request.now.requester request.now.block request.now.kind request.now.stamp) }
+        ensures steps { OnOk result (MakesStep (geometry SETS WAYS) self.old (Deliver key) None self.new) }
         ensures err { OnErr result (self.new ≡ self.old) }
     {
         self.net.reserve(HARTS)?;
-        match self.directory.serve(message)? {
-            None => Ok(None),
-            Some(answer) => {
-                take(&mut self.net, key);
-                send_answer(&mut self.net, &answer, self.directory.harts());
-                Ok(None)
-            }
+        if let Some(given) = self.directory.get(request)? {
+            let content = self.directory.memory(request.block);
+            let harts = self.directory.harts();
+            answer_get(&mut self.net, key, request, &given, content, harts);
         }
+        Ok(())
+    }
+
+    /// A block that a hart gives up arrives at the directory. One that has to wait stays in flight.
+    #[inline(always)]
+    fn put_arrives(
+        &mut self,
+        key: usize,
+        from: HartId,
+        block: BlockNo,
+        content: &Block,
+        marked: bool,
+    )
+        requires { in_flight self.old.flights key ≡ Some (Put from block content.now marked) }
+        ensures { MakesStep (geometry SETS WAYS) self.old (Deliver key) None self.new }
+    {
+        if self.directory.put(from, block, content, marked) {
+            answer(&mut self.net, key, Message::PutAck { to: from, block });
+        }
+    }
+
+    /// The end of a request arrives at the directory.
+    #[inline(always)]
+    fn done_arrives(
+        &mut self,
+        key: usize,
+        from: HartId,
+        block: BlockNo,
+        ok: bool,
+        content: &Option<Block>,
+    )
+        requires { in_flight self.old.flights key ≡ Some (Done from block ok content.now) }
+        ensures { MakesStep (geometry SETS WAYS) self.old (Deliver key) None self.new }
+    {
+        self.directory.done(from, block, ok, content);
+        take(&mut self.net, key);
     }
 }

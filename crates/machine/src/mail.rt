@@ -1,18 +1,17 @@
 ghost use Rattle.std.specs.Prelude.{◌≡◌, ◌<◌, ◌≤◌, ◌+◌, [], ◌∷◌, None, option_to_list, IsSome};
 ghost use Rattle.std.specs.Option.{option_map};
-ghost use Rattle.protocol.specs.Messages.{shown, receiver_of};
+ghost use Rattle.protocol.specs.Messages.{shown, receiver_of, Grant, Granted};
 ghost use Rattle.flat.specs.Bytes.{put_at};
 ghost use Rattle.words.specs.Harts.{names};
 ghost use Rattle.words.specs.Limits.{most_harts};
 ghost use Rattle.protocol.specs.Directory.{forwards};
-ghost use Rattle.directory.specs.Sends.{messages_in};
 ghost use Rattle.hart.specs.Rows.{done_of, answer_of, refusal_of};
 ghost use Rattle.machine.specs.Mail.{in_flight, mail_of, SendsOn};
 
-use directory::{Answer, Request};
+use directory::{Given, Request};
 use hart::{ForwardAnswer, Settled};
 use network::Net;
-use words::{BlockNo, Entry, HartId, HartSet, Message};
+use words::{Block, BlockNo, Entry, HartId, HartSet, Message};
 
 /// The hart that a message goes to. `None` where it goes to the directory.
 pub fn receiver(message: &Message) -> Option<HartId>
@@ -50,63 +49,82 @@ pub fn send(net: &mut Net, message: Option<Message>)
     }
 }
 
-/// Tells the directory how a hart's request goes on, if it has ended.
+/// Takes the message under a key out of flight, and sends another.
 #[inline(always)]
-pub fn send_done(net: &mut Net, from: HartId, settled: Settled)
-    requires { 0 < net.old.room }
-    ensures { SendsOn (mail_of net.old.slots) net.old.next (option_to_list (done_of from settled)) (mail_of net.new.slots) net.new.next }
+pub fn answer(net: &mut Net, key: usize, message: Message)
+    requires { IsSome (in_flight net.old.slots key) }
+    ensures sent { SendsOn (put_at key None (mail_of net.old.slots)) net.old.next (shown message ∷ []) (mail_of net.new.slots) net.new.next }
+    ensures room { net.new.room ≡ net.old.room }
+{
+    net.answer(key, message);
+}
+
+/// Takes the answer under a key out of flight, and tells the directory how a hart's request goes on, if it has ended.
+#[inline(always)]
+pub fn answer_done(net: &mut Net, key: usize, from: HartId, settled: Settled)
+    requires { IsSome (in_flight net.old.slots key) }
+    ensures { SendsOn (put_at key None (mail_of net.old.slots)) net.old.next (option_to_list (done_of from settled)) (mail_of net.new.slots) net.new.next }
 {
     match settled {
-        Settled::Waiting => {}
-        Settled::Refused(block) => {
-            net.send(Message::Done {
+        Settled::Waiting => take(net, key),
+        Settled::Refused(block) => answer(
+            net,
+            key,
+            Message::Done {
                 from,
                 block,
                 ok: false,
                 content: None,
-            });
-        }
-        Settled::Granted(block, content) => {
-            net.send(Message::Done {
+            },
+        ),
+        Settled::Granted(block, content) => answer(
+            net,
+            key,
+            Message::Done {
                 from,
                 block,
                 ok: true,
                 content,
-            });
-        }
+            },
+        ),
     }
 }
 
-/// Sends what a hart answers to another's request for a block, and gives the entry that there is of it.
+/// Takes another hart's request for a block, which lies under a key, out of flight, and sends what a hart answers to it. It gives the entry that there is
+/// of that.
 #[inline(always)]
-pub fn send_reply(
+pub fn answer_forward(
     net: &mut Net,
+    key: usize,
     from: HartId,
     requester: HartId,
     block: BlockNo,
-    answer: ForwardAnswer,
+    reply: ForwardAnswer,
 ) -> Option<Entry>
-    requires { 0 < net.old.room }
-    ensures sent { SendsOn (mail_of net.old.slots) net.old.next (answer_of from requester block answer ∷ []) (mail_of net.new.slots) net.new.next }
-    ensures entry { result ≡ refusal_of from requester block answer }
+    requires { IsSome (in_flight net.old.slots key) }
+    ensures sent { SendsOn (put_at key None (mail_of net.old.slots)) net.old.next (answer_of from requester block reply ∷ []) (mail_of net.new.slots) net.new.next }
+    ensures entry { result ≡ refusal_of from requester block reply }
 {
-    match answer {
+    let to = requester;
+    match reply {
         ForwardAnswer::Ack(content) => {
-            net.send(Message::Ack {
+            let message = Message::Ack {
                 from,
-                to: requester,
+                to,
                 block,
                 content,
-            });
+            };
+            answer(net, key, message);
             None
         }
         ForwardAnswer::Nack(stamp) => {
-            net.send(Message::Nack {
+            let message = Message::Nack {
                 from,
-                to: requester,
+                to,
                 block,
                 stamp,
-            });
+            };
+            answer(net, key, message);
             Some(Entry::Refuse {
                 hart: from,
                 requester,
@@ -116,46 +134,34 @@ pub fn send_reply(
     }
 }
 
-/// Sends what the directory answers to a message.
+/// Takes a request, which lies under a key, out of flight, and sends what it is given, with these words. Then it is forwarded to each hart whose answer
+/// it has to await, by rising number.
 #[inline(always)]
-pub fn send_answer(net: &mut Net, answer: &Answer, harts: usize)
+pub fn answer_get(
+    net: &mut Net,
+    key: usize,
+    request: &Request,
+    given: &Given,
+    content: Block,
+    harts: usize,
+)
+    requires here { IsSome (in_flight net.old.slots key) }
     requires harts { harts ≤ most_harts }
-    requires room { most_harts < net.old.room }
-    ensures { SendsOn (mail_of net.old.slots) net.old.next (messages_in harts answer.now) (mail_of net.new.slots) net.new.next }
+    requires room { harts ≤ net.old.room }
+    ensures { let granted : Granted = record { give = given.now.give; content = content; expect = names given.now.expect } in
+        SendsOn (put_at key None (mail_of net.old.slots)) net.old.next
+        (Grant request.now.requester request.now.block granted ∷ forwards harts (names given.now.expect) request.now.block request.now.kind request.now.requester request.now.stamp)
+        (mail_of net.new.slots) net.new.next }
 {
-    match answer {
-        Answer::Silent => {}
-        Answer::Acknowledged { to, block } => {
-            net.send(Message::PutAck {
-                to: *to,
-                block: *block,
-            });
-        }
-        Answer::Granted {
-            to,
-            block,
-            kind,
-            stamp,
-            give,
-            content,
-            expect,
-        } => {
-            net.send(Message::Grant {
-                to: *to,
-                block: *block,
-                give: *give,
-                content: *content,
-                expect: *expect,
-            });
-            let request = Request {
-                requester: *to,
-                block: *block,
-                kind: *kind,
-                stamp: *stamp,
-            };
-            forward(net, &request, expect, harts);
-        }
-    }
+    let message = Message::Grant {
+        to: request.requester,
+        block: request.block,
+        give: given.give,
+        content,
+        expect: given.expect,
+    };
+    answer(net, key, message);
+    forward(net, request, &given.expect, harts);
 }
 
 /// Forwards a request to each hart of a set, by rising number.

@@ -3,6 +3,7 @@ ghost use Rattle.std.specs.Option.{option_map};
 ghost use Rattle.words.specs.declared.entry.Step.TheVariants.{Core, Evict, Deliver};
 ghost use Rattle.protocol.specs.Machine.{Steps, stamps_after};
 ghost use Rattle.protocol.specs.Messages.{shown as shown_message};
+ghost use Rattle.machine.specs.Rows.{asking};
 ghost use Rattle.isolation.specs.Reasons.{LeadOn};
 ghost use Rattle.machine.specs.Mail.{SendsOn, mail_of};
 ghost use Rattle.machine.specs.Making.{MakesStep};
@@ -11,10 +12,10 @@ use crate::listener::{Caller, Listener};
 use crate::machine::Machine;
 use crate::mail::send;
 use crate::play::{ELSEWHERE, TOLD_STEP};
-use hart::CoreStep;
+use hart::{Asked, CoreStep};
 use network::Net;
 use std::alloc::AllocError;
-use words::{BlockNo, Entry, HartId, Step};
+use words::{BlockNo, Entry, HartId, Message, Stamp, Step};
 
 /// How many new stamps were taken, up to the greatest u64.
 #[inline(always)]
@@ -37,6 +38,22 @@ fn note(stamps: &mut u64, net: &mut Net, made: &CoreStep)
 {
     *stamps = stamps_after(*stamps, made.stamped);
     send(net, made.message);
+}
+
+/// Sends a hart's request for a block, if it asks for one.
+#[inline(always)]
+fn ask(net: &mut Net, from: HartId, stamp: Option<Stamp>, asked: &Option<Asked>)
+    requires { 0 < net.old.room }
+    ensures { SendsOn (mail_of net.old.slots) net.old.next (option_to_list (option_map (asking from stamp) asked.now)) (mail_of net.new.slots) net.new.next }
+{
+    if let Some(asked) = asked {
+        net.send(Message::Get {
+            from,
+            block: asked.block,
+            kind: asked.kind,
+            stamp,
+        });
+    }
 }
 
 impl<const SETS: usize, const WAYS: usize> Machine<SETS, WAYS> {
@@ -73,13 +90,13 @@ impl<const SETS: usize, const WAYS: usize> Machine<SETS, WAYS> {
             return Ok(None);
         }
         self.net.reserve(1)?;
-        match self.seats[i].common_step::<PLACE>(&self.program.text(), self.stamps)? {
-            None => Ok(None),
-            Some(made) => {
-                note(&mut self.stamps, &mut self.net, &made);
-                Ok(Some(made.entry))
-            }
-        }
+        let seat = &mut self.seats[i];
+        let Some(made) = seat.common_step::<PLACE>(&self.program.text(), self.stamps) else {
+            return Ok(None);
+        };
+        ask(&mut self.net, id, seat.hart.stamp(), &made.asked);
+        self.stamps = stamps_after(self.stamps, made.stamped);
+        Ok(Some(made.entry))
     }
 
     /// Any step of a hart's core.

@@ -1,7 +1,8 @@
 -- The messages that a scan of the slots has yet to meet.
-use Rattle.std.proofs.Common.{◌≡◌, ℕ, ◌+◌, ◌-◌, ◌<◌, ◌≤◌, ◌∙◌, zero, suc, List, [], ◌∷◌, Option, Some, None, cond, get_or, refl, ap, arith, add-one}
+use Rattle.std.proofs.Common.{◌≡◌, ℕ, ◌+◌, ◌-◌, ◌<◌, ◌≤◌, ◌∙◌, zero, suc, List, [], ◌∷◌, Option, Some, None, cond, get_or, refl, sym, ap, arith, add-one}
 use Rattle.std.specs.Prelude.{◌==◌, is_some, count_by}
 use Rattle.std.proofs.lemmas.List.Sums.{sum_by-cons}
+use Rattle.std.proofs.lemmas.Option.{none-some}
 use Rattle.network.proofs.Empty.{empty_slots}
 
 -- how many slots from key n on have a value
@@ -37,3 +38,22 @@ none_left zero slots none key le = empty_slots slots (ap (λ k. k == 0) none) ke
 none_left (suc n) [] none key le = refl
 none_left (suc n) (x ∷ slots) none zero le = absurd (omega (arith, le))
 none_left (suc n) (x ∷ slots) none (suc key) le = none_left n slots none key (omega (arith, le))
+
+-- beside one that is the only one there is nothing
+others : {T : Type 0} (x : T) (rest : List (Option T)) → count_by is_some (Some x ∷ rest) ≡ 1 → (key : ℕ) → get_or rest key None ≡ None
+others x rest one key =
+    let more = sum_by-cons (λ o. cond (is_some o) 1 0) (Some x) rest in
+    let none : count_by is_some rest ≡ 0 = omega (arith, one, more) in
+    empty_slots rest (ap (λ k. k == 0) none) key
+
+-- where there is one, it stands under one key
+pub one_alone : {T : Type 0} (slots : List (Option T)) → count_by is_some slots ≡ 1 → (j k : ℕ) (x y : T) → get_or slots j None ≡ Some x → get_or slots k None ≡ Some y → j ≡ k
+one_alone [] one j k x y here there = absurd (none-some x here)
+one_alone (None ∷ rest) one zero k x y here there = absurd (none-some x here)
+one_alone (None ∷ rest) one (suc j) zero x y here there = absurd (none-some y there)
+one_alone (None ∷ rest) one (suc j) (suc k) x y here there =
+    let more = sum_by-cons (λ o. cond (is_some o) 1 0) None rest in
+    ap suc (one_alone rest (omega (arith, one, more)) j k x y here there)
+one_alone (Some w ∷ rest) one zero zero x y here there = refl
+one_alone (Some w ∷ rest) one zero (suc k) x y here there = absurd (none-some y (sym (others w rest one k) ∙ there))
+one_alone (Some w ∷ rest) one (suc j) k x y here there = absurd (none-some x (sym (others w rest one j) ∙ here))

@@ -1,13 +1,14 @@
 -- The order of sending: each of the last numbers, with the key that it was sent under.
-use Rattle.std.proofs.Common.{◌≡◌, ◌≢◌, ◌+◌, ◌%◌, ◌<◌, ◌≤◌, inl, inr, ℕ, Bool, true, false, min, List, length, Option, Some, None, get_or, set, arith, refl, sym, ap, subst, ◌∙◌}
+use Rattle.std.proofs.Common.{◌≡◌, ◌≢◌, ◌+◌, ◌%◌, ◌<◌, ◌≤◌, inl, inr, ℕ, Bool, true, false, min, List, length, Option, Some, None, get_or, set, length-set, arith, refl, sym, ap, subst, ◌∙◌}
 use Rattle.std.specs.Prelude.{◌==◌, is_some, count_by, IsSomeAnd, IfSome, IfNone}
 use Rattle.std.proofs.lemmas.Bool.{cases_eq, cases_lt}
-use Rattle.std.proofs.lemmas.List.{get_or-set_same, get_or-set_other}
+use Rattle.std.proofs.lemmas.List.{get_or-set_same, get_or-set_other, get_or_past}
 use Rattle.std.proofs.lemmas.Option.{same_Some, none-some}
 use Rattle.words.specs.declared.message.Message.{Message}
 use Rattle.network.specs.declared.net.Flight.{Flight}
 use Rattle.network.specs.Flights.{Flights, AreNumbered, AreInOrder, NonePasses, IsOldest, IsNewest, HasNewestArrived}
 use Rattle.network.proofs.Empty.{empty_slots}
+use Rattle.network.proofs.Counted.{one_alone}
 
 -- one more message is sent
 pub sends_next : (slots news : List (Option Flight)) (next first : ℕ) (keys : List ℕ) (key : ℕ) (f : Flight) → length keys ≡ 64 → AreNumbered slots next → AreInOrder slots next first keys
@@ -49,6 +50,64 @@ takes_out slots news next first keys key order gone others = record {
       | inl e ↦ absurd (none-some g (sym gone ∙ subst (λ n. get_or news n None ≡ Some g) e at))
       | inr ne ↦ sym (others k ne) ∙ at
     ]
+
+-- one is taken out, and one more is sent
+pub record IsAnswer (slots news : List (Option Flight)) (key place : ℕ) (f : Flight) : Type 0 where
+  pub put : get_or news place None ≡ Some f
+  pub taken : place ≢ key → get_or news key None ≡ None
+  pub others : (other : ℕ) → other ≢ key → other ≢ place → get_or news other None ≡ get_or slots other None
+
+module _ {slots news : List (Option Flight)} {key place : ℕ} {f : Flight} (changes : IsAnswer slots news key place f) (next first : ℕ) (keys : List ℕ) (is : f.number ≡ next) where
+  -- the slots between the two
+  abbrev between : List (Option Flight)
+  between = set slots key None
+
+  gone : get_or between key None ≡ None
+  gone = elim (cases_lt key (length slots)) [
+    | inl below ↦ get_or-set_same slots key None None below
+    | inr past ↦ get_or_past between key None (omega (arith, past, length-set slots key None))
+  ]
+
+  stays : (other : ℕ) → other ≢ key → get_or between other None ≡ get_or slots other None
+  stays other ne = get_or-set_other slots key other None None ne
+
+  then_sent : (other : ℕ) → other ≢ place → get_or news other None ≡ get_or between other None
+  then_sent other ne = elim (cases_eq other key) [
+    | inl e ↦ let apart : place ≢ key = λ same. ne (e ∙ sym same) in
+        rw e (changes.taken apart ∙ sym gone)
+    | inr apart ↦ changes.others other apart ne ∙ sym (stays other apart)
+  ]
+
+  still : AreNumbered slots next → AreNumbered between next
+  still numbered k g at = elim (cases_eq k key) [
+    | inl e ↦ absurd (none-some g (sym gone ∙ subst (λ n. get_or between n None ≡ Some g) e at))
+    | inr ne ↦ numbered k g (sym (stays k ne) ∙ at)
+  ]
+
+  pub answers_next : length keys ≡ 64 → AreNumbered slots next → AreInOrder slots next first keys → AreInOrder news (min (next + 1) 18446744073709551615) first (set keys (next % 64) place)
+  answers_next long numbered order =
+      sends_next between news next first keys place f long (still numbered) (takes_out slots between next first keys key order gone stays) is changes.put then_sent
+
+  -- each number is below the next
+  pub answers_numbered : AreNumbered slots next → AreNumbered news (min (next + 1) 18446744073709551615)
+  answers_numbered numbered k g at = elim (cases_eq k place) [
+    | inl e ↦ let same : f.number ≡ g.number = ap (λ (x : Flight). x.number) (same_Some f g (sym changes.put ∙ subst (λ n. get_or news n None ≡ Some g) e at)) in
+        omega (arith, same, is)
+    | inr ne ↦ let lower : min (g.number + 1) 18446744073709551615 ≤ next = still numbered k g (sym (then_sent k ne) ∙ at) in omega (arith, lower)
+  ]
+
+-- the only message in flight is the first
+pub is_alone : (slots : List (Option Flight)) (next first : ℕ) (keys : List ℕ) (key : ℕ) (f : Flight) → count_by is_some slots ≡ 1 → get_or slots key None ≡ Some f → f.number ≤ next
+    → AreInOrder slots next first keys → AreInOrder slots next f.number keys
+is_alone slots next first keys key f one here before order = record {
+  before = before;
+  range = order.range;
+  above = λ k g at.
+      let at_key : get_or slots key None ≡ Some g = subst (λ n. get_or slots n None ≡ Some g) (one_alone slots one k key g f at here) at in
+      let same : f.number ≡ g.number = ap (λ (x : Flight). x.number) (same_Some f g (sym here ∙ at_key)) in
+      omega (arith, same);
+  recent = order.recent;
+}
 
 -- no message is in flight
 pub is_over : (slots : List (Option Flight)) (next first : ℕ) (keys : List ℕ) → count_by is_some slots == 0 ≡ true → AreInOrder slots next first keys → AreInOrder slots next next keys

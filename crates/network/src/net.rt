@@ -127,6 +127,34 @@ impl Net {
         key
     }
 
+    /// Takes the message under a key out, and sends another, under the lowest key that is free then, which it answers. It needs no
+    /// further room.
+    #[inline(always)]
+    pub fn answer(&mut self, key: usize, message: Message) -> usize
+        requires { IsSome (message_at self.old key) }
+        ensures free { result ≢ key → flight_at self.old result ≡ None }
+        ensures lowest { (other : ℕ) → other < result → (other ≢ key) × IsSome (flight_at self.old other) }
+        ensures sent { flight_at self.new result ≡ Some (record { message = message; number = self.old.next }) }
+        ensures taken { result ≢ key → flight_at self.new key ≡ None }
+        ensures others { (other : ℕ) → other ≢ key → other ≢ result → flight_at self.new other ≡ flight_at self.old other }
+        ensures number { self.new.next ≡ min (self.old.next + 1) 18446744073709551615 }
+        ensures count { self.old.next ≤ self.new.next }
+        ensures room { self.new.room ≡ self.old.room }
+    {
+        let number = self.next;
+        let place = self.slots.exchange(key, Flight { message, number });
+        self.keys[(number % RECENT) as usize] = place;
+        let next = number.saturating_add(1);
+        self.next = next;
+        let is_alone = self.slots.len() == 1;
+        self.first = if is_alone {
+            number
+        } else {
+            first_from(&self.slots, &self.keys, self.first, next)
+        };
+        place
+    }
+
     /// The message under a key.
     pub fn get(&self, key: usize) -> Option<Message>
         ensures { result ≡ message_at self.now key }

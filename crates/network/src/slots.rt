@@ -1,5 +1,5 @@
 //! Items under keys, each new one under the lowest key that is free.
-ghost use Rattle.std.specs.Prelude.{◌≡◌, ◌+◌, ◌-◌, ◌<◌, ◌≤◌, ◌==◌, ℕ, [], length, IsSome, Some, None, OnOk, slice_index_or};
+ghost use Rattle.std.specs.Prelude.{◌≡◌, ◌≢◌, ◌+◌, ◌-◌, ◌<◌, ◌≤◌, ◌==◌, ℕ, [], length, IsSome, Some, None, OnOk, slice_index_or};
 ghost use Rattle.std.specs.Option.{option_map};
 ghost use Rattle.network.specs.Slots.{get, count_of, Updates, AreTaken};
 
@@ -102,6 +102,27 @@ impl<T: Copy> Slots<T> {
             self.items[key] = Some(item);
         }
         key
+    }
+
+    /// Takes the item under a key out, and puts another under the lowest key that is free then, which it answers.
+    #[inline(always)]
+    pub(crate) fn exchange(&mut self, key: usize, item: T) -> usize
+        requires { IsSome (get self.old key) }
+        ensures free { result ≢ key → get self.old result ≡ None }
+        ensures lowest { (other : ℕ) → other < result → (other ≢ key) × IsSome (get self.old other) }
+        ensures put { get self.new result ≡ Some item }
+        ensures taken { result ≢ key → get self.new key ≡ None }
+        ensures others { (other : ℕ) → other ≢ key → other ≢ result → get self.new other ≡ get self.old other }
+        ensures count { count_of self.new ≡ count_of self.old }
+        ensures capacity { self.new.capacity ≡ self.old.capacity }
+    {
+        if key < self.free {
+            // It is the lowest that is free then.
+            self.items[key] = Some(item);
+            return key;
+        }
+        self.take(key);
+        self.insert(item)
     }
 
     /// The item under a key.

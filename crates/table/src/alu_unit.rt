@@ -130,6 +130,7 @@ fn remainder_signed(a: u32, b: u32) -> u32
     }
 }
 
+/// Whether a branch is taken, by what its registers hold.
 #[inline(always)]
 pub fn is_branch_taken(op: BranchOp, a: u32, b: u32) -> bool
     ensures { result ≡ (branch_row op).test a b }
@@ -144,6 +145,7 @@ pub fn is_branch_taken(op: BranchOp, a: u32, b: u32) -> bool
     }
 }
 
+/// The value that an operation makes of a register and an immediate.
 #[inline(always)]
 pub fn with_immediate(op: ImmOp, a: u32, imm: u32) -> u32
     ensures { result ≡ (imm_row op).value a imm }
@@ -158,6 +160,7 @@ pub fn with_immediate(op: ImmOp, a: u32, imm: u32) -> u32
     }
 }
 
+/// The value that a shift by a number of bits makes of a register. The low five bits of the number count.
 #[inline(always)]
 pub fn shift(op: ShiftOp, a: u32, amount: u32) -> u32
     ensures { result ≡ (shift_row op).value a amount }
@@ -169,6 +172,7 @@ pub fn shift(op: ShiftOp, a: u32, amount: u32) -> u32
     }
 }
 
+/// The value that an operation makes of two registers.
 #[inline(always)]
 pub fn alu(op: AluOp, a: u32, b: u32) -> u32
     ensures { result ≡ (op_row op).value a b }

@@ -13,13 +13,13 @@ mod names;
 mod slot;
 mod text;
 
-pub use alu_unit::finish_amo;
+pub use alu_unit::{alu, finish_amo, is_branch_taken, shift, with_immediate};
 pub use decoded_text::DecodedText;
 pub use decoder::decode;
 pub use effect::{Act, Effect, Load, MemoryAct, Store};
 pub use encoder::encode;
 pub use executor::{
-    address, amo_act, byte_count, effect_at, execute, extend_load, finish_load, finish_store,
+    address, amo_act, byte_count, effect_at, execute, extend_load, finish_load, finish_store, link,
     load_act, register, store_act, write_register, write_to,
 };
 pub use instr::{AluOp, AmoOp, BranchOp, ImmOp, Instr, LoadOp, Row, ShiftOp, StoreOp};

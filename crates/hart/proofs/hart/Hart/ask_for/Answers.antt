@@ -5,9 +5,9 @@ use Rattle.protocol.specs.Requests.{ask_row}
 use Rattle.protocol.specs.Core.{kind_of}
 use Rattle.hart.specs.Parts.{Parts}
 use Rattle.hart.specs.Shown.{shown_hart}
-use Rattle.hart.specs.Rows.{victim_of}
+use Rattle.hart.specs.Rows.{advanced, victim_of}
 use Rattle.hart.proofs.Rows.{none_shown}
-use Rattle.hart.proofs.Misses.{asks, no_victim}
+use Rattle.hart.proofs.Misses.{asks, asked, no_victim}
 use Rattle.hart.proofs.hart.Hart.ask_for.Goals as goal
 
 pub returns-clause-row : goal.returns-clause-row
@@ -22,4 +22,9 @@ returns-clause-row g c = λ output.
     asks p.index (victim_of g.row.SETS p.cache) (kind_of m) (m.addr / 32) h
     (ap (λ (q : Parts). (shown_hart g.row.SETS output q).put) (sym c.self.view_is) ∙ free)
     (no_victim g.row.SETS p.cache (m.addr / 32) room)
-    ∙ ap Some (ap (λ k. ask_row p.index k (m.addr / 32) h) (sym c.kind_of.ensures) ∙ ap (λ b. ask_row p.index c.kind_of.result b h) (sym block) ∙ c.ask.ensures.row output)
+    ∙ ap Some (
+    ap (λ k. ask_row p.index k (m.addr / 32) h) (sym c.kind_of-kind.ensures)
+    ∙ ap (λ b. ask_row p.index c.kind_of-kind.result b h) (sym block)
+    ∙ asked g.row.SETS output p c.wait_for.new.self c.kind_of-kind.result c.block-block.result c.wait_for.ensures.stays.index c.wait_for.ensures.tx (c.wait_for.ensures.hart output)
+    ∙ ap (advanced g.row.SETS output c.wait_for.new.self) (sym c.asks.ensures)
+    )

@@ -1,8 +1,9 @@
-use Rattle.std.proofs.Common.{◌≡◌, ◌≤◌, arith, length, Some, None, get_or, refl, sym, ap, subst, subst₂, ◌∙◌}
+use Rattle.std.proofs.Common.{◌≡◌, ◌≤◌, arith, length, Some, None, get_or, refl, sym, ap, subst, ◌∙◌}
 use Rattle.std.specs.Prelude.{slice_set, option_to_list}
 use Rattle.words.specs.declared.entry.Step.TheVariants.{Deliver}
 use Rattle.protocol.specs.Messages.{Message as Told, Ack}
 use Rattle.hart.specs.Rows.{done_of}
+use Rattle.flat.specs.Bytes.{put_at}
 use Rattle.machine.specs.Making.{MakesStep}
 use Rattle.machine.specs.Mail.{SendsOn, in_flight, mail_of}
 use Rattle.machine.specs.States.{State, Seat, geometry, IsSound}
@@ -19,20 +20,20 @@ returns-then-i-len g c =
     arrives_nowhere g.row.SETS g.row.WAYS c.args.key c.args.to v (Ack c.args.from c.args.to c.args.block c.args.content.now) (subst (IsSound g.row.SETS g.row.WAYS) c.self.view_is c.self.invariant) c.requires refl past
 
 -- the machine before and after, and the hart's seat
-abbrev before : (g : Over) (c : goal.After-send_done g) → State
+abbrev before : (g : Over) (c : goal.After-answer_done g) → State
 before g c = record { program = c.self.inside.program; seats = c.self.inside.seats.items; directory = c.self.inside.directory; flights = c.self.inside.net.slots; sent = c.self.inside.net.next; stamps = c.self.inside.stamps }
 
-abbrev old_seat : (g : Over) (c : goal.After-send_done g) → Seat
+abbrev old_seat : (g : Over) (c : goal.After-answer_done g) → Seat
 old_seat g c = record { hart = c.behind-self.inside.hart; output = c.behind-self.inside.output.items }
 
-abbrev new_seat : (g : Over) (c : goal.After-send_done g) → Seat
+abbrev new_seat : (g : Over) (c : goal.After-answer_done g) → Seat
 new_seat g c = record { hart = c.on_ack-settled.new.self; output = c.behind-self.inside.output.items }
 
-abbrev after : (g : Over) (c : goal.After-send_done g) → State
-after g c = record (before g c) { seats = slice_set (before g c).seats c.index-i.result (new_seat g c); flights = c.send_done.new.net.slots; sent = c.send_done.new.net.next }
+abbrev after : (g : Over) (c : goal.After-answer_done g) → State
+after g c = record (before g c) { seats = slice_set (before g c).seats c.index-i.result (new_seat g c); flights = c.answer_done.new.net.slots; sent = c.answer_done.new.net.next }
 
 -- it arrives
-arrives : (g : Over) (c : goal.After-send_done g)
+arrives : (g : Over) (c : goal.After-answer_done g)
     → MakesStep (geometry g.row.SETS g.row.WAYS) (before g c) (Deliver c.args.key) None (after g c) × IsSound g.row.SETS g.row.WAYS (after g c)
 arrives g c =
     let acts : Acts c.index-i.result (before g c) (after g c) (old_seat g c) (new_seat g c) = record {
@@ -47,8 +48,7 @@ arrives g c =
     let is : c.index-i.result ≡ c.args.to = c.index-i.ensures.value in
     arrives_at_hart g.row.SETS g.row.WAYS c.args.key c.index-i.result (before g c) (after g c) (old_seat g c) (new_seat g c) m (λ n. done_of n c.on_ack-settled.result) (λ n. None) c.self.invariant acts refl refl
     (ap (λ (v : State). in_flight v.flights c.args.key) c.self.view_is ∙ c.requires) (ap (λ n. Some n) (sym is)) c.on_ack-settled.ensures.ways c.on_ack-settled.ensures.row
-    (subst₂ (λ mail n. SendsOn mail n (option_to_list (done_of c.index-i.result c.on_ack-settled.result)) (mail_of (after g c).flights) (after g c).sent) c.take.ensures.mail c.take.ensures.number
-    (subst (λ n. SendsOn (mail_of c.take.new.net.slots) c.take.new.net.next (option_to_list (done_of n c.on_ack-settled.result)) (mail_of (after g c).flights) (after g c).sent) (sym is) c.send_done.ensures))
+    (subst (λ n. SendsOn (put_at c.args.key None (mail_of (before g c).flights)) (before g c).sent (option_to_list (done_of n c.on_ack-settled.result)) (mail_of (after g c).flights) (after g c).sent) (sym is) c.answer_done.ensures)
 
 pub invariant_of-self : goal.invariant_of-self
 invariant_of-self g c = (arrives g c).1

@@ -1,95 +1,83 @@
-use Rattle.std.proofs.Common.{◌≡◌, ◌∙◌, arith, Some, refl, sym, subst, subst₂}
+use Rattle.std.proofs.Common.{◌≡◌, ◌∙◌, arith, Some, refl, sym, ap, subst, subst₂}
 use Rattle.std.specs.Prelude.{slice_set, option_to_list, IfSome, IfNone}
 use Rattle.std.specs.Option.{option_map}
 use Rattle.words.specs.declared.entry.Step.TheVariants.{Core}
-use Rattle.protocol.specs.Messages.{shown as shown_message}
+use Rattle.protocol.specs.Hart.{stamp_of}
+use Rattle.protocol.specs.Core.{core_row}
+use Rattle.hart.specs.Shown.{shown_tx, shown_hart}
+use Rattle.hart.specs.Rows.{victim_of, advanced, setting_of as hart_setting}
 use Rattle.machine.specs.Making.{MakesStep}
 use Rattle.machine.specs.Mail.{SendsOn, mail_of}
-use Rattle.machine.specs.States.{State, geometry, IsSound}
+use Rattle.machine.specs.Rows.{asking}
+use Rattle.machine.specs.States.{Seat, State, geometry, IsSound}
 use Rattle.machine.proofs.Acting.{Acts, rests_still}
-use Rattle.machine.proofs.Cores.{MakesOf, core_makes}
+use Rattle.machine.proofs.Cores.{common_makes}
 use Rattle.machine.proofs.machine.Machine.common_core.Given.{Over}
 use Rattle.machine.proofs.machine.Machine.common_core.Goals as goal
 
 -- The core made a step
 
 -- the machine before and after
-abbrev before : (g : Over) (c : goal.After-note g) → State
+abbrev before : (g : Over) (c : goal.After-self-3-1 g) → State
 before g c = record { program = c.self.inside.program; seats = c.self.inside.seats.items; directory = c.self.inside.directory; flights = c.self.inside.net.slots; sent = c.self.inside.net.next; stamps = c.self.inside.stamps }
 
-abbrev after : (g : Over) (c : goal.After-note g) → State
-after g c = record (before g c) { seats = slice_set (before g c).seats c.index-i.result c.common_step.new.self; flights = c.note.new.net.slots; sent = c.note.new.net.next; stamps = c.note.new.stamps }
+abbrev after : (g : Over) (c : goal.After-self-3-1 g) → State
+after g c = record (before g c) { seats = slice_set (before g c).seats c.index-i.result c.common_step.new.self; flights = c.ask.new.net.slots; sent = c.ask.new.net.next; stamps = c.stamps_after-self-inside.result }
 
-makes : (g : Over) (c : goal.After-note g)
+makes : (g : Over) (c : goal.After-self-3-1 g)
     → MakesStep (geometry g.row.SETS g.row.WAYS) (before g c) (Core c.index-i.result) c.in-Some.made.entry (after g c) × IsSound g.row.SETS g.row.WAYS (after g c)
 makes g c =
-    let acts : Acts c.index-i.result (before g c) (after g c) c.index_mut.result.now c.common_step.new.self = record {
+    let S = g.row.SETS in
+    let old = c.index_mut-seat.result.now in
+    let new = c.common_step.new.self in
+    let made = c.in-Some.made in
+    let acts : Acts c.index-i.result (before g c) (after g c) old new = record {
       number = omega (arith, c.len.ensures, c.if-i-len.false);
-      before = c.index_mut.ensures.value;
+      before = c.index_mut-seat.ensures.value;
       after = refl;
       program = refl;
       directory = refl;
       stays = c.common_step.ensures.stays;
     } in
-    let row : MakesOf g.row.SETS (before g c).program.segments (before g c).stamps c.index_mut.result.now c.common_step.new.self (Some c.in-Some.made) =
-    subst (λ made. IfSome made (λ m. MakesOf g.row.SETS (before g c).program.segments (before g c).stamps c.index_mut.result.now c.common_step.new.self (Some m))) c.in-Some.is
-    (subst (λ segments. IfSome c.in_ok-common_step.field-0 (λ m. MakesOf g.row.SETS segments (before g c).stamps c.index_mut.result.now c.common_step.new.self (Some m))) c.text.ensures c.in_ok-common_step.ensures.row) in
-    core_makes g.row.SETS g.row.WAYS c.index-i.result (before g c) (after g c) c.index_mut.result.now c.common_step.new.self c.self.invariant acts c.in-Some.made c.in_ok-common_step.ensures.victim c.common_step.ensures.ways row
-    c.note.ensures.stamps
-    (subst₂ (λ f n. SendsOn (mail_of f) n (option_to_list (option_map shown_message c.in-Some.made.message)) (mail_of (after g c).flights) (after g c).sent) c.reserve.ensures.same c.reserve.ensures.number c.note.ensures.sent)
+    let row = subst (λ o. IfSome o (λ m. core_row (hart_setting (before g c).program.segments old.hart) old.hart.index (before g c).stamps (victim_of S old.hart.cache) (shown_hart S old.output old.hart) ≡ Some (advanced S new.output new.hart m))) c.in-Some.is
+    (subst (λ segments. IfSome c.common_step.result (λ m. core_row (hart_setting segments old.hart) old.hart.index (before g c).stamps (victim_of S old.hart.cache) (shown_hart S old.output old.hart) ≡ Some (advanced S new.output new.hart m))) c.text.ensures c.common_step.ensures.row) in
+    let stamp = c.stamp.ensures ∙ ap (λ (s : Seat). stamp_of (shown_tx s.hart.tx)) c.seat.view_is in
+    common_makes S g.row.WAYS c.index-i.result (before g c) (after g c) old new c.self.invariant acts made c.common_step.ensures.victim c.common_step.ensures.ways row c.stamps_after-self-inside.ensures
+    (subst₂ (λ f n. SendsOn (mail_of f) n (option_to_list (option_map (asking c.index-i.result (stamp_of (shown_tx new.hart.tx))) made.asked)) (mail_of (after g c).flights) (after g c).sent) c.reserve.ensures.same c.reserve.ensures.number
+    (subst₂ (λ i s. SendsOn (mail_of c.reserve.new.self.slots) c.reserve.new.self.next (option_to_list (option_map (asking i s) made.asked)) (mail_of (after g c).flights) (after g c).sent) (sym c.index-i.ensures.value) stamp c.ask.ensures))
 
-pub invariant_of-self-in-Some : goal.invariant_of-self-in-Some
-invariant_of-self-in-Some g c = (makes g c).1
+pub invariant_of-self-2 : goal.invariant_of-self-2
+invariant_of-self-2 g c = (makes g c).1
 
-pub returns-in-Some-clause-steps : goal.returns-in-Some-clause-steps
-returns-in-Some-clause-steps g c =
+pub returns-clause-steps : goal.returns-clause-steps
+returns-clause-steps g c =
     subst (λ m. MakesStep (geometry g.row.SETS g.row.WAYS) m (Core c.args.id) c.in-Some.made.entry (after g c)) c.self.view_is
     (subst (λ n. MakesStep (geometry g.row.SETS g.row.WAYS) (before g c) (Core n) c.in-Some.made.entry (after g c)) c.index-i.ensures.value (makes g c).0)
 
--- Memory ran out, and the seat is what it was
+-- No step is enabled
 
-pub invariant_of-self-in_err-common_step : goal.invariant_of-self-in_err-common_step
-invariant_of-self-in_err-common_step g c =
-    let v : State = record { program = c.self.inside.program; seats = c.self.inside.seats.items; directory = c.self.inside.directory; flights = c.self.inside.net.slots; sent = c.self.inside.net.next; stamps = c.self.inside.stamps } in
-    let w : State = record v { seats = slice_set v.seats c.index-i.result c.common_step.new.self; flights = c.reserve.new.self.slots; sent = c.reserve.new.self.next } in
-    let acts : Acts c.index-i.result v w c.index_mut.result.now c.common_step.new.self = record {
+abbrev still : (g : Over) (c : goal.After-self-1 g) → State
+still g c = record { program = c.self.inside.program; seats = c.self.inside.seats.items; directory = c.self.inside.directory; flights = c.self.inside.net.slots; sent = c.self.inside.net.next; stamps = c.self.inside.stamps }
+
+abbrev left : (g : Over) (c : goal.After-self-1 g) → State
+left g c = record (still g c) { seats = slice_set (still g c).seats c.index-i.result c.common_step.new.self; flights = c.reserve.new.self.slots; sent = c.reserve.new.self.next }
+
+-- so the machine stays as it is
+stays : (g : Over) (c : goal.After-self-1 g) → left g c ≡ still g c
+stays g c =
+    let acts : Acts c.index-i.result (still g c) (left g c) c.index_mut-seat.result.now c.common_step.new.self = record {
       number = omega (arith, c.len.ensures, c.if-i-len.false);
-      before = c.index_mut.ensures.value;
+      before = c.index_mut-seat.ensures.value;
       after = refl;
       program = refl;
       directory = refl;
       stays = c.common_step.ensures.stays;
     } in
-    let rests : w ≡ v = rests_still c.index-i.result v w c.index_mut.result.now c.common_step.new.self acts c.in_err-common_step.ensures.err c.reserve.ensures.same c.reserve.ensures.number refl in
-    subst (IsSound g.row.SETS g.row.WAYS) (sym rests) c.self.invariant
+    let same : c.common_step.new.self ≡ c.index_mut-seat.result.now = subst (λ made. IfNone made (c.common_step.new.self ≡ c.index_mut-seat.result.now)) c.in_default.is c.common_step.ensures.none in
+    rests_still c.index-i.result (still g c) (left g c) c.index_mut-seat.result.now c.common_step.new.self acts same c.reserve.ensures.same c.reserve.ensures.number refl
 
--- No step is enabled
+pub invariant_of-self-in_default : goal.invariant_of-self-in_default
+invariant_of-self-in_default g c = subst (IsSound g.row.SETS g.row.WAYS) (sym (stays g c)) c.self.invariant
 
-abbrev still : (g : Over) (c : goal.In-None g) → State
-still g c = record { program = c.self.inside.program; seats = c.self.inside.seats.items; directory = c.self.inside.directory; flights = c.self.inside.net.slots; sent = c.self.inside.net.next; stamps = c.self.inside.stamps }
-
-abbrev left : (g : Over) (c : goal.In-None g) → State
-left g c = record (still g c) { seats = slice_set (still g c).seats c.index-i.result c.common_step.new.self; flights = c.reserve.new.self.slots; sent = c.reserve.new.self.next }
-
-acts_none : (g : Over) (c : goal.In-None g) → Acts c.index-i.result (still g c) (left g c) c.index_mut.result.now c.common_step.new.self
-acts_none g c = record {
-  number = omega (arith, c.len.ensures, c.if-i-len.false);
-  before = c.index_mut.ensures.value;
-  after = refl;
-  program = refl;
-  directory = refl;
-  stays = c.common_step.ensures.stays;
-}
-
--- so the machine stays as it is
-stays : (g : Over) (c : goal.In-None g) → left g c ≡ still g c
-stays g c =
-    let same : c.common_step.new.self ≡ c.index_mut.result.now =
-    subst (λ made. IfNone made (c.common_step.new.self ≡ c.index_mut.result.now)) c.in-None.is c.in_ok-common_step.ensures.none in
-    rests_still c.index-i.result (still g c) (left g c) c.index_mut.result.now c.common_step.new.self (acts_none g c) same c.reserve.ensures.same c.reserve.ensures.number refl
-
-pub invariant_of-self-in-None : goal.invariant_of-self-in-None
-invariant_of-self-in-None g c = subst (IsSound g.row.SETS g.row.WAYS) (sym (stays g c)) c.self.invariant
-
-pub returns-in-None-clause-none : goal.returns-in-None-clause-none
-returns-in-None-clause-none g c = stays g c ∙ c.self.view_is
+pub returns-in_default-clause-none : goal.returns-in_default-clause-none
+returns-in_default-clause-none g c = stays g c ∙ c.self.view_is

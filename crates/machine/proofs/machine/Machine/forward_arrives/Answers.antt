@@ -1,8 +1,9 @@
-use Rattle.std.proofs.Common.{◌≡◌, ◌≤◌, ◌∷◌, [], arith, length, Some, get_or, refl, sym, ap, subst, subst₂, ◌∙◌}
+use Rattle.std.proofs.Common.{◌≡◌, ◌≤◌, ◌∷◌, [], arith, length, Some, None, get_or, refl, sym, ap, subst, ◌∙◌}
 use Rattle.std.specs.Prelude.{slice_set}
 use Rattle.words.specs.declared.entry.Step.TheVariants.{Deliver}
 use Rattle.protocol.specs.Messages.{Message as Told, Forward}
 use Rattle.hart.specs.Rows.{answer_of, refusal_of}
+use Rattle.flat.specs.Bytes.{put_at}
 use Rattle.machine.specs.Making.{MakesStep}
 use Rattle.machine.specs.Mail.{SendsOn, in_flight, mail_of}
 use Rattle.machine.specs.States.{State, Seat, geometry, IsSound}
@@ -19,21 +20,21 @@ returns-then-i-len g c =
     arrives_nowhere g.row.SETS g.row.WAYS c.args.key c.args.to v (Forward c.args.to c.args.block c.args.kind c.args.requester c.args.stamp) (subst (IsSound g.row.SETS g.row.WAYS) c.self.view_is c.self.invariant) c.requires refl past
 
 -- the machine before and after, and the hart's seat
-abbrev before : (g : Over) (c : goal.After-send_reply g) → State
+abbrev before : (g : Over) (c : goal.After-answer_forward g) → State
 before g c = record { program = c.self.inside.program; seats = c.self.inside.seats.items; directory = c.self.inside.directory; flights = c.self.inside.net.slots; sent = c.self.inside.net.next; stamps = c.self.inside.stamps }
 
-abbrev old_seat : (g : Over) (c : goal.After-send_reply g) → Seat
+abbrev old_seat : (g : Over) (c : goal.After-answer_forward g) → Seat
 old_seat g c = record { hart = c.behind-self.inside.hart; output = c.behind-self.inside.output.items }
 
-abbrev new_seat : (g : Over) (c : goal.After-send_reply g) → Seat
-new_seat g c = record { hart = c.on_forward-answer.new.self; output = c.behind-self.inside.output.items }
+abbrev new_seat : (g : Over) (c : goal.After-answer_forward g) → Seat
+new_seat g c = record { hart = c.on_forward-reply.new.self; output = c.behind-self.inside.output.items }
 
-abbrev after : (g : Over) (c : goal.After-send_reply g) → State
-after g c = record (before g c) { seats = slice_set (before g c).seats c.index-i.result (new_seat g c); flights = c.send_reply.new.net.slots; sent = c.send_reply.new.net.next }
+abbrev after : (g : Over) (c : goal.After-answer_forward g) → State
+after g c = record (before g c) { seats = slice_set (before g c).seats c.index-i.result (new_seat g c); flights = c.answer_forward.new.net.slots; sent = c.answer_forward.new.net.next }
 
 -- it arrives
-arrives : (g : Over) (c : goal.After-send_reply g)
-    → MakesStep (geometry g.row.SETS g.row.WAYS) (before g c) (Deliver c.args.key) c.send_reply.result (after g c) × IsSound g.row.SETS g.row.WAYS (after g c)
+arrives : (g : Over) (c : goal.After-answer_forward g)
+    → MakesStep (geometry g.row.SETS g.row.WAYS) (before g c) (Deliver c.args.key) c.answer_forward.result (after g c) × IsSound g.row.SETS g.row.WAYS (after g c)
 arrives g c =
     let acts : Acts c.index-i.result (before g c) (after g c) (old_seat g c) (new_seat g c) = record {
       number = omega (arith, c.len.ensures, c.if-i-len.false);
@@ -41,20 +42,19 @@ arrives g c =
       after = refl;
       program = refl;
       directory = refl;
-      stays = c.on_forward-answer.ensures.stays;
+      stays = c.on_forward-reply.ensures.stays;
     } in
     let m : Told = Forward c.args.to c.args.block c.args.kind c.args.requester c.args.stamp in
     let is : c.index-i.result ≡ c.args.to = c.index-i.ensures.value in
-    let a = c.on_forward-answer.result in
-    let entry : refusal_of c.index-i.result c.args.requester c.args.block a ≡ c.send_reply.result = ap (λ n. refusal_of n c.args.requester c.args.block a) is ∙ sym c.send_reply.ensures.entry in
+    let a = c.on_forward-reply.result in
+    let entry : refusal_of c.index-i.result c.args.requester c.args.block a ≡ c.answer_forward.result = ap (λ n. refusal_of n c.args.requester c.args.block a) is ∙ sym c.answer_forward.ensures.entry in
     subst (λ e. MakesStep (geometry g.row.SETS g.row.WAYS) (before g c) (Deliver c.args.key) e (after g c) × IsSound g.row.SETS g.row.WAYS (after g c)) entry
     (arrives_at_hart g.row.SETS g.row.WAYS c.args.key c.index-i.result (before g c) (after g c) (old_seat g c) (new_seat g c) m (λ n. Some (answer_of n c.args.requester c.args.block a)) (λ n. refusal_of n c.args.requester c.args.block a) c.self.invariant acts refl refl
-    (ap (λ (v : State). in_flight v.flights c.args.key) c.self.view_is ∙ c.requires) (ap (λ n. Some n) (sym is)) c.on_forward-answer.ensures.ways (λ output. c.on_forward-answer.ensures.row output c.args.requester)
-    (subst₂ (λ mail n. SendsOn mail n (answer_of c.index-i.result c.args.requester c.args.block a ∷ []) (mail_of (after g c).flights) (after g c).sent) c.take.ensures.mail c.take.ensures.number
-    (subst (λ n. SendsOn (mail_of c.take.new.net.slots) c.take.new.net.next (answer_of n c.args.requester c.args.block a ∷ []) (mail_of (after g c).flights) (after g c).sent) (sym is) c.send_reply.ensures.sent)))
+    (ap (λ (v : State). in_flight v.flights c.args.key) c.self.view_is ∙ c.requires) (ap (λ n. Some n) (sym is)) c.on_forward-reply.ensures.ways (λ output. c.on_forward-reply.ensures.row output c.args.requester)
+    (subst (λ n. SendsOn (put_at c.args.key None (mail_of (before g c).flights)) (before g c).sent (answer_of n c.args.requester c.args.block a ∷ []) (mail_of (after g c).flights) (after g c).sent) (sym is) c.answer_forward.ensures.sent))
 
 pub invariant_of-self : goal.invariant_of-self
 invariant_of-self g c = (arrives g c).1
 
 pub returns : goal.returns
-returns g c = subst (λ m. MakesStep (geometry g.row.SETS g.row.WAYS) m (Deliver c.args.key) c.send_reply.result (after g c)) c.self.view_is (arrives g c).0
+returns g c = subst (λ m. MakesStep (geometry g.row.SETS g.row.WAYS) m (Deliver c.args.key) c.answer_forward.result (after g c)) c.self.view_is (arrives g c).0
