@@ -1,5 +1,5 @@
 -- A line of a cache.
-use Rattle.std.specs.Prelude.{ℕ, Bool, true, cond, List, slice_set}
+use Rattle.std.specs.Prelude.{ℕ, Bool, true, ◌||◌, cond, List, slice_set}
 use Rattle.words.specs.declared.entry.Width.{Width}
 use Rattle.cache.specs.declared.line.Line.{Line}
 use Rattle.words.specs.declared.message.LineState.{LineState}
@@ -28,12 +28,13 @@ stored addr width v l = record l { content = block_with l.content addr width v }
 abbrev pub without_marks : Line → Line
 without_marks l = record l { marks = no_marks }
 
-abbrev pub with_marks : Marks → Line → Line
-with_marks marks l = record l { marks = marks }
+-- marks with those of what the running transaction does to the line: it reads it, or writes it, or both
+abbrev pub used_marks : Bool → Bool → Marks → Marks
+used_marks reads writes k = record k { read = reads || k.read; written = writes || k.written }
 
--- modified, with another word in its place, and other marks
-abbrev pub put_into : ℕ → ℕ → Marks → Line → Line
-put_into word value marks l = record l { content = slice_set l.content word value; state = Modified; marks = marks }
+-- modified, with another word in its place, and marked as read, or as written, if these say so
+abbrev pub put_into : ℕ → ℕ → Bool → Bool → Line → Line
+put_into word value reads writes l = record l { content = slice_set l.content word value; state = Modified; marks = used_marks reads writes l.marks }
 
 abbrev pub in_state : LineState → Line → Line
 in_state state l = record l { state = state }

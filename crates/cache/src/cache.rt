@@ -5,7 +5,7 @@ ghost use Rattle.words.specs.declared.message.LineState.TheVariants.{Shared, Mod
 ghost use Rattle.words.specs.Bytes.{bytes_in};
 ghost use Rattle.cache.specs.Bytes.{word_at};
 ghost use Rattle.words.specs.Limits.{block_words};
-ghost use Rattle.cache.specs.Line.{filled, marked_read, marked_written, in_state, stored, without_marks, with_marks, put_into};
+ghost use Rattle.cache.specs.Line.{filled, marked_read, marked_written, in_state, stored, without_marks, put_into};
 ghost use Rattle.cache.specs.Ways.{holds, is_free};
 ghost use Rattle.cache.specs.Sets.{line_at, way_at, HasRoom, GoesFor, victim_at, SetsLine, FillsLine, ChangesLine, RemovesLine, StoresBytes, IsSound};
 
@@ -14,7 +14,7 @@ use crate::line::Line;
 use crate::occupied::Occupied;
 use crate::sets::{assign_sets, clear_sets, same_sets};
 use crate::ways::{
-    Victim, free_way, has_line, line_of, mark, put_word, set_state, victim_of, way_of,
+    Victim, free_way, has_line, line_of, mark_read, put_word, set_state, victim_of, way_of,
 };
 use std::array;
 use std::marker::Model;
@@ -106,32 +106,40 @@ impl<const SETS: usize, const WAYS: usize> Cache<SETS, WAYS> {
         }
     }
 
-    /// Gives a block's line other marks, in the way in which it stands.
+    /// Marks a block's line as read by the running transaction, in the way in which it stands.
     #[inline(always)]
     #[tactic(auto, unfolding(crate::specs::Sets::line_at, crate::specs::Sets::way_at))]
-    pub fn mark_in(&mut self, block: BlockNo, way: usize, marks: Marks)
-        requires way { way_at SETS self.old block ≡ Some way }
-        requires owned { IsSomeAnd (line_at SETS self.old block) (λ line. IsTrue marks.written → line.state ≡ Modified) }
-        ensures line { ChangesLine SETS self.old self.new block (with_marks marks) }
+    pub fn mark_read_in(&mut self, block: BlockNo, way: usize)
+        requires { way_at SETS self.old block ≡ Some way }
+        ensures line { ChangesLine SETS self.old self.new block marked_read }
         ensures rooms { (b : ℕ) → HasRoom SETS self.old b → HasRoom SETS self.new b }
     {
         let sets = &mut self.sets[..];
         let ways = &mut sets[block.index() % SETS];
-        mark(ways, way, marks);
+        mark_read(ways, way);
     }
 
-    /// Puts a word into a block's line, in the way in which it stands, and makes it modified, with these marks.
+    /// Puts a word into a block's line, in the way in which it stands, and makes it modified. It is marked as read by the running transaction, or as written,
+    /// if these say so.
     #[inline(always)]
     #[tactic(auto, unfolding(crate::specs::Sets::line_at, crate::specs::Sets::way_at))]
-    pub fn put_word_in(&mut self, block: BlockNo, way: usize, word: usize, value: u32, marks: Marks)
+    pub fn put_word_in(
+        &mut self,
+        block: BlockNo,
+        way: usize,
+        word: usize,
+        value: u32,
+        reads: bool,
+        writes: bool,
+    )
         requires way { way_at SETS self.old block ≡ Some way }
         requires word { word < block_words }
-        ensures line { ChangesLine SETS self.old self.new block (put_into word value marks) }
+        ensures line { ChangesLine SETS self.old self.new block (put_into word value reads writes) }
         ensures rooms { (b : ℕ) → HasRoom SETS self.old b → HasRoom SETS self.new b }
     {
         let sets = &mut self.sets[..];
         let ways = &mut sets[block.index() % SETS];
-        put_word(ways, way, word, value, marks);
+        put_word(ways, way, word, value, reads, writes);
     }
 
     /// The word at an address, which is rounded down to a multiple of 4, if its block has a line.
@@ -158,16 +166,14 @@ impl<const SETS: usize, const WAYS: usize> Cache<SETS, WAYS> {
     }
 
     /// Marks a block's line as read by the running transaction.
+    #[inline(always)]
     pub fn mark_read(&mut self, block: BlockNo)
         requires { IsSome (line_at SETS self.old block) }
-        ensures { ChangesLine SETS self.old self.new block marked_read }
+        ensures line { ChangesLine SETS self.old self.new block marked_read }
+        ensures rooms { (b : ℕ) → HasRoom SETS self.old b → HasRoom SETS self.new b }
     {
-        if let Some(line) = self.look(block) {
-            let marks = Marks {
-                read: true,
-                ..line.marks
-            };
-            self.replace(Line { marks, ..line });
+        if let Some(way) = self.way(block) {
+            self.mark_read_in(block, way);
         }
     }
 
@@ -183,39 +189,6 @@ impl<const SETS: usize, const WAYS: usize> Cache<SETS, WAYS> {
             };
             self.replace(Line { marks, ..line });
         }
-    }
-
-    /// Gives a block's line other marks, where it stands.
-    #[inline(always)]
-    #[tactic(auto, unfolding(crate::specs::Sets::line_at))]
-    pub fn mark(&mut self, block: BlockNo, marks: Marks)
-        requires { IsSomeAnd (line_at SETS self.old block) (λ line. IsTrue marks.written → line.state ≡ Modified) }
-        ensures line { ChangesLine SETS self.old self.new block (with_marks marks) }
-        ensures rooms { (b : ℕ) → HasRoom SETS self.old b → HasRoom SETS self.new b }
-    {
-        let sets = &mut self.sets[..];
-        let ways = &mut sets[block.index() % SETS];
-        let Some(way) = way_of(ways, block) else {
-            return;
-        };
-        mark(ways, way, marks);
-    }
-
-    /// Puts a word into a block's line, where it stands, and makes it modified, with these marks.
-    #[inline(always)]
-    #[tactic(auto, unfolding(crate::specs::Sets::line_at))]
-    pub fn put_word(&mut self, block: BlockNo, word: usize, value: u32, marks: Marks)
-        requires line { IsSome (line_at SETS self.old block) }
-        requires word { word < block_words }
-        ensures line { ChangesLine SETS self.old self.new block (put_into word value marks) }
-        ensures rooms { (b : ℕ) → HasRoom SETS self.old b → HasRoom SETS self.new b }
-    {
-        let sets = &mut self.sets[..];
-        let ways = &mut sets[block.index() % SETS];
-        let Some(way) = way_of(ways, block) else {
-            return;
-        };
-        put_word(ways, way, word, value, marks);
     }
 
     /// Makes a block's line modified, so that it may be stored to.

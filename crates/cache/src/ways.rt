@@ -1,7 +1,7 @@
 ghost use Rattle.std.specs.Prelude.{◌≡◌, ◌<◌, position, length, is_some, map, replicate, None, get_or, slice_set};
 ghost use Rattle.std.specs.Option.{option_map};
 ghost use Rattle.words.specs.Limits.{block_words};
-ghost use Rattle.cache.specs.Line.{without_marks, with_marks, put_into, put_out_by, in_state};
+ghost use Rattle.cache.specs.Line.{without_marks, marked_read, used_marks, put_into, put_out_by, in_state};
 ghost use Rattle.cache.specs.Ways.{holds, is_free, is_unmarked, has_line, line_in, victim_in};
 
 use crate::line::Line;
@@ -120,14 +120,14 @@ fn put_out(line: Line) -> Victim
     }
 }
 
-/// Gives a way's line other marks.
+/// Marks a way's line as read by the running transaction.
 #[inline(always)]
-pub fn mark(ways: &mut [Option<Line>], way: usize, marks: Marks)
+pub fn mark_read(ways: &mut [Option<Line>], way: usize)
     requires { way < length ways.old }
-    ensures { ways.new ≡ slice_set ways.old way (option_map (with_marks marks) (get_or ways.old way None)) }
+    ensures { ways.new ≡ slice_set ways.old way (option_map marked_read (get_or ways.old way None)) }
 {
     if let Some(line) = &mut ways[way] {
-        line.marks = marks;
+        line.marks.read = true;
     }
 }
 
@@ -142,16 +142,35 @@ pub fn set_state(ways: &mut [Option<Line>], way: usize, state: LineState)
     }
 }
 
-/// Puts a word into a way's line, and makes it modified, with these marks.
+/// Marks a line as read, or as written, or both. A mark that it has stays, and isn't written again: that takes less than to write all marks.
 #[inline(always)]
-pub fn put_word(ways: &mut [Option<Line>], way: usize, word: usize, value: u32, marks: Marks)
+fn note_use(marks: &mut Marks, reads: bool, writes: bool)
+    ensures { marks.new ≡ used_marks reads writes marks.old }
+{
+    if reads {
+        marks.read = true;
+    }
+    if writes {
+        marks.written = true;
+    }
+}
+
+/// Puts a word into a way's line, and makes it modified. It is marked as read, or as written, if these say so.
+#[inline(always)]
+pub fn put_word(
+    ways: &mut [Option<Line>],
+    way: usize,
+    word: usize,
+    value: u32,
+    reads: bool,
+    writes: bool,
+)
     requires way { way < length ways.old }
     requires word { word < block_words }
-    ensures { ways.new ≡ slice_set ways.old way (option_map (put_into word value marks) (get_or ways.old way None)) }
+    ensures { ways.new ≡ slice_set ways.old way (option_map (put_into word value reads writes) (get_or ways.old way None)) }
 {
     if let Some(line) = &mut ways[way] {
-        // Marks first: where they are the line's own, that is seen to be no store at all.
-        line.marks = marks;
+        note_use(&mut line.marks, reads, writes);
         line.state = LineState::Modified;
         line.content[word] = value;
     }

@@ -14,3 +14,4 @@ pub mod Places
 pub mod Layouts
 pub mod Bytes
 pub mod Misses
+pub mod Active

@@ -1,15 +1,15 @@
-ghost use Rattle.std.specs.Prelude.{◌≡◌, ◌<◌, ◌/◌, ◌%◌, ◌^◌, slice_set, cond, Some};
+ghost use Rattle.std.specs.Prelude.{◌≡◌, ◌<◌, ◌/◌, ◌%◌, ◌^◌, ◌&&◌, slice_set, is_some, Some};
 ghost use Rattle.words.specs.Limits.{block_words};
 ghost use Rattle.words.specs.Bytes.{bytes_in, cut};
 ghost use Rattle.table.specs.declared.effect.Act.TheVariants.{Memory};
 ghost use Rattle.flat.specs.Effects.{old_of, put_by, load_by, store_by, write_by};
-ghost use Rattle.protocol.specs.Lines.{byte_in, words_put, marks_used, is_enough};
+ghost use Rattle.protocol.specs.Lines.{byte_in, words_put, is_enough};
 ghost use Rattle.protocol.specs.Core.{kind_of, is_log_due};
 ghost use Rattle.hart.specs.Shown.{shown_line};
 
 use cache::{Line, with_bytes};
 use table::{Effect, MemoryAct, extend_load, finish_load, finish_store, write_to};
-use words::{Access, BLOCK_WORDS, Block, Kind, Marks, Reg, Width};
+use words::{Access, BLOCK_WORDS, Block, Kind, Reg, Width};
 
 /// An access needs what a store needs, if it is also one.
 #[inline(always)]
@@ -131,26 +131,10 @@ pub(crate) fn word_put(content: &Block, m: &MemoryAct, value: u32) -> u32
     with_bytes(word, m.addr.index() % 4, m.width, value)
 }
 
-/// The marks after an access in a transaction.
+/// Whether an access marks its line as read: it loads, in a transaction.
 #[inline(always)]
-fn marks_used(m: &MemoryAct, marks: Marks) -> Marks
-    ensures { result ≡ marks_used m.now marks }
+pub(crate) fn marks_read(m: &MemoryAct, in_transaction: bool) -> bool
+    ensures { result ≡ in_transaction && is_some m.now.load }
 {
-    Marks {
-        read: marks.read || m.load.is_some(),
-        written: marks.written || m.store.is_some(),
-        ..marks
-    }
-}
-
-/// The marks after an access, in a transaction or outside.
-#[inline(always)]
-pub(crate) fn marks_after(in_transaction: bool, m: &MemoryAct, marks: Marks) -> Marks
-    ensures { result ≡ cond in_transaction (marks_used m.now marks) marks }
-{
-    if in_transaction {
-        marks_used(m, marks)
-    } else {
-        marks
-    }
+    in_transaction && m.load.is_some()
 }

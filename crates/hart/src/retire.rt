@@ -1,27 +1,25 @@
-ghost use Rattle.std.specs.Prelude.{◌≡◌, ◌≢◌, ◌<◌, ◌%◌, ◌/◌, ℕ, List, Option, Some, None, IsTrue, IsFalse, not, ◌&&◌, nat_le, length, false};
+ghost use Rattle.std.specs.Prelude.{◌≡◌, ◌<◌, ◌%◌, ◌/◌, ℕ, List, Option, Some, None, IsTrue, IsFalse, not, ◌&&◌, nat_le, length, false};
 ghost use Rattle.words.specs.Bytes.{bytes_in};
 ghost use Rattle.words.specs.declared.message.LineState.TheVariants.{Modified};
 ghost use Rattle.words.specs.Limits.{log_records};
 ghost use Rattle.words.specs.declared.entry.Entry.TheVariants.{Retire};
 ghost use Rattle.table.specs.declared.effect.Act.TheVariants as act;
-ghost use Rattle.cache.specs.Sets.{line_at};
-ghost use Rattle.flat.specs.Effects.{output_by, status_by, write_by, load_by, store_by};
+ghost use Rattle.cache.specs.Sets.{line_at, way_at};
+ghost use Rattle.table.specs.Effects.{with_reg};
+ghost use Rattle.flat.specs.Effects.{output_by, status_by, load_by, store_by};
 ghost use Rattle.protocol.specs.Hart.{with_line};
 ghost use Rattle.protocol.specs.Lines.{byte_in, line_used};
 ghost use Rattle.hart.specs.Rows.{with_byte};
 ghost use Rattle.protocol.specs.Core.{retire_row, no_memory, begin_row, commit_row, access_row, is_log_due, tx_used};
 
-use crate::access::{is_log_due, load_by, marks_after, put_by, store_by, word_put, written_by};
+use crate::access::{is_log_due, load_by, store_by, written_by};
 use crate::hart::Hart;
 use crate::reply::CoreStep;
 use crate::reservation::reserved_begun;
-use crate::step::is_running;
 use crate::transactions::{append_record, begin, commit};
 use cache::Line;
 use table::{Act, Effect, MemoryAct, register, write_register};
-use words::{
-    AbortCause, Addr, BLOCK_BYTES, BLOCK_WORDS, Block, BlockNo, Entry, Reg, Regs, Stamp, Status,
-};
+use words::{AbortCause, Addr, BLOCK_BYTES, Block, BlockNo, Entry, Reg, Regs, Stamp, Status};
 
 /// The call 93 exits with a0.
 #[inline(always)]
@@ -66,20 +64,10 @@ impl<const SETS: usize, const WAYS: usize> Hart<SETS, WAYS> {
         ensures tx { self.new.tx ≡ self.old.tx }
         ensures stays { StaysPut self.old self.new }
     {
-        let entry = Entry::Retire {
-            hart: self.index,
-            pc: self.pc,
-            word,
-            write: effect.write,
-            load: None,
-            store: None,
-        };
+        let entry = self.entry(word, &effect.write);
         let output = output_by(&self.regs, &effect.act);
-        let status = status_by(&self.regs, &effect.act);
-        self.put_status(status);
-        self.pc = effect.next;
-        write_register(&mut self.regs, effect.write);
-        self.fresh = false;
+        self.status = status_by(&self.regs, &effect.act);
+        self.move_on(effect.next, effect.write);
         CoreStep {
             message: None,
             entry: Some(entry),
@@ -88,33 +76,53 @@ impl<const SETS: usize, const WAYS: usize> Hart<SETS, WAYS> {
         }
     }
 
-    /// The status from now on. One that runs and goes on running isn't written.
+    /// The entry of a word without an access, which writes this register.
     #[inline(always)]
-    fn put_status(&mut self, status: Status)
-        ensures status { self.new ≡ record self.old { status = status } }
-        ensures stays { StaysPut self.old self.new }
-    {
-        if !(is_running(status) && is_running(self.status)) {
-            self.status = status;
-        }
-    }
-
-    /// The entry of an access to a block that has these words.
-    #[inline(always)]
-    fn access_entry(&self, word: u32, effect: &Effect, m: &MemoryAct, content: &Block) -> Entry
-        requires { m.now.addr % bytes_in m.now.width ≡ 0 }
-        ensures { let view = byte_in content.now in
-            result ≡ Retire self.now.index self.now.pc word
-            (write_by view effect.now (act.Memory m.now)) (load_by view (act.Memory m.now)) (store_by view (act.Memory m.now)) }
+    pub(crate) fn entry(&self, word: u32, write: &Option<(Reg, u32)>) -> Entry
+        ensures { result ≡ Retire self.now.index self.now.pc word write.now None None }
     {
         Entry::Retire {
             hart: self.index,
             pc: self.pc,
             word,
-            write: written_by(content, effect, m),
+            write: *write,
+            load: None,
+            store: None,
+        }
+    }
+
+    /// The entry of an access, to a block that has these words, which writes this register.
+    #[inline(always)]
+    pub(crate) fn access_entry(
+        &self,
+        word: u32,
+        m: &MemoryAct,
+        content: &Block,
+        write: &Option<(Reg, u32)>,
+    ) -> Entry
+        requires { m.now.addr % bytes_in m.now.width ≡ 0 }
+        ensures { let view = byte_in content.now in
+            result ≡ Retire self.now.index self.now.pc word write.now (load_by view (act.Memory m.now)) (store_by view (act.Memory m.now)) }
+    {
+        Entry::Retire {
+            hart: self.index,
+            pc: self.pc,
+            word,
+            write: *write,
             load: load_by(content, m),
             store: store_by(content, m),
         }
+    }
+
+    /// The hart goes on at this address, with this register written.
+    #[inline(always)]
+    pub(crate) fn move_on(&mut self, next: Addr, write: Option<(Reg, u32)>)
+        ensures hart { self.new ≡ record self.old { regs = with_reg self.old.regs write; pc = next; fresh = false } }
+        ensures stays { StaysPut self.old self.new }
+    {
+        self.pc = next;
+        write_register(&mut self.regs, write);
+        self.fresh = false;
     }
 
     /// Retires an access, to a block that has these words.
@@ -135,34 +143,10 @@ impl<const SETS: usize, const WAYS: usize> Hart<SETS, WAYS> {
         ensures tx { self.new.tx ≡ self.old.tx }
         ensures stays { StaysPut self.old self.new }
     {
-        self.retire_written(word, effect, m, content, written_by(content, effect, m))
-    }
-
-    /// Retires an access that writes this register.
-    #[inline(always)]
-    pub(crate) fn retire_written(
-        &mut self,
-        word: u32,
-        effect: &Effect,
-        m: &MemoryAct,
-        content: &Block,
-        written: Option<(Reg, u32)>,
-    ) -> CoreStep
-        requires act { effect.now.act ≡ act.Memory m.now }
-        requires aligned { m.now.addr % bytes_in m.now.width ≡ 0 }
-        requires written { written ≡ write_by (byte_in content.now) effect.now (act.Memory m.now) }
-        ensures row { (output : List ℕ) →
-            retire_row self.old.index (byte_in content.now) word effect.now (shown_hart SETS output self.old)
-            ≡ stepped SETS output self.new result }
-        ensures cache { self.new.cache ≡ self.old.cache }
-        ensures tx { self.new.tx ≡ self.old.tx }
-        ensures stays { StaysPut self.old self.new }
-    {
-        let entry = self.access_entry(word, effect, m, content);
-        self.put_status(Status::Running);
-        self.pc = effect.next;
-        write_register(&mut self.regs, written);
-        self.fresh = false;
+        let written = written_by(content, effect, m);
+        let entry = self.access_entry(word, m, content, &written);
+        self.status = Status::Running;
+        self.move_on(effect.next, written);
         CoreStep::gives(entry)
     }
 
@@ -238,27 +222,32 @@ impl<const SETS: usize, const WAYS: usize> Hart<SETS, WAYS> {
         ensures ways { KeepsWays SETS self.old.cache self.new.cache }
         ensures stays { StaysPut self.old self.new }
     {
+        let Some(way) = self.cache.way(m.addr.block()) else {
+            unreachable!()
+        };
         if self.tx.depth() == 0 {
-            self.access_logged(word, effect, m, kept, line, false)
+            self.access_logged(word, effect, m, kept, line, way, false)
         } else {
-            self.access_in_transaction(word, effect, m, kept, line)
+            self.access_in_transaction(word, effect, m, kept, line, way)
         }
     }
 
     /// An access whose record, if one is due, is in the log.
     #[inline(always)]
-    pub(crate) fn access_logged(
+    fn access_logged(
         &mut self,
         word: u32,
         effect: &Effect,
         m: &MemoryAct,
         kept: Option<BlockNo>,
         line: &Line,
+        way: usize,
         in_transaction: bool,
     ) -> CoreStep
         requires act { effect.now.act ≡ act.Memory m.now }
         requires aligned { m.now.addr % bytes_in m.now.width ≡ 0 }
         requires line { line_at SETS self.old.cache (m.now.addr / 32) ≡ Some line.now }
+        requires way { way_at SETS self.old.cache (m.now.addr / 32) ≡ Some way }
         requires block { line.now.block ≡ m.now.addr / 32 }
         requires owned { IsTrue line.now.marks.written → line.now.state ≡ Modified }
         ensures row { (output : List ℕ) →
@@ -270,7 +259,7 @@ impl<const SETS: usize, const WAYS: usize> Hart<SETS, WAYS> {
         ensures tx { self.new.tx ≡ self.old.tx }
         ensures stays { StaysPut self.old self.new }
     {
-        self.use_line(m, line, in_transaction);
+        self.use_way(m, line, way, in_transaction);
         self.reserved = kept;
         self.retire_access(word, effect, m, &line.content)
     }
@@ -285,11 +274,13 @@ impl<const SETS: usize, const WAYS: usize> Hart<SETS, WAYS> {
         m: &MemoryAct,
         kept: Option<BlockNo>,
         line: &Line,
+        way: usize,
     ) -> CoreStep
         requires act { effect.now.act ≡ act.Memory m.now }
         requires aligned { m.now.addr % bytes_in m.now.width ≡ 0 }
         requires running { 0 < self.old.tx.depth }
         requires line { line_at SETS self.old.cache (m.now.addr / 32) ≡ Some line.now }
+        requires way { way_at SETS self.old.cache (m.now.addr / 32) ≡ Some way }
         requires block { line.now.block ≡ m.now.addr / 32 }
         requires owned { IsTrue line.now.marks.written → line.now.state ≡ Modified }
         ensures row { (output : List ℕ) → let h = shown_hart SETS output self.old in
@@ -298,16 +289,18 @@ impl<const SETS: usize, const WAYS: usize> Hart<SETS, WAYS> {
         ensures ways { KeepsWays SETS self.old.cache self.new.cache }
         ensures stays { StaysPut self.old self.new }
     {
-        if !self.log_line(m, line) {
+        if !self.log_line(m, line, way) {
             return self.start_abort(AbortCause::LogFull);
         }
-        self.access_logged(word, effect, m, kept, line, true)
+        self.access_logged(word, effect, m, kept, line, way, true)
     }
 
-    /// Appends a line's words to the log, if that is due before an access. The answer is whether there was room for them.
+    /// Appends the words of a line, which stands in this way, to the log, if that is due before an access. The answer is whether there was room for them.
     #[inline(always)]
-    pub(crate) fn log_line(&mut self, m: &MemoryAct, line: &Line) -> bool
+    pub(crate) fn log_line(&mut self, m: &MemoryAct, line: &Line, way: usize) -> bool
         requires running { 0 < self.old.tx.depth }
+        requires line { line_at SETS self.old.cache (m.now.addr / 32) ≡ Some line.now }
+        requires way { way_at SETS self.old.cache (m.now.addr / 32) ≡ Some way }
         requires block { line.now.block ≡ m.now.addr / 32 }
         ensures room { let log = (running self.old.tx).log in
             is_log_due m.now (shown_line line.now) && nat_le log_records (length log) ≡ not result }
@@ -315,37 +308,15 @@ impl<const SETS: usize, const WAYS: usize> Hart<SETS, WAYS> {
             shown_hart SETS output self.new ≡ record h { tx = Some (tx_used m.now (shown_line line.now) (running self.old.tx)) } }
         ensures full { IsFalse result → self.new ≡ self.old }
         ensures cache { self.new.cache ≡ self.old.cache }
+        ensures status { self.new.status ≡ self.old.status }
         ensures stays { StaysPut self.old self.new }
     {
         if !is_log_due(m, line) {
             return true;
         }
+        // The words are read where the line stands: a copy of them takes longer.
         let block = BlockNo::new(m.addr.value() / BLOCK_BYTES as u32);
-        let before = line.content;
-        append_record(&mut self.tx, block, &before)
-    }
-
-    /// Loads from a line or stores to it.
-    #[inline(always)]
-    fn use_line(&mut self, m: &MemoryAct, line: &Line, in_transaction: bool)
-        requires aligned { m.now.addr % bytes_in m.now.width ≡ 0 }
-        requires line { line_at SETS self.old.cache (m.now.addr / 32) ≡ Some line.now }
-        requires block { line.now.block ≡ m.now.addr / 32 }
-        requires owned { IsTrue line.now.marks.written → line.now.state ≡ Modified }
-        ensures hart { (output : List ℕ) → shown_hart SETS output self.new
-            ≡ with_line (m.now.addr / 32) (Some (line_used in_transaction m.now (shown_line line.now)))
-            (shown_hart SETS output self.old) }
-        ensures ways { KeepsWays SETS self.old.cache self.new.cache }
-        ensures tx { self.new.tx ≡ self.old.tx }
-        ensures stays { StaysPut self.old self.new }
-    {
-        let marks = marks_after(in_transaction, m, line.marks);
-        let Some(value) = put_by(&line.content, m) else {
-            self.cache.mark(line.block, marks);
-            return;
-        };
-        let word = m.addr.index() / 4 % BLOCK_WORDS;
-        let put = word_put(&line.content, m, value);
-        self.cache.put_word(line.block, word, put, marks);
+        let here = self.cache.line_in(block, way);
+        append_record(&mut self.tx, block, &here.content)
     }
 }

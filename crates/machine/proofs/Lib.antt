@@ -11,6 +11,7 @@ mod Staying
 mod Sound
 mod Steps
 mod Deliveries
+mod Peeked
 mod Arriving
 mod Served
 mod Blocks
@@ -31,3 +32,4 @@ pub mod Quiescence
 pub mod Plain
 mod Enabled
 mod Ending
+mod Alone

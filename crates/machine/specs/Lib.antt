@@ -1,4 +1,5 @@
 pub mod Mail
+pub mod Sorts
 pub mod States
 pub mod Making
 pub mod Twins

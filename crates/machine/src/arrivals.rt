@@ -1,16 +1,15 @@
-ghost use Rattle.std.specs.Prelude.{◌≡◌, ℕ, IfOk, OnOk, OnErr, Some, None};
+ghost use Rattle.std.specs.Prelude.{◌≡◌, IfOk, OnOk, OnErr, IsSomeAnd, None};
 ghost use Rattle.words.specs.declared.entry.Step.TheVariants.{Deliver};
-ghost use Rattle.protocol.specs.Messages.{Get, Put, Done, Grant, Forward, PutAck, Ack, Nack};
-ghost use Rattle.conflict.specs.Requests.{shown_granted};
 ghost use Rattle.machine.specs.Mail.{in_flight};
 ghost use Rattle.machine.specs.Making.{MakesStep};
+ghost use Rattle.machine.specs.Sorts.{IsGet, IsPut, IsDone, IsGrant, IsForward, IsPutAck, IsAck, IsNack};
 
 use crate::machine::Machine;
 use crate::mail::{answer, answer_done, answer_forward, answer_get, take};
 use directory::Request;
-use hart::{ForwardAnswer, Granted};
+use hart::Granted;
 use std::alloc::AllocError;
-use words::{Block, BlockNo, Entry, HARTS, HartId, Kind, Message, Stamp};
+use words::{Entry, HARTS, Message};
 
 /// Messages that arrive. Each kind has an arm of its own, in which its hart's answer is sent before paths meet: where several meet in one answer, that is put
 /// together in memory.
@@ -31,161 +30,91 @@ impl<const SETS: usize, const WAYS: usize> Machine<SETS, WAYS> {
             return Ok(None);
         };
         match message {
-            Message::Grant {
+            Message::Grant { .. } => self.grant_arrives(key),
+            Message::Forward { .. } => return Ok(self.forward_arrives(key)),
+            Message::PutAck { .. } => self.put_ack_arrives(key),
+            Message::Ack { .. } => self.ack_arrives(key),
+            Message::Nack { .. } => self.nack_arrives(key),
+            Message::Get { .. } => self.get_arrives(key)?,
+            Message::Put { .. } => self.put_arrives(key),
+            Message::Done { .. } => self.done_arrives(key),
+        }
+        Ok(None)
+    }
+
+    /// A grant arrives at a hart. One for no hart stays in flight.
+    #[inline(always)]
+    fn grant_arrives(&mut self, key: usize)
+        requires { IsSomeAnd (in_flight self.old.flights key) IsGrant }
+        ensures { MakesStep (geometry SETS WAYS) self.old (Deliver key) None self.new }
+    {
+        let Some(
+            &Message::Grant {
                 to,
                 block,
                 give,
                 content,
                 expect,
-            } => {
-                let granted = Granted {
-                    give: *give,
-                    content: *content,
-                    expect: *expect,
-                };
-                let to = *to;
-                let block = *block;
-                self.grant_arrives(key, to, block, &granted);
-                Ok(None)
-            }
-            Message::Forward {
-                to,
-                block,
-                kind,
-                requester,
-                stamp,
-            } => {
-                let to = *to;
-                let block = *block;
-                let kind = *kind;
-                let requester = *requester;
-                let stamp = *stamp;
-                Ok(self.forward_arrives(key, to, block, kind, requester, stamp))
-            }
-            Message::PutAck { to, block } => {
-                let to = *to;
-                let block = *block;
-                self.put_ack_arrives(key, to, block);
-                Ok(None)
-            }
-            Message::Ack {
-                from,
-                to,
-                block,
-                content,
-            } => {
-                let from = *from;
-                let to = *to;
-                let block = *block;
-                let content = *content;
-                self.ack_arrives(key, from, to, block, &content);
-                Ok(None)
-            }
-            Message::Nack {
-                from,
-                to,
-                block,
-                stamp,
-            } => {
-                let from = *from;
-                let to = *to;
-                let block = *block;
-                let stamp = *stamp;
-                self.nack_arrives(key, from, to, block, stamp);
-                Ok(None)
-            }
-            Message::Get {
-                from,
-                block,
-                kind,
-                stamp,
-            } => {
-                let request = Request {
-                    requester: *from,
-                    block: *block,
-                    kind: *kind,
-                    stamp: *stamp,
-                };
-                self.get_arrives(key, &request)?;
-                Ok(None)
-            }
-            Message::Put {
-                from,
-                block,
-                content,
-                marked,
-            } => {
-                let from = *from;
-                let block = *block;
-                let content = *content;
-                let marked = *marked;
-                self.put_arrives(key, from, block, &content, marked);
-                Ok(None)
-            }
-            Message::Done {
-                from,
-                block,
-                ok,
-                content,
-            } => {
-                let from = *from;
-                let block = *block;
-                let ok = *ok;
-                let content = *content;
-                self.done_arrives(key, from, block, ok, &content);
-                Ok(None)
-            }
-        }
-    }
-
-    /// A grant arrives at a hart. One for no hart stays in flight.
-    #[inline(always)]
-    fn grant_arrives(&mut self, key: usize, to: HartId, block: BlockNo, granted: &Granted)
-        requires { in_flight self.old.flights key ≡ Some (Grant to block (shown_granted granted.now)) }
-        ensures { MakesStep (geometry SETS WAYS) self.old (Deliver key) None self.new }
-    {
+            },
+        ) = self.net.peek(key)
+        else {
+            unreachable!()
+        };
         let i = to.index();
         if i >= self.seats.len() {
             return;
         }
-        let settled = self.seats[i].hart.on_grant(block, granted);
+        let granted = Granted {
+            give,
+            content,
+            expect,
+        };
+        let settled = self.seats[i].hart.on_grant(block, &granted);
         answer_done(&mut self.net, key, to, settled);
     }
 
     /// An acknowledgement arrives at a hart. One for no hart stays in flight.
     #[inline(always)]
-    fn ack_arrives(
-        &mut self,
-        key: usize,
-        from: HartId,
-        to: HartId,
-        block: BlockNo,
-        content: &Option<Block>,
-    )
-        requires { in_flight self.old.flights key ≡ Some (Ack from to block content.now) }
+    fn ack_arrives(&mut self, key: usize)
+        requires { IsSomeAnd (in_flight self.old.flights key) IsAck }
         ensures { MakesStep (geometry SETS WAYS) self.old (Deliver key) None self.new }
     {
+        let Some(
+            &Message::Ack {
+                from,
+                to,
+                block,
+                content,
+            },
+        ) = self.net.peek(key)
+        else {
+            unreachable!()
+        };
         let i = to.index();
         if i >= self.seats.len() {
             return;
         }
-        let settled = self.seats[i].hart.on_ack(block, from, content);
+        let settled = self.seats[i].hart.on_ack(block, from, &content);
         answer_done(&mut self.net, key, to, settled);
     }
 
     /// A refusal arrives at a hart. One for no hart stays in flight.
     #[inline(always)]
-    fn nack_arrives(
-        &mut self,
-        key: usize,
-        from: HartId,
-        to: HartId,
-        block: BlockNo,
-        stamp: Option<Stamp>,
-    )
-        requires { in_flight self.old.flights key ≡ Some (Nack from to block stamp) }
+    fn nack_arrives(&mut self, key: usize)
+        requires { IsSomeAnd (in_flight self.old.flights key) IsNack }
         ensures { MakesStep (geometry SETS WAYS) self.old (Deliver key) None self.new }
     {
+        let Some(
+            &Message::Nack {
+                from,
+                to,
+                block,
+                stamp,
+            },
+        ) = self.net.peek(key)
+        else {
+            unreachable!()
+        };
         let i = to.index();
         if i >= self.seats.len() {
             return;
@@ -196,18 +125,22 @@ impl<const SETS: usize, const WAYS: usize> Machine<SETS, WAYS> {
 
     /// A forwarded request arrives at a hart. One for no hart stays in flight.
     #[inline(always)]
-    fn forward_arrives(
-        &mut self,
-        key: usize,
-        to: HartId,
-        block: BlockNo,
-        kind: Kind,
-        requester: HartId,
-        stamp: Option<Stamp>,
-    ) -> Option<Entry>
-        requires { in_flight self.old.flights key ≡ Some (Forward to block kind requester stamp) }
+    fn forward_arrives(&mut self, key: usize) -> Option<Entry>
+        requires { IsSomeAnd (in_flight self.old.flights key) IsForward }
         ensures { MakesStep (geometry SETS WAYS) self.old (Deliver key) result self.new }
     {
+        let Some(
+            &Message::Forward {
+                to,
+                block,
+                kind,
+                requester,
+                stamp,
+            },
+        ) = self.net.peek(key)
+        else {
+            unreachable!()
+        };
         let i = to.index();
         if i >= self.seats.len() {
             return None;
@@ -218,10 +151,13 @@ impl<const SETS: usize, const WAYS: usize> Machine<SETS, WAYS> {
 
     /// The acknowledgement of a Put arrives at a hart. One for no hart stays in flight.
     #[inline(always)]
-    fn put_ack_arrives(&mut self, key: usize, to: HartId, block: BlockNo)
-        requires { in_flight self.old.flights key ≡ Some (PutAck to block) }
+    fn put_ack_arrives(&mut self, key: usize)
+        requires { IsSomeAnd (in_flight self.old.flights key) IsPutAck }
         ensures { MakesStep (geometry SETS WAYS) self.old (Deliver key) None self.new }
     {
+        let Some(&Message::PutAck { to, block }) = self.net.peek(key) else {
+            unreachable!()
+        };
         let i = to.index();
         if i >= self.seats.len() {
             return;
@@ -232,52 +168,77 @@ impl<const SETS: usize, const WAYS: usize> Machine<SETS, WAYS> {
 
     /// A request arrives at the directory. One that has to wait stays in flight. It fails only if memory runs out.
     #[inline(always)]
-    fn get_arrives(&mut self, key: usize, request: &Request) -> Result<(), AllocError>
-        requires { in_flight self.old.flights key ≡ Some (Get request.now.requester request.now.block request.now.kind request.now.stamp) }
+    fn get_arrives(&mut self, key: usize) -> Result<(), AllocError>
+        requires { IsSomeAnd (in_flight self.old.flights key) IsGet }
         ensures steps { OnOk result (MakesStep (geometry SETS WAYS) self.old (Deliver key) None self.new) }
         ensures err { OnErr result (self.new ≡ self.old) }
     {
+        let Some(
+            &Message::Get {
+                from,
+                block,
+                kind,
+                stamp,
+            },
+        ) = self.net.peek(key)
+        else {
+            unreachable!()
+        };
+        let request = Request {
+            requester: from,
+            block,
+            kind,
+            stamp,
+        };
         self.net.reserve(HARTS)?;
-        if let Some(given) = self.directory.get(request)? {
-            let content = self.directory.memory(request.block);
+        if let Some(given) = self.directory.get(&request)? {
+            let content = self.directory.memory(block);
             let harts = self.directory.harts();
-            answer_get(&mut self.net, key, request, &given, content, harts);
+            answer_get(&mut self.net, key, &request, &given, content, harts);
         }
         Ok(())
     }
 
     /// A block that a hart gives up arrives at the directory. One that has to wait stays in flight.
     #[inline(always)]
-    fn put_arrives(
-        &mut self,
-        key: usize,
-        from: HartId,
-        block: BlockNo,
-        content: &Block,
-        marked: bool,
-    )
-        requires { in_flight self.old.flights key ≡ Some (Put from block content.now marked) }
+    fn put_arrives(&mut self, key: usize)
+        requires { IsSomeAnd (in_flight self.old.flights key) IsPut }
         ensures { MakesStep (geometry SETS WAYS) self.old (Deliver key) None self.new }
     {
-        if self.directory.put(from, block, content, marked) {
+        let Some(
+            &Message::Put {
+                from,
+                block,
+                content,
+                marked,
+            },
+        ) = self.net.peek(key)
+        else {
+            unreachable!()
+        };
+        if self.directory.put(from, block, &content, marked) {
             answer(&mut self.net, key, Message::PutAck { to: from, block });
         }
     }
 
     /// The end of a request arrives at the directory.
     #[inline(always)]
-    fn done_arrives(
-        &mut self,
-        key: usize,
-        from: HartId,
-        block: BlockNo,
-        ok: bool,
-        content: &Option<Block>,
-    )
-        requires { in_flight self.old.flights key ≡ Some (Done from block ok content.now) }
+    fn done_arrives(&mut self, key: usize)
+        requires { IsSomeAnd (in_flight self.old.flights key) IsDone }
         ensures { MakesStep (geometry SETS WAYS) self.old (Deliver key) None self.new }
     {
-        self.directory.done(from, block, ok, content);
+        let Some(
+            &Message::Done {
+                from,
+                block,
+                ok,
+                content,
+            },
+        ) = self.net.peek(key)
+        else {
+            unreachable!()
+        };
+        self.directory.done(from, block, ok, &content);
         take(&mut self.net, key);
     }
 }

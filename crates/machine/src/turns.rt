@@ -6,7 +6,7 @@ ghost use Rattle.protocol.specs.Directory.{directory_row};
 ghost use Rattle.protocol.specs.Machine.{Machine as MachineState};
 ghost use Rattle.directory.specs.Blocks.{entry_at};
 ghost use Rattle.machine.specs.States.{hart_at};
-ghost use Rattle.machine.specs.Turns.{AllHeld, IsOldestFree, NoneRuns, NoneFresh, IsFirstFresh, IsHartsTurn, IsNextTurn, IsOwed};
+ghost use Rattle.machine.specs.Turns.{AllHeld, IsOldestFree, NoneRuns, NoOtherRuns, NoneFresh, IsFirstFresh, IsHartsTurn, IsNextTurn, IsOwed};
 
 use crate::machine::Machine;
 use crate::seat::Seat;
@@ -70,6 +70,23 @@ pub(crate) fn lowest_running<const SETS: usize, const WAYS: usize>(
         }
     }
     None
+}
+
+/// Whether no other hart than this runs.
+#[inline(always)]
+pub(crate) fn no_other_runs<const SETS: usize, const WAYS: usize>(
+    seats: &[Seat<SETS, WAYS>],
+    count: usize,
+    id: HartId,
+) -> bool
+    requires count { count ≡ length seats.now }
+    requires few { count ≤ most_harts }
+    ensures { IsTrue result ↔ NoOtherRuns (hart_at SETS seats.now) (length seats.now) id }
+{
+    let i = id.index();
+    i < count
+        && lowest_running(seats, 0, i).is_none()
+        && lowest_running(seats, i + 1, count).is_none()
 }
 
 /// The turn of one of the harts, after another's.

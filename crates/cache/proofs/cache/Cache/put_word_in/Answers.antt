@@ -14,8 +14,8 @@ unfolding way_at
 found g c = subst (λ (sets : Sets). way_at g.row.SETS sets c.args.block ≡ Some c.args.way) (sym c.self.view_is) c.requires.way
 
 -- the line in its way is changed
-changed : (g : Over) (c : goal.After-self-1 g) → ChangedThere g.row.SETS g.row.WAYS c.self.inside.sets c.args.block c.args.way (put_into c.args.word c.args.value c.args.marks)
-changed g c = changes-there g.row.SETS g.row.WAYS c.self.inside.sets c.args.way c.args.block (put_into c.args.word c.args.value c.args.marks) c.self.invariant.0 c.self.told (found g c) (λ l. refl) (λ l here written. refl)
+changed : (g : Over) (c : goal.After-self-1 g) → ChangedThere g.row.SETS g.row.WAYS c.self.inside.sets c.args.block c.args.way (put_into c.args.word c.args.value c.args.reads c.args.writes)
+changed g c = changes-there g.row.SETS g.row.WAYS c.self.inside.sets c.args.way c.args.block (put_into c.args.word c.args.value c.args.reads c.args.writes) c.self.invariant.0 c.self.told (found g c) (λ l. refl) (λ l here written. refl)
 
 pub invariant_of-self : goal.invariant_of-self
 invariant_of-self g c = rw (c.put_word.ensures, c.index.ensures.value) ((changed g c).sound, c.self.invariant.1 ∙ ap (mask_of 64) (sym (changed g c).occupied))

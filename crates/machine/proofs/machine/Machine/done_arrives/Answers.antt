@@ -1,24 +1,27 @@
-use Rattle.std.proofs.Common.{None, sym, ap, refl, subst, ◌∙◌}
+use Rattle.std.proofs.Common.{None, sym, refl, subst}
 use Rattle.words.specs.declared.entry.Step.TheVariants.{Deliver}
 use Rattle.words.specs.declared.message.Message.TheVariants as coded
 use Rattle.protocol.specs.Messages.{shown as shown_message}
 use Rattle.protocol.specs.Directory.{done_of}
 use Rattle.directory.specs.Blocks.{entry_at, memory_at}
 use Rattle.flat.specs.Bytes.{put_at}
-use Rattle.machine.specs.Mail.{SendsOn, in_flight, mail_of}
+use Rattle.machine.specs.Mail.{SendsOn, mail_of}
 use Rattle.machine.specs.Making.{MakesStep}
 use Rattle.machine.specs.States.{State, geometry, IsSound}
+use Rattle.machine.proofs.Peeked.{peeked}
 use Rattle.machine.proofs.Served.{block_inside, sender_inside, serves, done_silent}
 use Rattle.machine.proofs.machine.Machine.done_arrives.Given.{Over}
 use Rattle.machine.proofs.machine.Machine.done_arrives.Goals as goal
 
 pub done-requires-clause-block : goal.done-requires-clause-block
 done-requires-clause-block g c =
-    block_inside g.row.SETS g.row.WAYS c.args.key _ (shown_message (coded.Done c.args.from c.args.block c.args.ok c.args.content.now)) c.self.invariant (ap (λ (m : State). in_flight m.flights c.args.key) c.self.view_is ∙ c.requires)
+    let a = c.in-Some-Done in
+    block_inside g.row.SETS g.row.WAYS c.args.key _ (shown_message (coded.Done a.from a.block a.ok a.content)) c.self.invariant (peeked c.self.inside.net.slots c.args.key _ _ a.ensures a.field-0-is)
 
 pub done-requires-clause-hart : goal.done-requires-clause-hart
 done-requires-clause-hart g c =
-    sender_inside g.row.SETS g.row.WAYS c.args.key _ (shown_message (coded.Done c.args.from c.args.block c.args.ok c.args.content.now)) c.self.invariant (ap (λ (m : State). in_flight m.flights c.args.key) c.self.view_is ∙ c.requires)
+    let a = c.in-Some-Done in
+    sender_inside g.row.SETS g.row.WAYS c.args.key _ (shown_message (coded.Done a.from a.block a.ok a.content)) c.self.invariant (peeked c.self.inside.net.slots c.args.key _ _ a.ensures a.field-0-is)
 
 -- the machine before and after
 abbrev before : (g : Over) (c : goal.After-take g) → State
@@ -30,11 +33,11 @@ after g c = record (before g c) { directory = c.done.new.self; flights = c.take.
 arrives : (g : Over) (c : goal.After-take g)
     → MakesStep (geometry g.row.SETS g.row.WAYS) (before g c) (Deliver c.args.key) None (after g c) × IsSound g.row.SETS g.row.WAYS (after g c)
 arrives g c =
-    let a = c.args in
+    let a = c.in-Some-Done in
     let d = (before g c).directory in
-    serves g.row.SETS g.row.WAYS a.key (before g c) (after g c) (coded.Done a.from a.block a.ok a.content.now) (done_of (entry_at d a.block).busy a.from a.ok a.content.now (entry_at d a.block) (memory_at d a.block)) c.self.invariant
-    (ap (λ (v : State). in_flight v.flights a.key) c.self.view_is ∙ c.requires) refl
-    (record { program = refl; seats = refl; stamps = refl; row = refl; block = c.done.ensures.set; used = c.done.ensures.kept; sends = subst (λ ms. SendsOn (put_at a.key None (mail_of (before g c).flights)) (before g c).sent ms (mail_of (after g c).flights) (after g c).sent) (sym (done_silent (entry_at d a.block).busy a.from a.ok a.content.now (entry_at d a.block) (memory_at d a.block))) (c.take.ensures.mail, c.take.ensures.number) })
+    serves g.row.SETS g.row.WAYS c.args.key (before g c) (after g c) (coded.Done a.from a.block a.ok a.content) (done_of (entry_at d a.block).busy a.from a.ok a.content (entry_at d a.block) (memory_at d a.block)) c.self.invariant
+    (peeked c.self.inside.net.slots c.args.key _ _ a.ensures a.field-0-is) refl
+    (record { program = refl; seats = refl; stamps = refl; row = refl; block = c.done.ensures.set; used = c.done.ensures.kept; sends = subst (λ ms. SendsOn (put_at c.args.key None (mail_of (before g c).flights)) (before g c).sent ms (mail_of (after g c).flights) (after g c).sent) (sym (done_silent (entry_at d a.block).busy a.from a.ok a.content (entry_at d a.block) (memory_at d a.block))) (c.take.ensures.mail, c.take.ensures.number) })
 
 pub invariant_of-self : goal.invariant_of-self
 invariant_of-self g c = (arrives g c).1

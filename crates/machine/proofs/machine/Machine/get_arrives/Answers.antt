@@ -11,28 +11,29 @@ use Rattle.protocol.specs.Directory.{forwards}
 use Rattle.directory.specs.declared.rules.Request.{Request}
 use Rattle.directory.specs.Blocks.{Answers, answer_to, row_of}
 use Rattle.directory.specs.Sends.{messages_in}
-use Rattle.machine.specs.Mail.{SendsOn, in_flight, mail_of}
+use Rattle.machine.specs.Mail.{SendsOn, mail_of}
 use Rattle.machine.specs.Making.{MakesStep}
 use Rattle.machine.specs.States.{State, geometry, IsSound}
+use Rattle.machine.proofs.Peeked.{peeked}
 use Rattle.machine.proofs.Served.{block_inside, sender_inside, held, follows}
 use Rattle.machine.proofs.machine.Machine.get_arrives.Given.{Over}
 use Rattle.machine.proofs.machine.Machine.get_arrives.Goals as goal
 
-abbrev told : Request → Message
-told q = coded.Get q.requester q.block q.kind q.stamp
-
 pub get-requires-clause-block : goal.get-requires-clause-block
 get-requires-clause-block g c =
-    block_inside g.row.SETS g.row.WAYS c.args.key _ (shown_message (told c.args.request.now)) c.self.invariant (ap (λ (m : State). in_flight m.flights c.args.key) c.self.view_is ∙ c.requires)
+    let a = c.in-Some-Get in
+    block_inside g.row.SETS g.row.WAYS c.args.key _ (shown_message (coded.Get a.from a.block a.kind a.stamp)) c.self.invariant (peeked c.self.inside.net.slots c.args.key _ _ a.ensures a.field-0-is)
 
 pub get-requires-clause-hart : goal.get-requires-clause-hart
 get-requires-clause-hart g c =
-    sender_inside g.row.SETS g.row.WAYS c.args.key _ (shown_message (told c.args.request.now)) c.self.invariant (ap (λ (m : State). in_flight m.flights c.args.key) c.self.view_is ∙ c.requires)
+    let a = c.in-Some-Get in
+    sender_inside g.row.SETS g.row.WAYS c.args.key _ (shown_message (coded.Get a.from a.block a.kind a.stamp)) c.self.invariant (peeked c.self.inside.net.slots c.args.key _ _ a.ensures a.field-0-is)
 
 pub memory-content-requires : goal.memory-content-requires
 memory-content-requires g c =
-    subst (λ (words : List Block). c.args.request.now.block < length words) (sym c.get.ensures.memory)
-    (block_inside g.row.SETS g.row.WAYS c.args.key _ (shown_message (told c.args.request.now)) c.self.invariant (ap (λ (m : State). in_flight m.flights c.args.key) c.self.view_is ∙ c.requires))
+    let a = c.in-Some-Get in
+    subst (λ (words : List Block). a.block < length words) (sym c.get.ensures.memory)
+    (block_inside g.row.SETS g.row.WAYS c.args.key _ (shown_message (coded.Get a.from a.block a.kind a.stamp)) c.self.invariant (peeked c.self.inside.net.slots c.args.key _ _ a.ensures a.field-0-is))
 
 -- the machine before, and after a request that is granted
 abbrev before : (g : Over) (c : goal.After-answer_get g) → State
@@ -44,12 +45,13 @@ after g c = record (before g c) { directory = c.get.new.self; flights = c.answer
 serves : (g : Over) (c : goal.After-answer_get g)
     → MakesStep (geometry g.row.SETS g.row.WAYS) (before g c) (Deliver c.args.key) None (after g c) × IsSound g.row.SETS g.row.WAYS (after g c)
 serves g c =
-    let q = c.args.request.now in
-    let m = told q in
+    let a = c.in-Some-Get in
+    let m : Message = coded.Get a.from a.block a.kind a.stamp in
+    let q : Request = record { requester = a.from; block = a.block; kind = a.kind; stamp = a.stamp } in
     let d = (before g c).directory in
     let given = c.in-Some.given in
     follows g.row.SETS g.row.WAYS c.args.key (before g c) (after g c) m (answer_to d q given) c.self.invariant
-    (ap (λ (v : State). in_flight v.flights c.args.key) c.self.view_is ∙ c.requires) refl
+    (peeked c.self.inside.net.slots c.args.key _ _ a.ensures a.field-0-is) refl
     (subst (λ r. Answers (option_map (answer_to d q) r) (row_of d (shown_message m)) q.block d (after g c).directory) c.in-Some.is c.in_ok-given.ensures.ok)
     c.get.ensures.kept refl refl refl
     (subst₂ (λ f n. SendsOn (put_at c.args.key None (mail_of f)) n (messages_in d.harts (answer_to d q given)) (mail_of (after g c).flights) (after g c).sent) c.in_ok-reserve.ensures.same c.in_ok-reserve.ensures.number
@@ -64,15 +66,16 @@ pub returns-in-Some-clause-steps : goal.returns-in-Some-clause-steps
 returns-in-Some-clause-steps g c = subst (λ m. MakesStep (geometry g.row.SETS g.row.WAYS) m (Deliver c.args.key) None (after g c)) c.self.view_is (serves g c).0
 
 -- or of one that is held
-pub returns-in_default-clause-steps : goal.returns-in_default-clause-steps
-returns-in_default-clause-steps g c =
-    let q = c.args.request.now in
-    let m = told q in
+pub returns-in_default-2-clause-steps : goal.returns-in_default-2-clause-steps
+returns-in_default-2-clause-steps g c =
+    let a = c.in-Some-Get in
+    let m : Message = coded.Get a.from a.block a.kind a.stamp in
+    let q : Request = record { requester = a.from; block = a.block; kind = a.kind; stamp = a.stamp } in
     let v : State = record { program = c.self.inside.program; seats = c.self.inside.seats.items; directory = c.self.inside.directory; flights = c.self.inside.net.slots; sent = c.self.inside.net.next; stamps = c.self.inside.stamps } in
     let w : State = record v { directory = c.get.new.self; flights = c.reserve.new.self.slots; sent = c.reserve.new.self.next } in
     let waits : Answers None (row_of v.directory (shown_message m)) q.block v.directory w.directory =
-    subst (λ r. Answers (option_map (answer_to v.directory q) r) (row_of v.directory (shown_message m)) q.block v.directory w.directory) c.in_default.is c.in_ok-given.ensures.ok in
+    subst (λ r. Answers (option_map (answer_to v.directory q) r) (row_of v.directory (shown_message m)) q.block v.directory w.directory) c.in_default-2.is c.in_ok-given.ensures.ok in
     let same : w ≡ v = λ k. record v { directory = waits.1 k; flights = c.in_ok-reserve.ensures.same k; sent = c.in_ok-reserve.ensures.number k } in
     subst (λ u. MakesStep (geometry g.row.SETS g.row.WAYS) u (Deliver c.args.key) None w) c.self.view_is
     (subst (λ u. MakesStep (geometry g.row.SETS g.row.WAYS) v (Deliver c.args.key) None u) (sym same)
-    (held g.row.SETS g.row.WAYS c.args.key v m w.directory c.self.invariant (ap (λ (u : State). in_flight u.flights c.args.key) c.self.view_is ∙ c.requires) refl waits))
+    (held g.row.SETS g.row.WAYS c.args.key v m w.directory c.self.invariant (peeked c.self.inside.net.slots c.args.key _ _ a.ensures a.field-0-is) refl waits))

@@ -7,16 +7,20 @@ use Rattle.machine.specs.Making.{MakesStep}
 use Rattle.machine.specs.Mail.{SendsOn, in_flight, mail_of}
 use Rattle.machine.specs.States.{State, Seat, geometry, IsSound}
 use Rattle.machine.proofs.Acting.{Acts}
+use Rattle.machine.proofs.Peeked.{peeked}
 use Rattle.machine.proofs.Deliveries.{arrives_nowhere, arrives_at_hart}
 use Rattle.machine.proofs.machine.Machine.put_ack_arrives.Given.{Over}
 use Rattle.machine.proofs.machine.Machine.put_ack_arrives.Goals as goal
 
 pub returns-then-i-len : goal.returns-then-i-len
 returns-then-i-len g c =
+    let a = c.in-Some-PutAck in
     let v : State = c.args.self.now in
+    let m : Told = PutAck a.to a.block in
+    let here : in_flight v.flights c.args.key ≡ Some m = ap (λ (w : State). in_flight w.flights c.args.key) (sym c.self.view_is) ∙ peeked c.self.inside.net.slots c.args.key _ _ a.ensures a.field-0-is in
     let count : length c.self.inside.seats.items ≡ length v.seats = ap (λ (m : State). length m.seats) c.self.view_is in
-    let past : length v.seats ≤ c.args.to = omega (arith, c.len.ensures, c.index-i.ensures.value, c.if-i-len.true, count) in
-    arrives_nowhere g.row.SETS g.row.WAYS c.args.key c.args.to v (PutAck c.args.to c.args.block) (subst (IsSound g.row.SETS g.row.WAYS) c.self.view_is c.self.invariant) c.requires refl past
+    let past : length v.seats ≤ a.to = omega (arith, c.len.ensures, c.index-i.ensures.value, c.if-i-len.true, count) in
+    arrives_nowhere g.row.SETS g.row.WAYS c.args.key a.to v m (subst (IsSound g.row.SETS g.row.WAYS) c.self.view_is c.self.invariant) here refl past
 
 -- the machine before and after, and the hart's seat
 abbrev before : (g : Over) (c : goal.After-take g) → State
@@ -35,6 +39,7 @@ after g c = record (before g c) { seats = slice_set (before g c).seats c.index-i
 arrives : (g : Over) (c : goal.After-take g)
     → MakesStep (geometry g.row.SETS g.row.WAYS) (before g c) (Deliver c.args.key) None (after g c) × IsSound g.row.SETS g.row.WAYS (after g c)
 arrives g c =
+    let a = c.in-Some-PutAck in
     let acts : Acts c.index-i.result (before g c) (after g c) (old_seat g c) (new_seat g c) = record {
       number = omega (arith, c.len.ensures, c.if-i-len.false);
       before = subst (λ s. s ≡ get_or (before g c).seats c.index-i.result s) (sym c.behind-self.view_is) c.index_mut.ensures.value;
@@ -43,10 +48,10 @@ arrives g c =
       directory = refl;
       stays = c.on_put_ack.ensures.stays;
     } in
-    let m : Told = PutAck c.args.to c.args.block in
-    let is : c.index-i.result ≡ c.args.to = c.index-i.ensures.value in
+    let m : Told = PutAck a.to a.block in
+    let is : c.index-i.result ≡ a.to = c.index-i.ensures.value in
     arrives_at_hart g.row.SETS g.row.WAYS c.args.key c.index-i.result (before g c) (after g c) (old_seat g c) (new_seat g c) m (λ n. None) (λ n. None) c.self.invariant acts refl refl
-    (ap (λ (v : State). in_flight v.flights c.args.key) c.self.view_is ∙ c.requires) (ap (λ n. Some n) (sym is)) (none_moves g.row.SETS c.behind-self.inside.hart.cache c.on_put_ack.new.self.cache c.on_put_ack.ensures.cache) c.on_put_ack.ensures.row
+    (peeked c.self.inside.net.slots c.args.key _ _ a.ensures a.field-0-is) (ap (λ n. Some n) (sym is)) (none_moves g.row.SETS c.behind-self.inside.hart.cache c.on_put_ack.new.self.cache c.on_put_ack.ensures.cache) c.on_put_ack.ensures.row
     (subst₂ (λ mail n. SendsOn mail n [] (mail_of (after g c).flights) (after g c).sent) c.take.ensures.mail c.take.ensures.number
     (refl, refl))
 

@@ -1,24 +1,26 @@
-use Rattle.std.proofs.Common.{◌≡◌, None, sym, ap, refl, subst, ◌∙◌}
+use Rattle.std.proofs.Common.{◌≡◌, None, sym, refl, subst}
 use Rattle.words.specs.declared.entry.Step.TheVariants.{Deliver}
 use Rattle.words.specs.declared.message.Message.{Message}
 use Rattle.words.specs.declared.message.Message.TheVariants as coded
 use Rattle.protocol.specs.Messages.{shown as shown_message}
 use Rattle.directory.specs.Blocks.{Answers, row_of}
 use Rattle.directory.specs.declared.received.Answer.TheVariants.{Acknowledged}
-use Rattle.machine.specs.Mail.{in_flight}
 use Rattle.machine.specs.Making.{MakesStep}
 use Rattle.machine.specs.States.{State, geometry, IsSound}
+use Rattle.machine.proofs.Peeked.{peeked}
 use Rattle.machine.proofs.Served.{block_inside, sender_inside, held, follows}
 use Rattle.machine.proofs.machine.Machine.put_arrives.Given.{Over}
 use Rattle.machine.proofs.machine.Machine.put_arrives.Goals as goal
 
 pub put-requires-clause-block : goal.put-requires-clause-block
 put-requires-clause-block g c =
-    block_inside g.row.SETS g.row.WAYS c.args.key _ (shown_message (coded.Put c.args.from c.args.block c.args.content.now c.args.marked)) c.self.invariant (ap (λ (m : State). in_flight m.flights c.args.key) c.self.view_is ∙ c.requires)
+    let a = c.in-Some-Put in
+    block_inside g.row.SETS g.row.WAYS c.args.key _ (shown_message (coded.Put a.from a.block a.content a.marked)) c.self.invariant (peeked c.self.inside.net.slots c.args.key _ _ a.ensures a.field-0-is)
 
 pub put-requires-clause-hart : goal.put-requires-clause-hart
 put-requires-clause-hart g c =
-    sender_inside g.row.SETS g.row.WAYS c.args.key _ (shown_message (coded.Put c.args.from c.args.block c.args.content.now c.args.marked)) c.self.invariant (ap (λ (m : State). in_flight m.flights c.args.key) c.self.view_is ∙ c.requires)
+    let a = c.in-Some-Put in
+    sender_inside g.row.SETS g.row.WAYS c.args.key _ (shown_message (coded.Put a.from a.block a.content a.marked)) c.self.invariant (peeked c.self.inside.net.slots c.args.key _ _ a.ensures a.field-0-is)
 
 -- the machine before, and after a Put that is acknowledged
 abbrev before : (g : Over) (c : goal.After-answer g) → State
@@ -30,8 +32,9 @@ after g c = record (before g c) { directory = c.put.new.self; flights = c.answer
 serves : (g : Over) (c : goal.After-answer g)
     → MakesStep (geometry g.row.SETS g.row.WAYS) (before g c) (Deliver c.args.key) None (after g c) × IsSound g.row.SETS g.row.WAYS (after g c)
 serves g c =
-    follows g.row.SETS g.row.WAYS c.args.key (before g c) (after g c) (coded.Put c.args.from c.args.block c.args.content.now c.args.marked) (Acknowledged c.args.from c.args.block) c.self.invariant
-    (ap (λ (v : State). in_flight v.flights c.args.key) c.self.view_is ∙ c.requires) refl (c.put.ensures.served c.if-put.true) c.put.ensures.kept refl refl refl c.answer.ensures.sent
+    let a = c.in-Some-Put in
+    follows g.row.SETS g.row.WAYS c.args.key (before g c) (after g c) (coded.Put a.from a.block a.content a.marked) (Acknowledged a.from a.block) c.self.invariant
+    (peeked c.self.inside.net.slots c.args.key _ _ a.ensures a.field-0-is) refl (c.put.ensures.served c.if-put.true) c.put.ensures.kept refl refl refl c.answer.ensures.sent
 
 pub invariant_of-self : goal.invariant_of-self
 invariant_of-self g c = (serves g c).1
@@ -42,11 +45,12 @@ returns-then-put g c = subst (λ m. MakesStep (geometry g.row.SETS g.row.WAYS) m
 -- or of one that is held
 pub returns-else-put : goal.returns-else-put
 returns-else-put g c =
-    let m : Message = coded.Put c.args.from c.args.block c.args.content.now c.args.marked in
+    let a = c.in-Some-Put in
+    let m : Message = coded.Put a.from a.block a.content a.marked in
     let v : State = record { program = c.self.inside.program; seats = c.self.inside.seats.items; directory = c.self.inside.directory; flights = c.self.inside.net.slots; sent = c.self.inside.net.next; stamps = c.self.inside.stamps } in
     let w : State = record v { directory = c.put.new.self } in
-    let waits : Answers None (row_of v.directory (shown_message m)) c.args.block v.directory w.directory = c.put.ensures.held c.if-put.false in
+    let waits : Answers None (row_of v.directory (shown_message m)) a.block v.directory w.directory = c.put.ensures.held c.if-put.false in
     let same : w ≡ v = λ k. record v { directory = waits.1 k } in
     subst (λ u. MakesStep (geometry g.row.SETS g.row.WAYS) u (Deliver c.args.key) None w) c.self.view_is
     (subst (λ u. MakesStep (geometry g.row.SETS g.row.WAYS) v (Deliver c.args.key) None u) (sym same)
-    (held g.row.SETS g.row.WAYS c.args.key v m w.directory c.self.invariant (ap (λ (u : State). in_flight u.flights c.args.key) c.self.view_is ∙ c.requires) refl waits))
+    (held g.row.SETS g.row.WAYS c.args.key v m w.directory c.self.invariant (peeked c.self.inside.net.slots c.args.key _ _ a.ensures a.field-0-is) refl waits))
