@@ -207,10 +207,13 @@ fn retire_most<const SETS: usize, const WAYS: usize, T: Trace<SETS, WAYS>>(
     ensures most { result ≤ most }
     ensures stops { (result ≡ most) ⊎ FollowsAlone SETS (setting_of text.now.segments.now hart.new) hart.new hart.new NeedsMachine }
 {
-    for made in 0..most {
-        if !trace.retire(hart, text) {
+    let mut made = 0;
+    while made < most {
+        let more = trace.retire(hart, text, most - made);
+        if more == 0 {
             return made;
         }
+        made += more;
     }
     most
 }

@@ -1,10 +1,10 @@
-ghost use Rattle.std.specs.Prelude.{◌≡◌, ◌<◌, ◌∷◌, [], List, length, IsTrue, IsFalse};
+ghost use Rattle.std.specs.Prelude.{◌≡◌, ◌<◌, ◌≤◌, ◌+◌, [], List, length, IsTrue, IsFalse};
 ghost use Rattle.words.specs.declared.entry.Entry.{Entry as EntryValue};
 ghost use Rattle.hart.specs.declared.reply.Local.TheVariants.{NeedsMachine};
 ghost use Rattle.hart.specs.Locals.{FollowsAlone};
 ghost use Rattle.hart.specs.Rows.{setting_of};
 ghost use Rattle.machine.specs.Lent.{RetiresAlone};
-ghost use Rattle.board.specs.Leases.{most_steps, TracesMore};
+ghost use Rattle.board.specs.Leases.{most_steps, HasRun, TracesMore};
 
 use arrayvec::ArrayVec;
 use hart::{Hart, Local};
@@ -32,11 +32,14 @@ pub trait Trace<const SETS: usize, const WAYS: usize>: Drop {
     fn clear(&mut self)
         ensures { traces self.new [] };
 
-    /// Has a hart retire a word by itself, and keeps its entry. The answer is whether there was a word that the hart retires so.
-    fn retire(&mut self, hart: &mut Hart<SETS, WAYS>, text: &Text<'_>) -> bool
-        requires { (es : List EntryValue) × traces self.old es × (length es < most_steps) }
-        ensures made { IsTrue result → (e : EntryValue) × RetiresAlone SETS text.now.segments.now hart.old e hart.new × TracesMore traces self.old (e ∷ []) self.new }
-        ensures none { IsFalse result → FollowsAlone SETS (setting_of text.now.segments.now hart.old) hart.old hart.new NeedsMachine × (self.new ≡ self.old) };
+    /// Has a hart retire words by itself, one after another, so many at most, and keeps their entries. The answer is how many: none only where the hart
+    /// needs its machine for the next.
+    fn retire(&mut self, hart: &mut Hart<SETS, WAYS>, text: &Text<'_>, most: usize) -> usize
+        requires some { 0 < most }
+        requires room { (es : List EntryValue) × traces self.old es × (length es + most ≤ most_steps) }
+        ensures ran { HasRun SETS (λ es. TracesMore traces self.old es self.new) text.now.segments.now result hart.old hart.new }
+        ensures most { result ≤ most }
+        ensures none { result ≡ 0 → FollowsAlone SETS (setting_of text.now.segments.now hart.old) hart.old hart.new NeedsMachine × (self.new ≡ self.old) };
 }
 
 /// Keeps no entry, and tells of any.
@@ -53,24 +56,36 @@ impl<const SETS: usize, const WAYS: usize> Trace<SETS, WAYS> for Untraced {
     fn clear(&mut self) {}
 
     #[inline(always)]
-    fn retire(&mut self, hart: &mut Hart<SETS, WAYS>, text: &Text<'_>) -> bool {
-        retire(hart, text)
+    fn retire(&mut self, hart: &mut Hart<SETS, WAYS>, text: &Text<'_>, most: usize) -> usize {
+        let made = skim(hart, text, most);
+        if made > 0 {
+            return made;
+        }
+        if retire_any(hart, text) { 1 } else { 0 }
     }
 }
 
-/// Has a hart retire a word by itself, quickly if the hart takes it so. The answer is whether there was one.
-#[inline(always)]
-fn retire<const SETS: usize, const WAYS: usize>(
+/// Has a hart retire plain words quickly, one after another, so many at most. The answer is how many. It may stop at any word, which costs time alone.
+#[inline(never)]
+fn skim<const SETS: usize, const WAYS: usize>(
     hart: &mut Hart<SETS, WAYS>,
     text: &Text<'_>,
-) -> bool
-    ensures made { IsTrue result → (e : EntryValue) × RetiresAlone SETS text.now.segments.now hart.old e hart.new }
-    ensures none { IsFalse result → FollowsAlone SETS (setting_of text.now.segments.now hart.old) hart.old hart.new NeedsMachine }
+    most: usize,
+) -> usize
+    ensures ran { HasRun SETS (λ _. Unit {0}) text.now.segments.now result hart.old hart.new }
+    ensures most { result ≤ most }
 {
-    match hart.advance::<LENT>(text) {
-        Some(_) => true,
-        None => retire_any(hart, text),
+    if !hart.is_active() {
+        return 0;
     }
+    let mut made = 0;
+    while made < most {
+        let Some(_entry) = hart.advance_active::<LENT>(text) else {
+            break;
+        };
+        made += 1;
+    }
+    made
 }
 
 /// Has a hart retire any word that it retires by itself. The answer is whether there was one.
@@ -152,13 +167,13 @@ impl<const SETS: usize, const WAYS: usize> Trace<SETS, WAYS> for Traced {
         self.entries.clear();
     }
 
-    fn retire(&mut self, hart: &mut Hart<SETS, WAYS>, text: &Text<'_>) -> bool {
+    fn retire(&mut self, hart: &mut Hart<SETS, WAYS>, text: &Text<'_>, _most: usize) -> usize {
         match hart.local(text) {
             Local::Retired(entry) => {
                 self.entries.push(Retired { entry });
-                true
+                1
             }
-            Local::NeedsMachine => false,
+            Local::NeedsMachine => 0,
         }
     }
 }
