@@ -33,3 +33,4 @@ pub mod Plain
 mod Enabled
 mod Ending
 mod Alone
+mod InTurn

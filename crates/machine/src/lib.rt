@@ -16,6 +16,8 @@ mod peek;
 mod play;
 mod progress;
 mod reads;
+mod ring;
+mod rows;
 mod run;
 mod seat;
 mod start;
