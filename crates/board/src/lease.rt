@@ -7,7 +7,7 @@ ghost use Rattle.board.specs.Leases.{most_steps, HasRun, TracesMore, IsNew, Fits
 
 use crate::code::Code;
 use crate::status::is_hart;
-use crate::trace::{STEPS, Trace, Traced};
+use crate::trace::{MOST_STEPS, Trace, Traced};
 use hart::Hart;
 use loader::Program;
 use machine::Machine;
@@ -17,6 +17,8 @@ use words::HartId;
 
 /// A copy of a hart, how many steps it has made by itself since it was lent, and what is kept of their entries. A hart that hasn't begun is what it was
 /// lent as, and is copied only then, so that lending copies it once.
+///
+/// Its pace says how many steps are worth while: the more, the less often the board is asked, but the later it is noticed that the hart has changed there.
 #[derive(Drop)]
 pub struct Lease<'p, const SETS: usize, const WAYS: usize, T: Trace<SETS, WAYS> = Traced> {
     code: Code<'p>,
@@ -27,6 +29,7 @@ pub struct Lease<'p, const SETS: usize, const WAYS: usize, T: Trace<SETS, WAYS> 
     after: Hart<SETS, WAYS>,
     begun: bool,
     steps: usize,
+    pace: usize,
     trace: T,
 }
 
@@ -51,7 +54,7 @@ impl<'p, const SETS: usize, const WAYS: usize, T: Trace<SETS, WAYS>> Model
     } };
 
     ghost invariant = { λ l. HasRun SETS (T.traces l.trace) l.code.program.now.segments l.steps l.before (if l.begun then l.after else l.before)
-        × (l.steps ≤ most_steps) };
+        × (l.steps ≤ T.room) × (l.steps ≤ most_steps) × (64 ≤ l.pace) × (l.pace ≤ most_steps) };
 }
 
 impl<'p, const SETS: usize, const WAYS: usize, T: Trace<SETS, WAYS>> Lease<'p, SETS, WAYS, T> {
@@ -74,6 +77,7 @@ impl<'p, const SETS: usize, const WAYS: usize, T: Trace<SETS, WAYS>> Lease<'p, S
             after: *hart,
             begun: false,
             steps: 0,
+            pace: next_pace(0, 0),
             trace: T::new(),
         }
     }
@@ -95,6 +99,7 @@ impl<'p, const SETS: usize, const WAYS: usize, T: Trace<SETS, WAYS>> Lease<'p, S
         self.id = id;
         self.before.assign(hart);
         self.begun = false;
+        self.pace = next_pace(self.pace, self.steps);
         self.steps = 0;
         self.trace.clear();
     }
@@ -106,6 +111,15 @@ impl<'p, const SETS: usize, const WAYS: usize, T: Trace<SETS, WAYS>> Lease<'p, S
         ensures traced { (es : List Entry) × T.traces self.now.trace es × (length es ≡ result) }
     {
         self.steps
+    }
+
+    /// How many steps are worth while before the lease is settled: 64 at first, twice as many behind a lease that made as many as that, up to 2,048, and 64
+    /// behind another.
+    pub fn pace(&self) -> usize
+        ensures least { 64 ≤ result }
+        ensures most { result ≤ most_steps }
+    {
+        self.pace
     }
 
     /// Whether it has made none.
@@ -158,16 +172,16 @@ impl<'p, const SETS: usize, const WAYS: usize, T: Trace<SETS, WAYS>> Lease<'p, S
             && self.code.program.same(program)
     }
 
-    /// The hart goes on by itself until it has made so many steps more, the lease has 64, or the hart needs its machine. The answer is how many it
-    /// has made.
+    /// The hart goes on by itself until it has made so many steps more, the lease has as many as its trace has room for, or the hart needs its machine.
+    /// The answer is how many it has made.
     pub fn run(&mut self, most: usize) -> usize
         ensures rest { self.new ≡ record self.old { after = self.new.after; steps = self.old.steps + result; trace = self.new.trace } }
         ensures ran { HasRun SETS (λ es. TracesMore T.traces self.old.trace es self.new.trace) self.old.program.segments result self.old.after self.new.after }
         ensures most { result ≤ most }
-        ensures stops { (result ≡ most) ⊎ ((self.new.steps ≡ most_steps)
+        ensures stops { (result ≡ most) ⊎ ((self.new.steps ≡ T.room)
             ⊎ FollowsAlone SETS (setting_of self.new.program.segments self.new.after) self.new.after self.new.after NeedsMachine) }
     {
-        let room = STEPS - self.steps;
+        let room = T::room() - self.steps;
         begin(self.begun, &self.before, &mut self.after);
         self.begun = true;
         let made = retire_most(
@@ -179,6 +193,20 @@ impl<'p, const SETS: usize, const WAYS: usize, T: Trace<SETS, WAYS>> Lease<'p, S
         self.steps += made;
         made
     }
+}
+
+/// The steps of the first lease, and behind one that ended before it had made as many as were worth while.
+const FEW: usize = 64;
+
+/// How many steps are worth while where so many were in the last lease, of which these were made.
+fn next_pace(pace: usize, made: usize) -> usize
+    ensures least { 64 ≤ result }
+    ensures most { result ≤ most_steps }
+{
+    if made == 0 || made < pace {
+        return FEW;
+    }
+    made.saturating_mul(2).min(MOST_STEPS).max(FEW)
 }
 
 /// Copies a hart as it was lent, if it hasn't begun.
@@ -202,7 +230,7 @@ fn retire_most<const SETS: usize, const WAYS: usize, T: Trace<SETS, WAYS>>(
     text: &Text<'_>,
     most: usize,
 ) -> usize
-    requires { (es : List Entry) × T.traces trace.old es × (length es + most ≤ most_steps) }
+    requires { (es : List Entry) × T.traces trace.old es × (length es + most ≤ T.room) }
     ensures ran { HasRun SETS (λ es. TracesMore T.traces trace.old es trace.new) text.now.segments.now result hart.old hart.new }
     ensures most { result ≤ most }
     ensures stops { (result ≡ most) ⊎ FollowsAlone SETS (setting_of text.now.segments.now hart.new) hart.new hart.new NeedsMachine }

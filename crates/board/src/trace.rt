@@ -1,4 +1,4 @@
-ghost use Rattle.std.specs.Prelude.{◌≡◌, ◌<◌, ◌≤◌, ◌+◌, [], List, length, IsTrue, IsFalse};
+ghost use Rattle.std.specs.Prelude.{◌≡◌, ◌<◌, ◌≤◌, ◌+◌, ℕ, [], List, length, IsTrue, IsFalse};
 ghost use Rattle.words.specs.declared.entry.Entry.{Entry as EntryValue};
 ghost use Rattle.hart.specs.declared.reply.Local.TheVariants.{NeedsMachine};
 ghost use Rattle.hart.specs.Locals.{FollowsAlone};
@@ -12,8 +12,11 @@ use std::marker::Model;
 use table::Text;
 use words::{AbortCause, Entry, HartId};
 
-/// The most steps that a lease has.
+/// The most steps that a lease has which keeps their entries.
 pub const STEPS: usize = 64;
+
+/// The most steps that any lease has.
+pub(crate) const MOST_STEPS: usize = 2048;
 
 /// The place where the quick steps of a hart that is lent are inlined. The machine's own places have other numbers: a step with two callers is inlined
 /// in neither.
@@ -23,6 +26,14 @@ const LENT: usize = 5;
 pub trait Trace<const SETS: usize, const WAYS: usize>: Drop {
     /// These are the entries, as the trace tells them.
     ghost traces: { Self → List EntryValue → Type 0 };
+
+    /// The entries of how many steps it can tell.
+    ghost room: { ℕ };
+
+    /// How many steps a lease may have.
+    fn room() -> usize
+        ensures value { result ≡ room }
+        ensures few { result ≤ most_steps };
 
     /// That of no step.
     fn new() -> Self
@@ -36,7 +47,7 @@ pub trait Trace<const SETS: usize, const WAYS: usize>: Drop {
     /// needs its machine for the next.
     fn retire(&mut self, hart: &mut Hart<SETS, WAYS>, text: &Text<'_>, most: usize) -> usize
         requires some { 0 < most }
-        requires room { (es : List EntryValue) × traces self.old es × (length es + most ≤ most_steps) }
+        requires room { (es : List EntryValue) × traces self.old es × (length es + most ≤ room) }
         ensures ran { HasRun SETS (λ es. TracesMore traces self.old es self.new) text.now.segments.now result hart.old hart.new }
         ensures most { result ≤ most }
         ensures none { result ≡ 0 → FollowsAlone SETS (setting_of text.now.segments.now hart.old) hart.old hart.new NeedsMachine × (self.new ≡ self.old) };
@@ -48,6 +59,12 @@ pub struct Untraced;
 
 impl<const SETS: usize, const WAYS: usize> Trace<SETS, WAYS> for Untraced {
     ghost traces = { λ _ es. Unit {0} };
+
+    ghost room = { most_steps };
+
+    fn room() -> usize {
+        MOST_STEPS
+    }
 
     fn new() -> Self {
         Untraced
@@ -156,6 +173,12 @@ impl Traced {
 
 impl<const SETS: usize, const WAYS: usize> Trace<SETS, WAYS> for Traced {
     ghost traces = { λ t es. t ≡ es };
+
+    ghost room = { 64 };
+
+    fn room() -> usize {
+        STEPS
+    }
 
     fn new() -> Self {
         Traced {

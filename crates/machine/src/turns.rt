@@ -113,7 +113,7 @@ fn harts_turn<const SETS: usize, const WAYS: usize>(
 
 /// The key of the oldest message that the directory doesn't hold.
 #[inline(always)]
-pub(crate) fn oldest_free(directory: &Directory, net: &Net) -> Option<usize>
+fn oldest_free(directory: &Directory, net: &Net) -> Option<usize>
     ensures some { IfSome result (λ key. (w : MachineState) → w.entries ≡ entry_at directory.now → IsOldestFree w net.now.slots key) }
     ensures none { IfNone result ((w : MachineState) → w.entries ≡ entry_at directory.now → AllHeld w net.now.slots) }
 {
@@ -126,13 +126,22 @@ pub(crate) fn oldest_free(directory: &Directory, net: &Net) -> Option<usize>
 impl<const SETS: usize, const WAYS: usize> Machine<SETS, WAYS> {
     ghost use Rattle.machine.specs.States.{shown};
 
+    /// The key of the oldest message that isn't held, whose arrival is the next turn. `None` where there is none.
+    #[inline(always)]
+    pub fn next_arrival(&self) -> Option<usize>
+        ensures some { IfSome result (IsOldestFree (shown SETS self.now) self.now.flights) }
+        ensures none { IfNone result (AllHeld (shown SETS self.now) self.now.flights) }
+    {
+        oldest_free(&self.directory, &self.net)
+    }
+
     /// The turn after a hart's: the first that there is of the arrival of the oldest message that isn't held, the step of the lowest
     /// running hart that is fresh, and that of the next running hart in the order of the numbers, and round. `None` where there is none.
     #[inline(always)]
     pub fn next_turn(&self, after: HartId) -> Option<Step>
         ensures { IsNextTurn (shown SETS self.now) self.now.flights after result }
     {
-        if let Some(key) = oldest_free(&self.directory, &self.net) {
+        if let Some(key) = self.next_arrival() {
             return Some(Step::Deliver(key));
         }
         harts_turn(&self.seats, self.directory.harts(), after)
@@ -143,7 +152,7 @@ impl<const SETS: usize, const WAYS: usize> Machine<SETS, WAYS> {
     pub fn owed(&self, id: HartId) -> Option<Step>
         ensures { IsOwed (shown SETS self.now) self.now.flights id result }
     {
-        if let Some(key) = oldest_free(&self.directory, &self.net) {
+        if let Some(key) = self.next_arrival() {
             return Some(Step::Deliver(key));
         }
         if self.fresh(id) {

@@ -1,4 +1,4 @@
-ghost use Rattle.std.specs.Prelude.{◌≡◌, ◌≤◌, ◌+◌, ◌++◌, [], length, codes, decimal};
+ghost use Rattle.std.specs.Prelude.{◌≡◌, ◌≤◌, ◌+◌, ◌++◌, length, codes, decimal};
 ghost use Rattle.words.specs.declared.entry.Entry.TheVariants.{Retire, Abort, Trap, Refuse, Spill};
 ghost use Rattle.texts.specs.Puts.{Puts};
 ghost use Rattle.texts.specs.Numerals.{hexadecimal};
@@ -16,23 +16,24 @@ use table::byte_count;
 use texts::{Line, put_all};
 use words::{AbortCause, Access, Addr, BlockNo, Cause, Entry, HartId, Reg, Sink, SinkFault};
 
-/// A line of an entry: none is longer than 240 bytes.
-type EntryLine = Line<240>;
+/// How many bytes the line of an entry has at most.
+pub const ENTRY_BYTES: usize = 240;
 
 /// Puts the line of an entry. Behind its pc the name stands, if it has one.
 pub fn put_entry<S: Sink>(names: &Symbols<'_>, entry: &Entry, sink: &mut S) -> Result<(), SinkFault>
     ensures { Puts (S.state sink.old) (S.state sink.new) (entry_line names.now entry.now) result }
 {
-    let mut line = EntryLine::new();
-    write_entry(names, entry, &mut line);
+    let mut line = Line::<ENTRY_BYTES>::new();
+    add_entry(names, entry, &mut line);
     put_all(sink, &[line.as_bytes()])
 }
 
-/// Writes the line of an entry into an empty one.
+/// Adds the line of an entry, as [`put_entry`] puts it, where there is room for [`ENTRY_BYTES`].
 #[inline(always)]
-fn write_entry(names: &Symbols<'_>, entry: &Entry, line: &mut EntryLine)
-    requires { line.old ≡ [] }
-    ensures { line.new ≡ entry_line names.now entry.now }
+pub fn add_entry<const CAP: usize>(names: &Symbols<'_>, entry: &Entry, line: &mut Line<CAP>)
+    requires { length line.old + 240 ≤ CAP }
+    ensures text { line.new ≡ line.old ++ entry_line names.now entry.now }
+    ensures longer { length line.new ≤ length line.old + 240 }
 {
     match *entry {
         Entry::Retire {
@@ -42,20 +43,20 @@ fn write_entry(names: &Symbols<'_>, entry: &Entry, line: &mut EntryLine)
             write,
             load,
             store,
-        } => write_retired(names, hart, pc, word, write, load, store, line),
-        Entry::Abort { hart, cause } => write_aborted(hart, cause, line),
-        Entry::Trap { hart, cause, pc } => write_trapped(names, hart, cause, pc, line),
+        } => add_retired(names, hart, pc, word, write, load, store, line),
+        Entry::Abort { hart, cause } => add_aborted(hart, cause, line),
+        Entry::Trap { hart, cause, pc } => add_trapped(names, hart, cause, pc, line),
         Entry::Refuse {
             hart,
             requester,
             block,
-        } => write_refused(hart, requester, block, line),
-        Entry::Spill { hart, block } => write_spilled(hart, block, line),
+        } => add_refused(hart, requester, block, line),
+        Entry::Spill { hart, block } => add_spilled(hart, block, line),
     }
 }
 
 #[inline(always)]
-fn write_retired(
+fn add_retired<const CAP: usize>(
     names: &Symbols<'_>,
     hart: HartId,
     pc: Addr,
@@ -63,24 +64,31 @@ fn write_retired(
     write: Option<(Reg, u32)>,
     load: Option<Access>,
     store: Option<Access>,
-    line: &mut EntryLine,
+    line: &mut Line<CAP>,
 )
-    requires { line.old ≡ [] }
-    ensures { line.new ≡ entry_line names.now (Retire hart pc word write load store) }
+    requires { length line.old + 240 ≤ CAP }
+    ensures text { line.new ≡ line.old ++ entry_line names.now (Retire hart pc word write load store) }
+    ensures longer { length line.new ≤ length line.old + 240 }
 {
-    write_word(names, hart, pc, word, line);
+    add_word(names, hart, pc, word, line);
     add_write(write, line);
     add_access("load", load, line);
     add_access("store", store, line);
     line.put("\n");
 }
 
-/// Writes the hart, the pc with its name, and the word with its text.
+/// Adds the hart, the pc with its name, and the word with its text.
 #[inline(always)]
-fn write_word(names: &Symbols<'_>, hart: HartId, pc: Addr, word: u32, line: &mut EntryLine)
-    requires { line.old ≡ [] }
-    ensures text { line.new ≡ decimal hart ++ codes " 0x" ++ hexadecimal pc ++ label names.now pc ++ codes " " ++ hexadecimal word ++ codes " " ++ canonical word }
-    ensures short { length line.new ≤ 142 }
+fn add_word<const CAP: usize>(
+    names: &Symbols<'_>,
+    hart: HartId,
+    pc: Addr,
+    word: u32,
+    line: &mut Line<CAP>,
+)
+    requires { length line.old + 142 ≤ CAP }
+    ensures text { line.new ≡ line.old ++ decimal hart ++ codes " 0x" ++ hexadecimal pc ++ label names.now pc ++ codes " " ++ hexadecimal word ++ codes " " ++ canonical word }
+    ensures longer { length line.new ≤ length line.old + 142 }
 {
     line.put_bytes(&hart_digit(hart));
     line.put(" 0x");
@@ -94,8 +102,8 @@ fn write_word(names: &Symbols<'_>, hart: HartId, pc: Addr, word: u32, line: &mut
 
 /// Adds the register that was written, if one was, and its value.
 #[inline(always)]
-fn add_write(write: Option<(Reg, u32)>, line: &mut EntryLine)
-    requires { length line.old ≤ 142 }
+fn add_write<const CAP: usize>(write: Option<(Reg, u32)>, line: &mut Line<CAP>)
+    requires { length line.old + 18 ≤ CAP }
     ensures text { line.new ≡ line.old ++ spec.write_part write }
     ensures longer { length line.new ≤ length line.old + 18 }
 {
@@ -109,9 +117,9 @@ fn add_write(write: Option<(Reg, u32)>, line: &mut EntryLine)
 
 /// Adds an access, if there was one.
 #[inline(always)]
-fn add_access(name: &str, access: Option<Access>, line: &mut EntryLine)
+fn add_access<const CAP: usize>(name: &str, access: Option<Access>, line: &mut Line<CAP>)
     requires short { length name.now ≤ 5 }
-    requires room { length line.old ≤ 200 }
+    requires room { length line.old + 32 ≤ CAP }
     ensures text { line.new ≡ line.old ++ spec.access_part name.now access }
     ensures longer { length line.new ≤ length line.old + 32 }
 {
@@ -141,9 +149,10 @@ pub(crate) fn cause_text(cause: Cause) -> ArrayString<40>
 }
 
 #[inline(never)]
-fn write_aborted(hart: HartId, cause: AbortCause, line: &mut EntryLine)
-    requires { line.old ≡ [] }
-    ensures { line.new ≡ entry_line no_symbols (Abort hart cause) }
+fn add_aborted<const CAP: usize>(hart: HartId, cause: AbortCause, line: &mut Line<CAP>)
+    requires { length line.old + 240 ≤ CAP }
+    ensures text { line.new ≡ line.old ++ entry_line no_symbols (Abort hart cause) }
+    ensures longer { length line.new ≤ length line.old + 240 }
 {
     line.put_bytes(&hart_digit(hart));
     line.put(" abort ");
@@ -172,9 +181,16 @@ fn named(name: &str) -> ArrayString<40>
 }
 
 #[inline(never)]
-fn write_trapped(names: &Symbols<'_>, hart: HartId, cause: Cause, pc: Addr, line: &mut EntryLine)
-    requires { line.old ≡ [] }
-    ensures { line.new ≡ entry_line names.now (Trap hart cause pc) }
+fn add_trapped<const CAP: usize>(
+    names: &Symbols<'_>,
+    hart: HartId,
+    cause: Cause,
+    pc: Addr,
+    line: &mut Line<CAP>,
+)
+    requires { length line.old + 240 ≤ CAP }
+    ensures text { line.new ≡ line.old ++ entry_line names.now (Trap hart cause pc) }
+    ensures longer { length line.new ≤ length line.old + 240 }
 {
     line.put_bytes(&hart_digit(hart));
     line.put(" ");
@@ -186,9 +202,15 @@ fn write_trapped(names: &Symbols<'_>, hart: HartId, cause: Cause, pc: Addr, line
 }
 
 #[inline(never)]
-fn write_refused(hart: HartId, requester: HartId, block: BlockNo, line: &mut EntryLine)
-    requires { line.old ≡ [] }
-    ensures { line.new ≡ entry_line no_symbols (Refuse hart requester block) }
+fn add_refused<const CAP: usize>(
+    hart: HartId,
+    requester: HartId,
+    block: BlockNo,
+    line: &mut Line<CAP>,
+)
+    requires { length line.old + 240 ≤ CAP }
+    ensures text { line.new ≡ line.old ++ entry_line no_symbols (Refuse hart requester block) }
+    ensures longer { length line.new ≤ length line.old + 240 }
 {
     line.put_bytes(&hart_digit(hart));
     line.put(" refuses ");
@@ -199,9 +221,10 @@ fn write_refused(hart: HartId, requester: HartId, block: BlockNo, line: &mut Ent
 }
 
 #[inline(never)]
-fn write_spilled(hart: HartId, block: BlockNo, line: &mut EntryLine)
-    requires { line.old ≡ [] }
-    ensures { line.new ≡ entry_line no_symbols (Spill hart block) }
+fn add_spilled<const CAP: usize>(hart: HartId, block: BlockNo, line: &mut Line<CAP>)
+    requires { length line.old + 240 ≤ CAP }
+    ensures text { line.new ≡ line.old ++ entry_line no_symbols (Spill hart block) }
+    ensures longer { length line.new ≤ length line.old + 240 }
 {
     line.put_bytes(&hart_digit(hart));
     line.put(" spills block 0x");

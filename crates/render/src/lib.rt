@@ -28,7 +28,7 @@ mod reporting;
 mod statuses;
 
 pub use blocks::{cached_text, directory_text, put_cached, put_directory, put_word};
-pub use entries::put_entry;
+pub use entries::{ENTRY_BYTES, add_entry, put_entry};
 pub use messages::{message_text, put_message};
 pub use parts::{first_byte, hart_text, stamp_text};
 pub use registers::{put_registers, status_text};

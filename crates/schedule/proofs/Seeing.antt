@@ -15,7 +15,7 @@ use Rattle.schedule.specs.declared.halt.Halt.TheVariants.{NoMemory, Untold}
 use Rattle.schedule.specs.Begun.{HasMade, HasSeen, HasBegun}
 use Rattle.schedule.specs.Courses.{Behind, Turns, Chance, course, forgotten, IsNoneNext, IsUnbegun}
 use Rattle.schedule.specs.Moments.{Moment, moment}
-use Rattle.schedule.specs.Observed.{Sight, MakesSeen, StopsAt, GoesSeen, GoesUnseen, MoreSeen, IsSeen, IsHalted, joined}
+use Rattle.schedule.specs.Observed.{Sight, MakesSeen, StopsAt, GoesSeen, GoesUnseen, MoreSeen, MoreUnseen, IsSeen, IsHalted, joined}
 use Rattle.schedule.specs.Runs.{last_after, Plays}
 use Rattle.schedule.specs.Steps.{IsStepOf}
 use Rattle.schedule.proofs.Making.{made_none, made_choice}
@@ -142,6 +142,18 @@ module _ {L : Type 0} (saw missed : Sight L) (g : Geometry) (all : List Choice) 
         FoldsTo-push saw x groups y ms z sight later,
       )
       by_sort (Chance kept_choices) before (none, same, is, kept) = still (Chance kept_choices) before none same is kept
+
+  -- more turns, of which the observer could not tell
+  pub unseen_more : (b : Behind) (k n : ℕ) (v u w : State) (after : ℕ) (x y z : L) (most : ℕ) → k + most ≤ n → HasSeenMore b k v u after x y → MoreUnseen missed g b u after most w y z
+      → IsHalted saw missed g (course all (forgotten b)) n v w x z Untold
+  unseen_more Turns k n v u w after x y z most within (groups, gone, sight) ([], last, took, some, few, fails) = absurd (omega (arith, some))
+  unseen_more Turns k n v u w after x y z most within (groups, gone, sight) (m ∷ ms, last, took, some, few, fails) =
+      let all_made = joined groups ++ m ∷ ms in
+      let count : k + length (m ∷ ms) ≡ k + length ms + 1 = omega arith in
+      let turned : HasTurned g all (k + length ms + 1) v w last all_made = subst (λ (i : ℕ). HasTurned g all i v w last all_made) count (turned_on g all k v u w after last (joined groups) (m ∷ ms) gone took) in
+      let plays : Plays g (course all Turns) (k + length ms + 1) v all_made w = gone_whole g all (k + length ms + 1) v w last all_made (k + length ms + 1) (omega arith) Turns (omega arith) turned in
+      (k + length ms, omega (arith, within, few), (groups, m ∷ ms, y, forget g all Turns (k + length ms + 1) v all_made w plays, sight, fails))
+  unseen_more (Chance kept) k n v u w after x y z most within before more = absurd more
 
 -- what holds of no moment, and of more moments where it holds of those before, holds of all that were seen
 module _ {L : Type 0} (saw : Sight L) (J : List Moment → L → Type 0) (more : (ms ns : List Moment) (y z : L) → J ms y → saw y ns z → J (ms ++ ns) z) where

@@ -1,5 +1,5 @@
 -- A run of which an observer sees each moment.
-use Rattle.std.specs.Prelude.{ℕ, ◌≡◌, ◌<◌, ◌+◌, ◌⊎◌, ◌++◌, List, [], ◌∷◌, length, Option, Some, None}
+use Rattle.std.specs.Prelude.{ℕ, ◌≡◌, ◌<◌, ◌≤◌, ◌+◌, ◌⊎◌, ◌++◌, List, [], ◌∷◌, length, Option, Some, None}
 use Rattle.std.specs.List.{flat_map, FoldsTo}
 use Rattle.words.specs.declared.entry.Entry.{Entry}
 use Rattle.words.specs.declared.entry.Step.{Step}
@@ -42,10 +42,18 @@ abbrev pub TakesSeen : {L : Type 0} → Sight L → Geometry → State → ℕ �
 TakesSeen saw g v after n w last x y =
     ((n ≡ 0) × (w ≡ v) × (last ≡ after) × (y ≡ x)) ⊎ ((ms : List Moment) × TookTurns g v after ms w last × (n ≡ length ms) × saw x ms y)
 
+-- some turns were taken, so many at most, the first after one hart's, and the observer could not tell of them
+abbrev pub TakesUnseen : {L : Type 0} → Sight L → Geometry → State → ℕ → ℕ → State → L → L → Type 0
+TakesUnseen missed g v after most w x y = (ms : List Moment) × (last : ℕ) × TookTurns g v after ms w last × (0 < length ms) × (length ms ≤ most) × missed x ms y
+
 -- the same behind a step, where it is turns that come behind a list
 abbrev pub MoreSeen : {L : Type 0} → Sight L → Geometry → Behind → State → ℕ → ℕ → State → ℕ → L → L → Type 0
 MoreSeen saw g Turns v after n w last x y = TakesSeen saw g v after n w last x y
 MoreSeen saw g (Chance kept) v after n w last x y = (n ≡ 0) × (w ≡ v) × (last ≡ after) × (y ≡ x)
+
+abbrev pub MoreUnseen : {L : Type 0} → Sight L → Geometry → Behind → State → ℕ → ℕ → State → L → L → Type 0
+MoreUnseen missed g Turns v after most w x y = TakesUnseen missed g v after most w x y
+MoreUnseen missed g (Chance kept) v after most w x y = ⊥
 
 -- n steps on a course were made, and their moments were seen, group by group
 abbrev pub IsSeen : {L : Type 0} → Sight L → Geometry → Course → ℕ → State → State → L → L → Type 0
@@ -56,7 +64,7 @@ abbrev pub IsMissed : {L : Type 0} → Sight L → Sight L → Geometry → Cour
 IsMissed {L} saw missed g course n v w x y = (groups : List (List Moment)) × (last : List Moment) × (z : L)
     × Plays g course n v (joined groups ++ last) w × FoldsTo saw x groups z × missed z last y
 
--- what was made of n steps. Memory ran out: fewer, and all were seen. The observer failed: some, and it could not tell of the last
+-- what was made of n steps. Memory ran out: fewer, and all were seen. The observer failed: some, and it could not tell of the last, or of those of the last turns that were taken at once
 abbrev pub IsHalted : {L : Type 0} → Sight L → Sight L → Geometry → Course → ℕ → State → State → L → L → Halt → Type 0
 IsHalted saw missed g course n v w x y NoMemory = (m : ℕ) × (m < n) × IsSeen saw g course m v w x y
 IsHalted saw missed g course n v w x y Untold = (m : ℕ) × (m < n) × IsMissed saw missed g course (m + 1) v w x y

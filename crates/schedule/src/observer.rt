@@ -3,7 +3,7 @@ ghost use Rattle.words.specs.declared.entry.Step.{Step as StepValue};
 ghost use Rattle.machine.specs.States.{geometry};
 ghost use Rattle.machine.specs.Turns.{IsQuiescent};
 ghost use Rattle.schedule.specs.Moments.{Moment, arrival_of};
-ghost use Rattle.schedule.specs.Observed.{MakesSeen, StopsAt, TakesSeen};
+ghost use Rattle.schedule.specs.Observed.{MakesSeen, StopsAt, TakesSeen, TakesUnseen};
 ghost use Rattle.schedule.specs.Runs.{Makes};
 
 use crate::halt::{Halt, Unseen};
@@ -65,13 +65,14 @@ pub trait Observer<const SETS: usize, const WAYS: usize, L> {
         last: Turned,
         _most: u32,
         _log: &mut L,
-    ) -> (u32, Turned)
+    ) -> Result<(u32, Turned), Unseen>
         requires { IsTrue last.quiescent → IsQuiescent SETS _machine.old }
-        ensures turns { TakesSeen (saw self.now) (geometry SETS WAYS) _machine.old last.hart result.0 _machine.new result.1.hart _log.old _log.new }
-        ensures most { result.0 ≤ _most }
-        ensures quiescent { IsTrue result.1.quiescent → IsQuiescent SETS _machine.new }
+        ensures turns { IfOk result (λ taken. TakesSeen (saw self.now) (geometry SETS WAYS) _machine.old last.hart taken.0 _machine.new taken.1.hart _log.old _log.new) }
+        ensures most { IfOk result (λ taken. taken.0 ≤ _most) }
+        ensures quiescent { IfOk result (λ taken. IsTrue taken.1.quiescent → IsQuiescent SETS _machine.new) }
+        ensures missed { OnErr result (TakesUnseen (missed self.now) (geometry SETS WAYS) _machine.old last.hart _most _machine.new _log.old _log.new) }
     {
-        (0, last)
+        Ok((0, last))
     }
 }
 

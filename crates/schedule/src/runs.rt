@@ -1,16 +1,16 @@
-ghost use Rattle.std.specs.Prelude.{ℕ, ◌≡◌, ◌≤◌, Option, Some, None, IsTrue, MatchOption, MatchResult};
+ghost use Rattle.std.specs.Prelude.{ℕ, ◌≡◌, ◌≤◌, Option, Some, None, IsTrue, IfOk, OnErr, MatchOption, MatchResult};
 ghost use Rattle.words.specs.declared.entry.Step.{Step as StepValue};
 ghost use Rattle.machine.specs.States.{geometry};
 ghost use Rattle.machine.specs.Turns.{IsQuiescent, hart_after};
 ghost use Rattle.schedule.specs.Begun.{HasBegun};
 ghost use Rattle.schedule.specs.Courses.{Behind, IsNoneNext, IsUnbegun, course, forgotten};
-ghost use Rattle.schedule.specs.Observed.{MakesSeen, StopsAt, GoesSeen, GoesUnseen, MoreSeen, IsSeen, IsHalted};
+ghost use Rattle.schedule.specs.Observed.{MakesSeen, StopsAt, GoesSeen, GoesUnseen, MoreSeen, MoreUnseen, IsSeen, IsHalted};
 ghost use Rattle.schedule.specs.Runs.{last_after};
 ghost use Rattle.schedule.specs.Steps.{IsStepOf};
 
 use crate::choices::Choice;
 use crate::chooser::Chooser;
-use crate::halt::Halt;
+use crate::halt::{Halt, Unseen};
 use crate::observer::Observer;
 use machine::{Machine, PROGRESS_INTERVAL, Progress, Turned, hart_after};
 use words::HartId;
@@ -113,9 +113,11 @@ fn make_choices<const SETS: usize, const WAYS: usize, L, O: Observer<SETS, WAYS,
 }
 
 /// Makes the choices in order, so many steps at most: each is made, enabled or not, and counts as a step. Behind the last of them come the steps that
-/// the chooser gives. An observer sees each moment before the next step. Progress is told on the way.
+/// the chooser gives. An observer sees each moment before the next step, or those of turns that are taken at once behind the last of them. Progress is
+/// told on the way.
 ///
-/// If memory runs out, the machine and the log are left where the steps before led. If the observer can't tell of a moment, its step was made.
+/// If memory runs out, the machine and the log are left where the steps before led. If the observer can't tell of a moment, its step was made, and so
+/// were the turns that were taken at once with it.
 pub fn run<
     const SETS: usize,
     const WAYS: usize,
@@ -150,7 +152,7 @@ pub fn run<
             return Ok(());
         };
         left -= 1;
-        let (taken, behind) = take_turns(machine, next, left.min(due), chooser, observer, log);
+        let (taken, behind) = take_turns(machine, next, left.min(due), chooser, observer, log)?;
         left -= taken;
         last = behind;
         due = machine.note_progress(1 + taken, due, progress);
@@ -173,15 +175,16 @@ fn take_turns<
     chooser: &C,
     observer: &O,
     log: &mut L,
-) -> (u32, Turned)
+) -> Result<(u32, Turned), Unseen>
     requires { IsTrue last.quiescent → IsQuiescent SETS machine.old }
-    ensures turns { MoreSeen (O.saw observer.now) (geometry SETS WAYS) (C.behind chooser.now) machine.old last.hart result.0 machine.new result.1.hart log.old log.new }
-    ensures most { result.0 ≤ most }
-    ensures quiescent { IsTrue result.1.quiescent → IsQuiescent SETS machine.new }
+    ensures turns { IfOk result (λ taken. MoreSeen (O.saw observer.now) (geometry SETS WAYS) (C.behind chooser.now) machine.old last.hart taken.0 machine.new taken.1.hart log.old log.new) }
+    ensures most { IfOk result (λ taken. taken.0 ≤ most) }
+    ensures quiescent { IfOk result (λ taken. IsTrue taken.1.quiescent → IsQuiescent SETS machine.new) }
+    ensures missed { OnErr result (MoreUnseen (O.missed observer.now) (geometry SETS WAYS) (C.behind chooser.now) machine.old last.hart most machine.new log.old log.new) }
 {
     if chooser.takes_turns() {
         observer.take_turns(machine, last, most, log)
     } else {
-        (0, last)
+        Ok((0, last))
     }
 }

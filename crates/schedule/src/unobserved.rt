@@ -58,7 +58,7 @@ impl<const SETS: usize, const WAYS: usize> Observer<SETS, WAYS, ()> for Unobserv
         last: Turned,
         most: u32,
         _log: &mut (),
-    ) -> (u32, Turned) {
+    ) -> Result<(u32, Turned), Unseen> {
         // Most turns under contention are messages' turns.
         if !last.quiescent {
             let taken = machine.take_arrivals(most);
@@ -66,10 +66,10 @@ impl<const SETS: usize, const WAYS: usize> Observer<SETS, WAYS, ()> for Unobserv
                 hart: last.hart,
                 quiescent: machine.is_quiescent(),
             };
-            return (taken, behind);
+            return Ok((taken, behind));
         }
         let plain = machine.plain_turns(last, most);
-        (plain.turns, plain.last)
+        Ok((plain.turns, plain.last))
     }
 }
 

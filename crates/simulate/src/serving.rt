@@ -4,7 +4,7 @@ ghost use Rattle.machine.specs.States.{geometry};
 ghost use Rattle.board.specs.Turns.{IsDone, IsServedEnd};
 ghost use Rattle.requests.specs.declared.fault.Fault.TheVariants.{NoMemory, Exchanged};
 
-use board::{Finished, Gate, Journal, Lease, STEPS, Served, Trace, Untraced, serve};
+use board::{Finished, Gate, Journal, Lease, Served, Trace, Untraced, serve};
 use loader::Program;
 use requests::Fault;
 use std::alloc::{AllocError, Global};
@@ -12,14 +12,15 @@ use std::sync::{Mutex, Wait};
 use std::thread::Threads;
 use words::HartId;
 
-/// Runs each lease as far as it goes.
+/// Runs each lease as far as is worth while.
 #[derive(Drop)]
 struct Whole;
 
 impl<'p, const SETS: usize, const WAYS: usize, T: Trace<SETS, WAYS>> Gate<Lease<'p, SETS, WAYS, T>>
     for Whole {
     fn lent(&self, _hart: HartId, _turn: u64, lease: &mut Lease<'p, SETS, WAYS, T>) -> bool {
-        lease.run(STEPS);
+        let pace = lease.pace();
+        lease.run(pace);
         true
     }
 
@@ -27,7 +28,7 @@ impl<'p, const SETS: usize, const WAYS: usize, T: Trace<SETS, WAYS>> Gate<Lease<
     fn settled(&self, _hart: HartId, _turn: u64) {}
 }
 
-/// Runs each hart of a board in a thread of its own, each until it doesn't run any more or has had so many turns: it is lent, makes up to 64 steps by
+/// Runs each hart of a board in a thread of its own, each until it doesn't run any more or has had so many turns: it is lent, makes up to 2,048 steps by
 /// itself, comes back, and is visited. The caller itself serves a hart for which no thread could be started. The board stands apart from its lock, and
 /// what comes back from it is looked at: it has to be one of this program, and no turn may be left.
 pub(crate) fn run_board<

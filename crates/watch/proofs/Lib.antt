@@ -1,5 +1,7 @@
 mod Requests
 mod Tracing
+mod RowLines
+mod Arrived
 mod Capping
 mod Few
 mod Plain

@@ -1,4 +1,5 @@
 pub mod Traces
+pub mod Rows
 pub mod Kinds
 pub mod Traffic
 pub mod Runs

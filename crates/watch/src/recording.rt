@@ -1,20 +1,65 @@
-ghost use Rattle.std.specs.Prelude.{◌≡◌, MatchResult};
+ghost use Rattle.std.specs.Prelude.{◌≡◌, OnOk, OnErr, MatchResult};
 ghost use Rattle.words.specs.Sinks.{TookAll, TookPart};
 ghost use Rattle.machine.specs.States.{geometry};
 ghost use Rattle.schedule.specs.Courses.{IsUnbegun, course, forgotten};
-ghost use Rattle.watch.specs.Traces.{trace_of, IsTraced, IsCut};
+ghost use Rattle.watch.specs.Rows.{AddsLine};
+ghost use Rattle.watch.specs.Traces.{line_if, trace_of, IsTraced, IsCut};
 
 use disassembler::Symbols;
-use machine::{Machine, Progress};
+use machine::{Listener, Machine, Progress, Turned};
 use network::Flight;
-use render::put_entry;
+use render::{ENTRY_BYTES, add_entry, put_entry};
 use schedule::{Choice, Chooser, Halt, Observer, Unseen, run};
-use words::{Entry, Sink, Step};
+use texts::{Line, put_all};
+use words::{Entry, Sink, SinkFault, Step};
+
+/// How many words are put at once, at most.
+const ROW: u32 = 8;
+
+/// How many bytes their lines have, at most.
+const ROW_BYTES: usize = 1920;
+
+/// The lines of words that harts retired in a row.
+#[derive(Drop)]
+struct Lines<'n, 'f> {
+    names: &'n Symbols<'f>,
+    text: Line<ROW_BYTES>,
+}
+
+impl Listener for Lines<'_, '_> {
+    ghost hears = { AddsLine };
+
+    /// Adds the line of an entry, if there is room for it.
+    fn hear(&mut self, entry: &Option<Entry>) {
+        if let Some(entry) = entry
+            && self.text.as_bytes().len() <= ROW_BYTES - ENTRY_BYTES
+        {
+            add_entry(self.names, entry, &mut self.text);
+        }
+    }
+}
 
 /// Puts the entries of steps into a sink, as lines with names.
 #[derive(Drop)]
 struct Recorder<'n, 'f> {
     names: &'n Symbols<'f>,
+}
+
+impl<'n, 'f> Recorder<'n, 'f> {
+    /// Puts the line of an entry, if a step gave one.
+    #[inline(always)]
+    fn put<S: Sink>(&self, entry: &Option<Entry>, sink: &mut S) -> Result<(), Unseen>
+        ensures noted { OnOk result (TookAll (S.state sink.old) (S.state sink.new) (line_if self.now.names.now entry.now)) }
+        ensures missed { OnErr result (TookPart (S.state sink.old) (S.state sink.new) (line_if self.now.names.now entry.now)) }
+    {
+        let Some(entry) = entry else {
+            return Ok(());
+        };
+        match put_entry(self.names, entry, sink) {
+            Ok(()) => Ok(()),
+            Err(_) => Err(Unseen),
+        }
+    }
 }
 
 impl<'n, 'f, const SETS: usize, const WAYS: usize, S: Sink> Observer<SETS, WAYS, S>
@@ -32,21 +77,51 @@ impl<'n, 'f, const SETS: usize, const WAYS: usize, S: Sink> Observer<SETS, WAYS,
         _machine: &Machine<SETS, WAYS>,
         sink: &mut S,
     ) -> Result<(), Unseen> {
-        let Some(entry) = entry else {
-            return Ok(());
+        self.put(entry, sink)
+    }
+
+    fn make(
+        &self,
+        machine: &mut Machine<SETS, WAYS>,
+        step: Step,
+        _declined: bool,
+        sink: &mut S,
+    ) -> Result<(), Halt> {
+        let entry = machine.step(step)?;
+        Ok(self.put(&entry, sink)?)
+    }
+
+    /// The lines of a few words are put at once.
+    fn take_turns(
+        &self,
+        machine: &mut Machine<SETS, WAYS>,
+        last: Turned,
+        most: u32,
+        sink: &mut S,
+    ) -> Result<(u32, Turned), Unseen> {
+        if !last.quiescent {
+            return Ok((0, last));
+        }
+        let mut lines = Lines {
+            names: self.names,
+            text: Line::new(),
         };
-        match put_entry(self.names, entry, sink) {
-            Ok(()) => Ok(()),
-            Err(_) => Err(Unseen),
+        let plain = machine.hear_few_turns(last, most.min(ROW), &mut lines);
+        if plain.turns == 0 {
+            return Ok((0, plain.last));
+        }
+        match put_all(sink, &[lines.text.as_bytes()]) {
+            Ok(()) => Ok((plain.turns, plain.last)),
+            Err(SinkFault) => Err(Unseen),
         }
     }
 }
 
 /// Makes the choices in order, and behind the last of them the steps that a chooser gives, as [`schedule::run`] does. The line of each step's entry, if it gives one, is put, with names,
-/// before the next step. Progress is told on the way.
+/// before the next step, or those of a few turns at once behind the last of them. Progress is told on the way.
 ///
-/// If memory runs out, the machine is left where the steps before led, and their lines were put. If a put fails, the step of its line was made,
-/// and a beginning of the lines up to it was taken.
+/// If memory runs out, the machine is left where the steps before led, and their lines were put. If a put fails, the steps of its lines were made,
+/// and a beginning of the lines up to them was taken.
 pub fn put_trace<
     const SETS: usize,
     const WAYS: usize,

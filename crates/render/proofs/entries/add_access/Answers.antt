@@ -2,7 +2,7 @@ use Rattle.std.proofs.Common.{append_assoc, append-nil}
 use Rattle.render.proofs.entries.add_access.Goals as goal
 
 pub returns-in-Some-clause-text : goal.returns-in-Some-clause-text
-returns-in-Some-clause-text c =
+returns-in-Some-clause-text g c =
     let value = c.put_word-in-Some.ensures.text in
     let addr = c.put_word.ensures.text in
     let width = c.put_digit.ensures.text in
