@@ -10,7 +10,7 @@ use Rattle.machine.specs.Lent.{hart_if, RunsAlone}
 
 -- the most steps that any lease has
 abbrev pub most_steps : ℕ
-most_steps = 2048
+most_steps = 4096
 
 -- a hart, in a cache of so many sets, has retired so many words by itself, with entries of which this is true, and is then the other
 pub record HasRun (sets : ℕ) (Traced : List Entry → Type 0) (segments : List Segment) (steps : ℕ) (old new : Parts) : Type 0 where

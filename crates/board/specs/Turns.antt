@@ -40,7 +40,7 @@ MakesOwed g i [] v w = w ≡ v
 MakesOwed g i (c ∷ cs) v w =
     (step : Step) × (e : Option Entry) × (u : State) × Owes g i v (Some step) × IsChoiceOf g.sets v step c × Makes g v (Some step) e u × MakesOwed g i cs u w
 
--- a turn leads from one machine to another. On loan the hart makes 2,048 steps at most; the visit has 64 in all, or fewer, if nothing more is owed
+-- a turn leads from one machine to another. On loan the hart makes 4,096 steps at most; the visit has 64 in all, or fewer, if nothing more is owed
 pub record IsTaken (g : Geometry) (t : Turn) (v w : State) : Type 0 where
   pub short : t.alone ≤ most_steps
   pub entries : List Entry

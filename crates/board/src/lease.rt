@@ -113,7 +113,7 @@ impl<'p, const SETS: usize, const WAYS: usize, T: Trace<SETS, WAYS>> Lease<'p, S
         self.steps
     }
 
-    /// How many steps are worth while before the lease is settled: 64 at first, twice as many behind a lease that made as many as that, up to 2,048, and 64
+    /// How many steps are worth while before the lease is settled: 64 at first, twice as many behind a lease that made as many as that, up to 4,096, and 64
     /// behind another.
     pub fn pace(&self) -> usize
         ensures least { 64 ≤ result }

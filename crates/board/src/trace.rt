@@ -16,7 +16,7 @@ use words::{AbortCause, Entry, HartId};
 pub const STEPS: usize = 64;
 
 /// The most steps that any lease has.
-pub(crate) const MOST_STEPS: usize = 2048;
+pub(crate) const MOST_STEPS: usize = 4096;
 
 /// The place where the quick steps of a hart that is lent are inlined. The machine's own places have other numbers: a step with two callers is inlined
 /// in neither.

@@ -12,7 +12,7 @@ mod Sound
 mod Steps
 mod Deliveries
 mod Peeked
-mod Arriving
+mod Taken
 mod Served
 mod Blocks
 mod Beginning

@@ -22,6 +22,7 @@ mod run;
 mod seat;
 mod start;
 mod step;
+mod taking;
 mod turns;
 mod values;
 mod watch;

@@ -9,7 +9,7 @@ pub mod Making
 pub mod Going
 mod Evicting
 pub mod Seeing
-pub mod PlainTurns
+pub mod Taken
 pub mod Lengths
 mod Batches
 mod LineWords

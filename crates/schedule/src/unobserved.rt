@@ -43,11 +43,7 @@ impl<const SETS: usize, const WAYS: usize> Observer<SETS, WAYS, ()> for Unobserv
         declined: bool,
         _log: &mut (),
     ) -> Result<(), Halt> {
-        if declined {
-            machine.take_declined(step)?;
-        } else {
-            machine.take_step(step)?;
-        }
+        machine.take_step(step, declined)?;
         Ok(())
     }
 
@@ -59,17 +55,7 @@ impl<const SETS: usize, const WAYS: usize> Observer<SETS, WAYS, ()> for Unobserv
         most: u32,
         _log: &mut (),
     ) -> Result<(u32, Turned), Unseen> {
-        // Most turns under contention are messages' turns.
-        if !last.quiescent {
-            let taken = machine.take_arrivals(most);
-            let behind = Turned {
-                hart: last.hart,
-                quiescent: machine.is_quiescent(),
-            };
-            return Ok((taken, behind));
-        }
-        let plain = machine.plain_turns(last, most);
-        Ok((plain.turns, plain.last))
+        Ok(machine.take_turns(last, most))
     }
 }
 

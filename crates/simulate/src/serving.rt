@@ -28,7 +28,7 @@ impl<'p, const SETS: usize, const WAYS: usize, T: Trace<SETS, WAYS>> Gate<Lease<
     fn settled(&self, _hart: HartId, _turn: u64) {}
 }
 
-/// Runs each hart of a board in a thread of its own, each until it doesn't run any more or has had so many turns: it is lent, makes up to 2,048 steps by
+/// Runs each hart of a board in a thread of its own, each until it doesn't run any more or has had so many turns: it is lent, makes up to 4,096 steps by
 /// itself, comes back, and is visited. The caller itself serves a hart for which no thread could be started. The board stands apart from its lock, and
 /// what comes back from it is looked at: it has to be one of this program, and no turn may be left.
 pub(crate) fn run_board<

@@ -30,7 +30,7 @@ use words::{Addr, Sink, SinkFault};
 /// history of the run into `page`, which stands for the file at a path, where there is one: a schedule that makes this run. It answers the status that the
 /// program ends with.
 ///
-/// A hart has as many turns as the run has steps: on a turn it makes up to 2,048 steps by itself, and then what it asks of the machine is done, with what
+/// A hart has as many turns as the run has steps: on a turn it makes up to 4,096 steps by itself, and then what it asks of the machine is done, with what
 /// is owed by then.
 pub(crate) fn run_in_threads<
     'a,

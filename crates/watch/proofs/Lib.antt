@@ -1,7 +1,8 @@
 mod Requests
 mod Tracing
 mod RowLines
-mod Arrived
+mod Counted
+mod PutArrivals
 mod Capping
 mod Few
 mod Plain

@@ -4,7 +4,6 @@ use Rattle.std.specs.Prelude.{count_by, is_some}
 use Rattle.std.proofs.Math.Path.{fun_ext}
 use Rattle.protocol.specs.Caches.{Geometry}
 use Rattle.machine.specs.Mail.{Mail}
-use Rattle.machine.specs.Twins.{AreTwins}
 use Rattle.machine.proofs.TwinReads.{as_many_kept}
 use Rattle.schedule.specs.Moments.{Moment}
 use Rattle.schedule.specs.Twins.{AreTwinMoments, AreTwinRuns}

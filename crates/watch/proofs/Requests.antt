@@ -1,5 +1,5 @@
 -- Requests that are counted.
-use Rattle.std.proofs.Common.{◌≡◌, ◌≤◌, ◌+◌, ◌*◌, ℕ, Bool, true, false, List, [], ◌∷◌, Option, Some, None, refl, sym, ap, ◌∙◌, add-one, arith, subst, true≢false}
+use Rattle.std.proofs.Common.{◌≡◌, ◌+◌, ℕ, Bool, true, false, List, [], ◌∷◌, Option, Some, None, refl, sym, ap, ◌∙◌, add-one, arith, subst, true≢false}
 use Rattle.std.specs.Prelude.{if◌then◌else◌, is_some, slice_get}
 use Rattle.std.specs.Option.{option_and_then, option_map, option_map_or}
 use Rattle.flat.specs.State.{idle}
@@ -14,10 +14,8 @@ use Rattle.machine.specs.Lent.{hart_if}
 use Rattle.machine.specs.States.{Seat, State, hart_at}
 use Rattle.watch.specs.declared.kinds.Kind.{Kind}
 use Rattle.watch.specs.declared.kinds.Kind.TheVariants.{Held}
-use Rattle.watch.specs.Kinds.{counts_request, held_behind, held_by, is_count, kind_asked, number_in, one_if, waits_behind}
-use Rattle.watch.specs.Traffic.{capped}
-use Rattle.watch.proofs.Capping.{capped_fits, capped_low, capped_more}
-use Rattle.watch.proofs.Tallying.{number_both}
+use Rattle.watch.specs.Kinds.{Grows, counts_request, held_behind, held_by, is_count, kind_asked, number_in, one_if, waits_behind}
+use Rattle.watch.proofs.Tallying.{grown, no_more, number_both}
 
 -- a hart's request, as the code has it
 pub request_at : (sets : ℕ) (v : State) (i : ℕ) (o : Option Parts) → o ≡ hart_if v i
@@ -49,24 +47,18 @@ some_mapped f None = refl
 some_mapped f (Some x) = refl
 
 -- one count more, and two
-pub one_more : (h : ℕ) (k : Kind) (x : ℕ × Kind) (old new : ℕ) → new ≡ capped (old + 1 * one_if (is_count h k x)) → new ≡ capped (old + number_in h k (x ∷ []))
-one_more h k x old new is = let same : old + 1 * one_if (is_count h k x) ≡ old + number_in h k (x ∷ []) = omega arith in is ∙ ap capped same
+pub one_more : (h : ℕ) (k : Kind) (x : ℕ × Kind) (old new : ℕ) → Grows old (one_if (is_count h k x)) new → Grows old (number_in h k (x ∷ [])) new
+one_more h k x old new grows = let same : one_if (is_count h k x) ≡ number_in h k (x ∷ []) = omega arith in subst (λ (n : ℕ). Grows old n new) same grows
 
-pub two_more : (h : ℕ) (k : Kind) (x y : ℕ × Kind) (old mid new : ℕ) → mid ≡ capped (old + 1 * one_if (is_count h k x))
-    → (mid ≤ 18446744073709551615 → new ≡ capped (mid + 1 * one_if (is_count h k y))) → new ≡ capped (old + number_in h k (x ∷ y ∷ []))
-two_more h k x y old mid new first second =
-    let a : ℕ = one_if (is_count h k x) in
-    let b : ℕ = one_if (is_count h k y) in
-    let fits : mid ≤ 18446744073709551615 = subst (λ (n : ℕ). n ≤ 18446744073709551615) (sym first) (capped_fits (old + 1 * a)) in
-    let same : old + 1 * a + 1 * b ≡ old + number_in h k (x ∷ y ∷ []) = omega arith in
-    second fits ∙ ap (λ (n : ℕ). capped (n + 1 * b)) first ∙ capped_more (old + 1 * a) (1 * b) ∙ ap capped same
+pub two_more : (h : ℕ) (k : Kind) (x y : ℕ × Kind) (old mid new : ℕ) → Grows old (one_if (is_count h k x)) mid → Grows mid (one_if (is_count h k y)) new → Grows old (number_in h k (x ∷ y ∷ [])) new
+two_more h k x y old mid new first second = grown old mid new (one_if (is_count h k x)) (one_if (is_count h k y)) (number_in h k (x ∷ y ∷ [])) first second (omega arith)
 
 -- ---- the requests that are held while one is served
 
 module _ (w : Machine) (i b h : ℕ) (k : Kind) (old : ℕ) where
-  pub none_held : old ≤ 18446744073709551615 → old ≡ capped (old + number_in h k (held_behind w i b 0))
+  pub none_held : Grows old (number_in h k (held_behind w i b 0)) old
   unfolding held_behind
-  none_held low = let same : old + 0 ≡ old = omega arith in sym (ap capped same ∙ capped_low old low)
+  none_held = no_more old
 
   next : (n : ℕ) (c : Bool) → waits_behind w i b n ≡ c → number_in h k (held_behind w i b (n + 1)) ≡ number_in h k (held_behind w i b n) + number_in h k (if c then (n, Held) ∷ [] else [])
   unfolding held_behind
@@ -74,19 +66,14 @@ module _ (w : Machine) (i b h : ℕ) (k : Kind) (old : ℕ) where
       rw add-one (number_both h k (held_behind w i b n) (if waits_behind w i b n then (n, Held) ∷ [] else [])
       ∙ ap (λ (x : Bool). number_in h k (held_behind w i b n) + number_in h k (if x then (n, Held) ∷ [] else [])) is)
 
-  pub one_held : (n mid new : ℕ) → waits_behind w i b n ≡ true → mid ≡ capped (old + number_in h k (held_behind w i b n))
-      → (mid ≤ 18446744073709551615 → new ≡ capped (mid + 1 * one_if (is_count h k (n, Held)))) → new ≡ capped (old + number_in h k (held_behind w i b (n + 1)))
+  pub one_held : (n mid new : ℕ) → waits_behind w i b n ≡ true → Grows old (number_in h k (held_behind w i b n)) mid → Grows mid (one_if (is_count h k (n, Held))) new
+      → Grows old (number_in h k (held_behind w i b (n + 1))) new
   one_held n mid new waits before added =
-      let so_far : ℕ = number_in h k (held_behind w i b n) in
-      let one : ℕ = one_if (is_count h k (n, Held)) in
-      let fits : mid ≤ 18446744073709551615 = subst (λ (m : ℕ). m ≤ 18446744073709551615) (sym before) (capped_fits (old + so_far)) in
-      let more : number_in h k (held_behind w i b (n + 1)) ≡ so_far + (one + 0) = next n true waits in
-      let same : old + so_far + 1 * one ≡ old + number_in h k (held_behind w i b (n + 1)) = omega (arith, more) in
-      added fits ∙ ap (λ (m : ℕ). capped (m + 1 * one)) before ∙ capped_more (old + so_far) (1 * one) ∙ ap capped same
+      let more : number_in h k (held_behind w i b (n + 1)) ≡ number_in h k (held_behind w i b n) + (one_if (is_count h k (n, Held)) + 0) = next n true waits in
+      grown old mid new (number_in h k (held_behind w i b n)) (one_if (is_count h k (n, Held))) (number_in h k (held_behind w i b (n + 1))) before added (omega (arith, more))
 
-  pub no_one_held : (n mid : ℕ) → waits_behind w i b n ≡ false → mid ≡ capped (old + number_in h k (held_behind w i b n))
-      → mid ≡ capped (old + number_in h k (held_behind w i b (n + 1)))
+  pub no_one_held : (n mid : ℕ) → waits_behind w i b n ≡ false → Grows old (number_in h k (held_behind w i b n)) mid → Grows old (number_in h k (held_behind w i b (n + 1))) mid
   no_one_held n mid waits before =
       let more : number_in h k (held_behind w i b (n + 1)) ≡ number_in h k (held_behind w i b n) + 0 = next n false waits in
-      let same : old + number_in h k (held_behind w i b n) ≡ old + number_in h k (held_behind w i b (n + 1)) = omega (arith, more) in
-      before ∙ ap capped same
+      let same : number_in h k (held_behind w i b n) ≡ number_in h k (held_behind w i b (n + 1)) = omega (arith, more) in
+      subst (λ (m : ℕ). Grows old m mid) same before

@@ -21,10 +21,10 @@ use Rattle.watch.specs.Traces.{line_of, trace_of, IsTraced, IsCut}
 trace_both : (names : Table) (ms ns : List Moment) → trace_of names ms ++ trace_of names ns ≡ trace_of names (ms ++ ns)
 trace_both names ms ns = sym (flat_map-append (line_of names) ms ns)
 
-traced_both : (names : Table) (a b c : SinkState) (ms ns : List Moment) → TookAll a b (trace_of names ms) → TookAll b c (trace_of names ns) → TookAll a c (trace_of names (ms ++ ns))
+pub traced_both : (names : Table) (a b c : SinkState) (ms ns : List Moment) → TookAll a b (trace_of names ms) → TookAll b c (trace_of names ns) → TookAll a c (trace_of names (ms ++ ns))
 traced_both names a b c ms ns first later = subst (λ (text : List ℕ). TookAll a c text) (trace_both names ms ns) (took-both a b c (trace_of names ms) (trace_of names ns) first later)
 
-traced_part : (names : Table) (a b c : SinkState) (ms ns : List Moment) → TookAll a b (trace_of names ms) → TookPart b c (trace_of names ns) → TookPart a c (trace_of names (ms ++ ns))
+pub traced_part : (names : Table) (a b c : SinkState) (ms ns : List Moment) → TookAll a b (trace_of names ms) → TookPart b c (trace_of names ns) → TookPart a c (trace_of names (ms ++ ns))
 traced_part names a b c ms ns first later = subst (λ (text : List ℕ). TookPart a c text) (trace_both names ms ns) (took-then-part a b c (trace_of names ms) (trace_of names ns) first later)
 
 -- the line of one moment

@@ -1,5 +1,5 @@
 -- What entries count as, and requests.
-use Rattle.std.specs.Prelude.{ℕ, zero, suc, not, ◌+◌, ◌*◌, ◌==◌, ◌&&◌, ◌++◌, Bool, true, false, List, [], ◌∷◌, Option, Some, None, get_or, if◌then◌else◌, is_some, nat_lt}
+use Rattle.std.specs.Prelude.{ℕ, zero, suc, not, ◌≡◌, ◌<◌, ◌+◌, ◌*◌, ◌%◌, ◌==◌, ◌&&◌, ◌++◌, Bool, true, false, List, [], ◌∷◌, Option, Some, None, get_or, if◌then◌else◌, is_some, nat_lt}
 use Rattle.std.specs.Option.{option_and_then, option_map_or}
 use Rattle.words.specs.declared.cause.AbortCause.{AbortCause}
 use Rattle.words.specs.declared.cause.AbortCause.TheVariants as abort
@@ -189,3 +189,7 @@ place_of h k = 16 * h + index_of k
 -- a count, of those that stand by their places
 abbrev pub count_at : List ℕ → ℕ → Kind → ℕ
 count_at counts h k = get_or counts (place_of h k) 0
+
+-- a count grew by so many; behind the greatest u64 it goes on from 0
+abbrev pub Grows : ℕ → ℕ → ℕ → Type 0
+Grows before more after = before < 18446744073709551616 → after ≡ (before + more) % 18446744073709551616

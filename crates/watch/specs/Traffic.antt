@@ -69,6 +69,10 @@ most level (m ∷ ms) = max (level m) (most level ms)
 abbrev pub capped : ℕ → ℕ
 capped n = min n 18446744073709551615
 
+-- a sum rose by so many, up to the greatest u64
+abbrev pub Rises : ℕ → ℕ → ℕ → Type 0
+Rises before more after = before ≤ 18446744073709551615 → after ≡ capped (before + more)
+
 -- what is told of some moments
 abbrev pub figure_of : List Moment → Figure → ℕ
 figure_of ms (figure.Sum s) = capped (total s ms)
@@ -86,4 +90,4 @@ figure_at t figure.MostInUse = t.most_in_use
 
 -- the messages in flight that were sent when so many had been before are counted, each as what it counts as
 abbrev pub AddsSent : ℕ → List (Option Flight) → Traffic → Traffic → Type 0
-AddsSent before flights old new = (s : Sum) → sum_at old s ≤ 18446744073709551615 → sum_at new s ≡ capped (sum_at old s + count_by (was_sent before s) flights)
+AddsSent before flights old new = (s : Sum) → Rises (sum_at old s) (count_by (was_sent before s) flights) (sum_at new s)

@@ -4,8 +4,7 @@ ghost use Rattle.words.specs.Limits.{most_harts};
 ghost use Rattle.machine.specs.States.{shown};
 ghost use Rattle.protocol.specs.Messages.{shown as shown_message};
 ghost use Rattle.schedule.specs.Moments.{arrival_of};
-ghost use Rattle.watch.specs.Kinds.{asked_by, asks_if, count_at, counts_asked, counts_request, goes_to, held_behind, number_in, waits_behind};
-ghost use Rattle.watch.specs.Traffic.{capped};
+ghost use Rattle.watch.specs.Kinds.{Grows, asked_by, asks_if, count_at, counts_asked, counts_request, goes_to, held_behind, number_in, waits_behind};
 ghost use Rattle.watch.specs.declared.kinds.Kind.{Kind as KindValue};
 
 use crate::cells::Counts;
@@ -90,8 +89,7 @@ impl Counts {
         step: &Step,
         machine: &Machine<SETS, WAYS>,
     )
-        ensures { (h : ℕ) (k : KindValue) → count_at self.old h k ≤ 18446744073709551615 →
-            count_at self.new h k ≡ capped (count_at self.old h k + number_in h k (counts_asked (shown SETS machine.now) sent machine.now.sent ask step.now)) }
+        ensures { (h : ℕ) (k : KindValue) → Grows (count_at self.old h k) (number_in h k (counts_asked (shown SETS machine.now) sent machine.now.sent ask step.now)) (count_at self.new h k) }
     {
         if sent >= machine.sent() {
             return;
@@ -110,8 +108,7 @@ impl Counts {
         id: HartId,
         machine: &Machine<SETS, WAYS>,
     )
-        ensures { (h : ℕ) (k : KindValue) → count_at self.old h k ≤ 18446744073709551615 →
-            count_at self.new h k ≡ capped (count_at self.old h k + number_in h k (counts_request (shown SETS machine.now) id ((shown SETS machine.now).harts id).request)) }
+        ensures { (h : ℕ) (k : KindValue) → Grows (count_at self.old h k) (number_in h k (counts_request (shown SETS machine.now) id ((shown SETS machine.now).harts id).request)) (count_at self.new h k) }
     {
         machine.keeps();
         let Some(hart) = machine.hart(id) else {
@@ -121,9 +118,9 @@ impl Counts {
             return;
         };
         let has_line = machine.line(id, request.block).is_some();
-        self.add(id, Kind::of_request(request.kind, has_line), 1);
+        self.add(id, Kind::of_request(request.kind, has_line));
         if machine.entry(request.block).busy.is_some() {
-            self.add(id, Kind::Held, 1);
+            self.add(id, Kind::Held);
         }
     }
 
@@ -135,13 +132,12 @@ impl Counts {
         block: BlockNo,
         machine: &Machine<SETS, WAYS>,
     )
-        ensures { (h : ℕ) (k : KindValue) → count_at self.old h k ≤ 18446744073709551615 →
-            count_at self.new h k ≡ capped (count_at self.old h k + number_in h k (held_behind (shown SETS machine.now) served block most_harts)) }
+        ensures { (h : ℕ) (k : KindValue) → Grows (count_at self.old h k) (number_in h k (held_behind (shown SETS machine.now) served block most_harts)) (count_at self.new h k) }
     {
         for i in 0..HARTS {
             let id = HartId::new(i as u8);
             if waits_behind(machine, served, block, id) {
-                self.add(id, Kind::Held, 1);
+                self.add(id, Kind::Held);
             }
         }
     }

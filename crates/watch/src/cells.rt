@@ -1,6 +1,5 @@
 ghost use Rattle.std.specs.Prelude.{◌≡◌, ◌<◌, ◌≤◌, ◌+◌, ◌*◌, ℕ, get_or};
-ghost use Rattle.watch.specs.Kinds.{place_of, count_at, is_count, one_if};
-ghost use Rattle.watch.specs.Traffic.{capped};
+ghost use Rattle.watch.specs.Kinds.{Grows, place_of, count_at, is_count, one_if};
 ghost use Rattle.watch.specs.declared.kinds.Kind.{Kind};
 
 use crate::kinds::Kind;
@@ -54,12 +53,12 @@ impl Counts {
         self.counts[place(hart, kind)]
     }
 
-    /// Counts so many more of a kind, up to the greatest u64.
-    pub(crate) fn add(&mut self, hart: HartId, kind: Kind, number: u64)
-        ensures { (h : ℕ) (k : Kind) → count_at self.old h k ≤ 18446744073709551615 →
-            count_at self.new h k ≡ capped (count_at self.old h k + number * one_if (is_count h k (hart, kind))) }
+    /// Counts one more of a kind. Behind the greatest u64 a count goes on from 0; no run is so long.
+    #[inline(always)]
+    pub(crate) fn add(&mut self, hart: HartId, kind: Kind)
+        ensures { (h : ℕ) (k : Kind) → Grows (count_at self.old h k) (one_if (is_count h k (hart, kind))) (count_at self.new h k) }
     {
         let place = place(hart, kind);
-        self.counts[place] = self.counts[place].saturating_add(number);
+        self.counts[place] = self.counts[place].wrapping_add(1);
     }
 }

@@ -1,8 +1,8 @@
-ghost use Rattle.std.specs.Prelude.{◌≡◌, OnOk, OnErr, MatchResult};
+ghost use Rattle.std.specs.Prelude.{◌≡◌, ◌≤◌, IfOk, OnOk, OnErr, MatchResult};
 ghost use Rattle.words.specs.Sinks.{TookAll, TookPart};
 ghost use Rattle.machine.specs.States.{geometry};
 ghost use Rattle.schedule.specs.Courses.{IsUnbegun, course, forgotten};
-ghost use Rattle.watch.specs.Rows.{AddsLine};
+ghost use Rattle.watch.specs.Rows.{AddsLine, ArePut, AreNotPut};
 ghost use Rattle.watch.specs.Traces.{line_if, trace_of, IsTraced, IsCut};
 
 use disassembler::Symbols;
@@ -60,6 +60,32 @@ impl<'n, 'f> Recorder<'n, 'f> {
             Err(_) => Err(Unseen),
         }
     }
+
+    /// Takes turns, so many at most, in which one message after another arrives, each the oldest that isn't held, and puts the lines of their entries. It
+    /// may stop at any turn, which costs time alone.
+    fn put_arrivals<const SETS: usize, const WAYS: usize, S: Sink>(
+        &self,
+        machine: &mut Machine<SETS, WAYS>,
+        most: u32,
+        sink: &mut S,
+    ) -> Result<u32, Unseen>
+        ensures turns { IfOk result (λ taken. ArePut (geometry SETS WAYS) self.now.names.now machine.old machine.new taken (S.state sink.old) (S.state sink.new)) }
+        ensures most { IfOk result (λ taken. taken ≤ most) }
+        ensures missed { OnErr result (AreNotPut (geometry SETS WAYS) self.now.names.now machine.old machine.new most (S.state sink.old) (S.state sink.new)) }
+    {
+        let mut taken = 0;
+        while taken < most {
+            let Some(key) = machine.next_arrival() else {
+                break;
+            };
+            let Ok(entry) = machine.step(Step::Deliver(key)) else {
+                break;
+            };
+            self.put(&entry, sink)?;
+            taken += 1;
+        }
+        Ok(taken)
+    }
 }
 
 impl<'n, 'f, const SETS: usize, const WAYS: usize, S: Sink> Observer<SETS, WAYS, S>
@@ -99,8 +125,14 @@ impl<'n, 'f, const SETS: usize, const WAYS: usize, S: Sink> Observer<SETS, WAYS,
         most: u32,
         sink: &mut S,
     ) -> Result<(u32, Turned), Unseen> {
+        // Most turns under contention are messages' turns.
         if !last.quiescent {
-            return Ok((0, last));
+            let taken = self.put_arrivals(machine, most, sink)?;
+            let behind = Turned {
+                hart: last.hart,
+                quiescent: machine.is_quiescent(),
+            };
+            return Ok((taken, behind));
         }
         let mut lines = Lines {
             names: self.names,

@@ -1,6 +1,6 @@
 ghost use Rattle.std.specs.Prelude.{◌≡◌, ◌≤◌, ◌<◌, ◌+◌, ◌*◌, ℕ, length, get_or, max, count_by, is_some};
 ghost use Rattle.watch.specs.Kinds.{one_if};
-ghost use Rattle.watch.specs.Traffic.{AddsSent, capped, figure_at, is_same, sum_at, sum_of_step, was_sent};
+ghost use Rattle.watch.specs.Traffic.{AddsSent, Rises, capped, figure_at, is_same, sum_at, sum_of_step, was_sent};
 ghost use Rattle.watch.specs.declared.figures.Figure.{Figure as FigureValue};
 ghost use Rattle.watch.specs.declared.figures.Sum.{Sum as SumValue};
 ghost use Rattle.watch.specs.declared.figures.Sum.TheVariants.{Cores};
@@ -132,7 +132,7 @@ impl Traffic {
         step: &Step,
         machine: &Machine<SETS, WAYS>,
     )
-        ensures sums { (s : SumValue) → sum_at self.old s ≤ 18446744073709551615 → sum_at self.new s ≡ capped (sum_at self.old s + (one_if (is_same s (sum_of_step step.now)) + count_by (was_sent sent s) machine.now.flights)) }
+        ensures sums { (s : SumValue) → Rises (sum_at self.old s) (one_if (is_same s (sum_of_step step.now)) + count_by (was_sent sent s) machine.now.flights) (sum_at self.new s) }
         ensures most_in_flight { self.new.most_in_flight ≡ max self.old.most_in_flight (count_by is_some machine.now.flights) }
         ensures most_in_use { self.new.most_in_use ≡ max self.old.most_in_use (length machine.now.directory.kept) }
     {

@@ -18,7 +18,7 @@ impl<const SETS: usize, const WAYS: usize> Journal<SETS, WAYS> for History {
         chosen: &Chosen,
     ) -> Result<(), AllocError> {
         self.make_room()?;
-        machine.take_step(chosen.step)?;
+        machine.take_step(chosen.step, false)?;
         self.note(chosen.choice, 1);
         Ok(())
     }

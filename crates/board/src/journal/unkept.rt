@@ -20,7 +20,7 @@ impl<const SETS: usize, const WAYS: usize> Journal<SETS, WAYS> for Unkept {
         machine: &mut Machine<SETS, WAYS>,
         chosen: &Chosen,
     ) -> Result<(), AllocError> {
-        machine.take_step(chosen.step)
+        machine.take_step(chosen.step, false)
     }
 
     fn note_lent(

@@ -1,16 +1,16 @@
-use Rattle.std.proofs.Common.{arith}
+use Rattle.std.proofs.Common.{arith, ℕ}
 use Rattle.machine.specs.States.{geometry}
-use Rattle.watch.proofs.Arrived.{none_arrived, one_arrived}
+use Rattle.watch.proofs.Counted.{none_counted, arrived_counted}
 use Rattle.watch.proofs.counting.take_arrivals.Goals as goal
 
 pub loop-taken-init : goal.loop-taken-init
-loop-taken-init g c = (omega arith, none_arrived (geometry g.row.SETS g.row.WAYS) c.args.machine.now c.args.tally.now)
+loop-taken-init g c = (omega arith, λ (after : ℕ). none_counted (geometry g.row.SETS g.row.WAYS) c.args.machine.now after c.args.tally.now)
 
 -- one more
 pub loop-taken-preserved : goal.loop-taken-preserved
 loop-taken-preserved g c =
     let so_far = c.loop-taken.invariant in (
       omega (arith, c.loop-taken-test.true),
-      one_arrived (geometry g.row.SETS g.row.WAYS) c.args.machine.now c.loop-taken.machine c.make.new.machine c.loop-taken.taken c.in-Some.key c.args.tally.now c.loop-taken.tally c.make.new.tally so_far.1
+      arrived_counted (geometry g.row.SETS g.row.WAYS) c.args.machine.now c.loop-taken.machine c.make.new.machine c.loop-taken.taken c.in-Some.key c.args.tally.now c.loop-taken.tally c.make.new.tally so_far.1
           c.in-Some.ensures.some c.in-Ok.ensures.made,
     )

@@ -1,14 +1,13 @@
-use Rattle.std.proofs.Common.{◌≡◌, ◌≤◌, ◌+◌, ◌*◌, ◌∙◌, ℕ, ap, subst, sym}
+use Rattle.std.proofs.Common.{◌≡◌, ◌+◌, ◌∙◌, ℕ, ap, subst, sym}
 use Rattle.machine.specs.States.{shown}
 use Rattle.watch.specs.declared.kinds.Kind.TheVariants.{Held}
-use Rattle.watch.specs.Kinds.{count_at, held_behind, is_count, number_in, one_if, waits_behind}
-use Rattle.watch.specs.Traffic.{capped}
+use Rattle.watch.specs.Kinds.{Grows, count_at, held_behind, is_count, number_in, one_if, waits_behind}
 use Rattle.watch.proofs.Requests.{no_one_held, none_held, one_held}
 use Rattle.watch.proofs.cells.Counts.note_held.Goals.{then-waits_behind, else-waits_behind}
 use Rattle.watch.proofs.cells.Counts.note_held.Goals as goal
 
 pub loop-i-init : goal.loop-i-init
-loop-i-init g c = λ h k low. none_held (shown g.row.SETS c.args.machine.now) c.args.served c.args.block h k (count_at c.args.self.now h k) low
+loop-i-init g c = λ h k. none_held (shown g.row.SETS c.args.machine.now) c.args.served c.args.block h k (count_at c.args.self.now h k)
 
 pub loop-i-preserved : goal.loop-i-preserved
 loop-i-preserved g c =
@@ -18,13 +17,13 @@ loop-i-preserved g c =
     let n = c.loop-i.i in
     let same : c.new-id.result ≡ n = c.new-id.ensures in
     elim c.if-waits_behind.branch [
-      | then-waits_behind v ↦ λ h k low.
+      | then-waits_behind v ↦ λ h k.
           let waits = sym (ap (waits_behind w i b) same) ∙ sym c.waits_behind.ensures ∙ v.if-waits_behind.true in
-          let added = subst (λ (x : ℕ). count_at c.loop-i.self h k ≤ 18446744073709551615 → count_at v.add.new.self h k ≡ capped (count_at c.loop-i.self h k + 1 * one_if (is_count h k (x, Held)))) same (v.add.ensures h k) in
-          subst (λ counts. count_at counts h k ≡ capped (count_at c.args.self.now h k + number_in h k (held_behind w i b (n + 1)))) (sym v.self-is)
-          (one_held w i b h k (count_at c.args.self.now h k) n (count_at c.loop-i.self h k) (count_at v.add.new.self h k) waits (c.loop-i.invariant h k low) added)
-      | else-waits_behind v ↦ λ h k low.
+          let added = subst (λ (x : ℕ). Grows (count_at c.loop-i.self h k) (one_if (is_count h k (x, Held))) (count_at v.add.new.self h k)) same (v.add.ensures h k) in
+          subst (λ counts. Grows (count_at c.args.self.now h k) (number_in h k (held_behind w i b (n + 1))) (count_at counts h k)) (sym v.self-is)
+          (one_held w i b h k (count_at c.args.self.now h k) n (count_at c.loop-i.self h k) (count_at v.add.new.self h k) waits (c.loop-i.invariant h k) added)
+      | else-waits_behind v ↦ λ h k.
           let waits = sym (ap (waits_behind w i b) same) ∙ sym c.waits_behind.ensures ∙ v.if-waits_behind.false in
-          subst (λ counts. count_at counts h k ≡ capped (count_at c.args.self.now h k + number_in h k (held_behind w i b (n + 1)))) (sym v.self-is)
-          (no_one_held w i b h k (count_at c.args.self.now h k) n (count_at c.loop-i.self h k) waits (c.loop-i.invariant h k low))
+          subst (λ counts. Grows (count_at c.args.self.now h k) (number_in h k (held_behind w i b (n + 1))) (count_at counts h k)) (sym v.self-is)
+          (no_one_held w i b h k (count_at c.args.self.now h k) n (count_at c.loop-i.self h k) waits (c.loop-i.invariant h k))
     ]

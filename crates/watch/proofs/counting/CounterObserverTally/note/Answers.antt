@@ -4,8 +4,7 @@ use Rattle.schedule.specs.Moments.{Moment}
 use Rattle.machine.specs.States.{shown}
 use Rattle.watch.specs.declared.counting.Tally.{Tally}
 use Rattle.watch.specs.declared.kinds.Kind.{Kind}
-use Rattle.watch.specs.Kinds.{asks_if, count_at, counts_asked, fresh_behind, fresh_by, number_in}
-use Rattle.watch.specs.Runs.{Grows}
+use Rattle.watch.specs.Kinds.{Grows, asks_if, count_at, counts_asked, fresh_behind, fresh_by, number_in}
 use Rattle.watch.proofs.Tallying.{adds_one, one_counted}
 use Rattle.watch.proofs.counting.CounterObserverTally.note.Goals as goal
 
