@@ -1,5 +1,5 @@
 -- What entries count as, and requests.
-use Rattle.std.specs.Prelude.{ℕ, zero, suc, not, ◌≡◌, ◌<◌, ◌+◌, ◌*◌, ◌%◌, ◌==◌, ◌&&◌, ◌++◌, Bool, true, false, List, [], ◌∷◌, Option, Some, None, get_or, if◌then◌else◌, is_some, nat_lt}
+use Rattle.std.specs.Prelude.{ℕ, zero, suc, not, ◌≡◌, ◌<◌, ◌+◌, ◌*◌, ◌/◌, ◌%◌, ◌==◌, ◌&&◌, ◌++◌, Bool, true, false, List, [], ◌∷◌, Option, Some, None, get_or, if◌then◌else◌, is_some, nat_lt}
 use Rattle.std.specs.Option.{option_and_then, option_map_or}
 use Rattle.words.specs.declared.cause.AbortCause.{AbortCause}
 use Rattle.words.specs.declared.cause.AbortCause.TheVariants as abort
@@ -182,9 +182,9 @@ none_fresh i = false
 abbrev pub number_of : ℕ → ℕ → Kind → List Moment → ℕ
 number_of sets h k ms = number_from sets h k none_fresh ms
 
--- the place of a count, sixteen a hart
+-- the place of a count: those of a kind stand side by side, one for each of eight harts
 abbrev pub place_of : ℕ → Kind → ℕ
-place_of h k = 16 * h + index_of k
+place_of h k = 8 * index_of k + h % 8 + 128 * (h / 8)
 
 -- a count, of those that stand by their places
 abbrev pub count_at : List ℕ → ℕ → Kind → ℕ

@@ -29,7 +29,7 @@ fn place(hart: HartId, kind: Kind) -> usize
     ensures value { result ≡ place_of hart kind }
     ensures bound { result < 128 }
 {
-    KINDS * hart.index() + kind.index()
+    HARTS * kind.index() + hart.index()
 }
 
 fn zeros() -> [u64; HARTS * KINDS]
