@@ -58,7 +58,7 @@ untouched old new same = subst (KeepsLog old) (sym same) (record {
 })
 
 -- a record is appended, in a transaction that runs
-appended_bytes : (old new : Transaction) (r : Record) → 0 < old.depth → new ≡ record old { log = appended old.log r } → records new.log ≡ records old.log ++ r ∷ [] → KeepsLog old new
+pub appended_bytes : (old new : Transaction) (r : Record) → 0 < old.depth → new ≡ record old { log = appended old.log r } → records new.log ≡ records old.log ++ r ∷ [] → KeepsLog old new
 appended_bytes old new r some put more =
     let rs : List LogRecord = log_of (shown_tx old) in
     let was : rs ≡ shown_log old.log = ap log_of (runs old some) in

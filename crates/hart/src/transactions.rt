@@ -151,8 +151,9 @@ pub(crate) fn pop_record(tx: &mut Tx)
     tx.pop_record();
 }
 
-/// Appends a block to the log, as it is before a store. The answer is whether there was room.
-#[inline(never)]
+/// Appends a block to the log, as it is before a store. The answer is whether there was room. That is asked before the call: behind one that may have
+/// written, what a hart declines would be looked at anew.
+#[inline(always)]
 pub(crate) fn append_record(tx: &mut Tx, block: BlockNo, before: &Block) -> bool
     requires kept { IsKept tx.old }
     requires address { block_bytes * block < 2 ^ 32 }
@@ -165,5 +166,29 @@ pub(crate) fn append_record(tx: &mut Tx, block: BlockNo, before: &Block) -> bool
     ensures stamp { kept_stamp tx.new ≡ kept_stamp tx.old }
     ensures keeps { KeepsLog tx.old tx.new }
 {
-    tx.append_record(block, before).is_ok()
+    if tx.log().is_full() {
+        return false;
+    }
+    push_record(tx, block, before);
+    true
+}
+
+/// Appends a block to the log, in which there is room.
+#[tactic(auto, using(crate::proofs::Bytes::kept_bytes))]
+#[inline(never)]
+fn push_record(tx: &mut Tx, block: BlockNo, before: &Block)
+    requires kept { IsKept tx.old }
+    requires address { block_bytes * block < 2 ^ 32 }
+    requires running { 0 < tx.old.depth }
+    requires room { tx.old.log.count < log_records }
+    ensures kept { IsKept tx.new }
+    ensures shown { (t : Transaction) → shown_tx tx.old ≡ Some t →
+        shown_tx tx.new ≡ Some (record t { log = record { block = block; before = before.now } ∷ t.log }) }
+    ensures stamp { kept_stamp tx.new ≡ kept_stamp tx.old }
+    ensures keeps { KeepsLog tx.old tx.new }
+{
+    match tx.append_record(block, before) {
+        Ok(()) => {}
+        Err(_) => unreachable!(),
+    }
 }

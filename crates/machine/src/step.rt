@@ -1,4 +1,5 @@
-ghost use Rattle.std.specs.Prelude.{◌≡◌, ◌<◌, ℕ, IfOk, IfSome, IfNone, OnErr, Some, None, option_to_list};
+ghost use Rattle.std.specs.Prelude.{◌≡◌, ◌<◌, ℕ, length, IfOk, IfSome, IfNone, IsSome, OnErr, Some, None, option_to_list};
+ghost use Rattle.words.specs.declared.cause.Status.TheVariants.{Running};
 ghost use Rattle.std.specs.Option.{option_map};
 ghost use Rattle.words.specs.declared.entry.Step.TheVariants.{Core, Evict, Deliver};
 ghost use Rattle.protocol.specs.Machine.{Steps, stamps_after};
@@ -7,6 +8,7 @@ ghost use Rattle.machine.specs.Rows.{asking};
 ghost use Rattle.isolation.specs.Reasons.{LeadOn};
 ghost use Rattle.machine.specs.Mail.{SendsOn, mail_of};
 ghost use Rattle.machine.specs.Making.{MakesStep};
+ghost use Rattle.machine.specs.States.{hart_at};
 
 use crate::listener::{Caller, Listener};
 use crate::machine::Machine;
@@ -85,10 +87,25 @@ impl<const SETS: usize, const WAYS: usize> Machine<SETS, WAYS> {
         ensures none { IfOk result (λ made. IfNone made (self.new ≡ self.old)) }
         ensures err { OnErr result (self.new ≡ self.old) }
     {
-        let i = id.index();
-        if i >= self.seats.len() {
+        if id.index() >= self.seats.len() {
             return Ok(None);
         }
+        self.common_seated::<L, PLACE>(id)
+    }
+
+    /// One of the common steps of one of the harts.
+    #[inline(always)]
+    pub(crate) fn common_seated<L: Listener, const PLACE: usize>(
+        &mut self,
+        id: HartId,
+    ) -> Result<Option<Option<Entry>>, AllocError>
+        requires { id < length self.old.seats }
+        ensures steps { IfOk result (λ made. IfSome made (λ e. MakesStep (geometry SETS WAYS) self.old (Core id) e self.new)) }
+        ensures running { IfOk result (λ made. IsSome made → (hart_at SETS self.old.seats id).status ≡ Running) }
+        ensures none { IfOk result (λ made. IfNone made (self.new ≡ self.old)) }
+        ensures err { OnErr result (self.new ≡ self.old) }
+    {
+        let i = id.index();
         self.net.reserve(1)?;
         let seat = &mut self.seats[i];
         let Some(made) = seat.common_step::<PLACE>(&self.program.text(), self.stamps) else {

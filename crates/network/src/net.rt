@@ -98,6 +98,14 @@ impl Net {
         self.slots.keys()
     }
 
+    /// Whether each message in flight is known to be one of the last 64 that were sent: then the oldest is found at once.
+    #[inline(always)]
+    pub fn is_recent(&self) -> bool
+        ensures { IsTrue result → (key : ℕ) (f : Flight) → flight_at self.now key ≡ Some f → self.now.next ≤ f.number + 64 }
+    {
+        is_known(self.first, self.next)
+    }
+
     /// Makes room for so many messages. It fails only if memory runs out; what is in flight stays in either outcome.
     pub fn reserve(&mut self, count: usize) -> Result<(), AllocError>
         ensures ok { OnOk result (count ≤ self.new.room) }

@@ -1,4 +1,4 @@
-use Rattle.std.proofs.Common.{◌≡◌, ◌∙◌, arith, Some, refl, sym, ap, subst, subst₂}
+use Rattle.std.proofs.Common.{◌≡◌, ◌∙◌, ◌<◌, length, Some, refl, sym, ap, subst, subst₂}
 use Rattle.std.specs.Prelude.{slice_set, option_to_list, IfSome, IfNone}
 use Rattle.std.specs.Option.{option_map}
 use Rattle.words.specs.declared.entry.Step.TheVariants.{Core}
@@ -12,8 +12,8 @@ use Rattle.machine.specs.Rows.{asking}
 use Rattle.machine.specs.States.{Seat, State, geometry, IsSound}
 use Rattle.machine.proofs.Acting.{Acts, rests_still}
 use Rattle.machine.proofs.Cores.{common_makes}
-use Rattle.machine.proofs.machine.Machine.common_core.Given.{Over}
-use Rattle.machine.proofs.machine.Machine.common_core.Goals as goal
+use Rattle.machine.proofs.machine.Machine.common_seated.Given.{Over}
+use Rattle.machine.proofs.machine.Machine.common_seated.Goals as goal
 
 -- The core made a step
 
@@ -32,7 +32,7 @@ makes g c =
     let new = c.common_step.new.self in
     let made = c.in-Some.made in
     let acts : Acts c.index-i.result (before g c) (after g c) old new = record {
-      number = omega (arith, c.len.ensures, c.if-i-len.false);
+      number = subst (λ (m : State). c.index-i.result < length m.seats) (sym c.self.view_is) (subst (λ n. n < length c.args.self.now.seats) (sym c.index-i.ensures.value) c.requires);
       before = c.index_mut-seat.ensures.value;
       after = refl;
       program = refl;
@@ -66,7 +66,7 @@ left g c = record (still g c) { seats = slice_set (still g c).seats c.index-i.re
 stays : (g : Over) (c : goal.After-self-1 g) → left g c ≡ still g c
 stays g c =
     let acts : Acts c.index-i.result (still g c) (left g c) c.index_mut-seat.result.now c.common_step.new.self = record {
-      number = omega (arith, c.len.ensures, c.if-i-len.false);
+      number = subst (λ (m : State). c.index-i.result < length m.seats) (sym c.self.view_is) (subst (λ n. n < length c.args.self.now.seats) (sym c.index-i.ensures.value) c.requires);
       before = c.index_mut-seat.ensures.value;
       after = refl;
       program = refl;
