@@ -7,6 +7,7 @@ pub mod Rows
 pub mod Runs
 pub mod Reads
 pub mod Turns
+pub mod Serving
 pub mod Watch
 pub mod Lent
 pub mod Unused

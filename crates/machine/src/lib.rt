@@ -20,6 +20,7 @@ mod ring;
 mod rows;
 mod run;
 mod seat;
+mod serving;
 mod start;
 mod step;
 mod taking;

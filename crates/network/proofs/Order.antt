@@ -6,7 +6,7 @@ use Rattle.std.proofs.lemmas.List.{get_or-set_same, get_or-set_other, get_or_pas
 use Rattle.std.proofs.lemmas.Option.{same_Some, none-some}
 use Rattle.words.specs.declared.message.Message.{Message}
 use Rattle.network.specs.declared.net.Flight.{Flight}
-use Rattle.network.specs.Flights.{Flights, AreNumbered, AreInOrder, NonePasses, IsOldest, IsNewest, HasNewestArrived}
+use Rattle.network.specs.Flights.{Flights, AreNumbered, AreInOrder, IsAlone, NonePasses, IsOldest, IsNewest, HasNewestArrived}
 use Rattle.network.proofs.Empty.{empty_slots}
 use Rattle.network.proofs.Counted.{one_alone}
 
@@ -228,3 +228,18 @@ module _ (net : Flights) (first : ℕ) (keys : List ℕ) (range : net.next < 184
       let here : get_or keys (number % 64) 0 ≡ key = subst (λ n. get_or keys (n % 64) 0 ≡ key) same (order.recent key f at range (omega (arith, last, same))) in
       is f (ap (λ n. get_or net.slots n None) here ∙ at) same in
       omega (arith, below, apart, last, range)
+
+-- of one message in flight, that under a key is the only one
+pub alone_under : (slots : List (Option Flight)) (number : ℕ) → count_by is_some slots ≡ 1 → (o : Option ℕ) → IfSome o (λ key. IsSomeAnd (get_or slots key None) (λ f. f.number ≡ number)) → IfSome o (IsAlone slots)
+alone_under slots number one None is = tt
+alone_under slots number one (Some key) is =
+    let found = there (get_or slots key None) _ is in
+    record {
+      flight = found.0;
+      here = found.1;
+      none = λ other ne. nothing (get_or slots other None) (λ g at. ne (one_alone slots one other key g found.0 at found.1)) refl;
+    }
+  where
+    nothing : {x : Option Flight} (o : Option Flight) → ((g : Flight) → x ≡ Some g → ⊥) → x ≡ o → x ≡ None
+    nothing None isn't is = is
+    nothing (Some g) isn't is = absurd (isn't g is)

@@ -29,6 +29,12 @@ pub record AreInOrder (slots : List (Option Flight)) (next first : ℕ) (keys : 
   pub above : (key : ℕ) (f : Flight) → slice_index_or slots key None ≡ Some f → first ≤ f.number
   pub recent : (key : ℕ) (f : Flight) → slice_index_or slots key None ≡ Some f → next < 18446744073709551615 → next ≤ f.number + 64 → slice_index keys (f.number % 64) ≡ key
 
+-- a message is in flight under the key, and no other is
+pub record IsAlone (slots : List (Option Flight)) (key : ℕ) : Type 0 where
+  pub flight : Flight
+  pub here : slice_index_or slots key None ≡ Some flight
+  pub none : (other : ℕ) → other ≢ key → slice_index_or slots other None ≡ None
+
 -- no message in flight passes a test
 abbrev pub NonePasses : (Message → Bool → Type 0) → Flights → Type 0
 NonePasses answers net = (key : ℕ) (f : Flight) → flight_at net key ≡ Some f → answers f.message false

@@ -1,7 +1,7 @@
 ghost use Rattle.std.specs.Prelude.{◌≡◌, ◌≢◌, ◌+◌, ◌%◌, ◌<◌, ◌≤◌, ◌↔◌, ℕ, Some, None, min, IsTrue, OnOk, OnErr, IsSome, IsSomeAnd, IfSome, IfNone, is_some, count_by, slice_index};
 ghost use Rattle.std.specs.Fn.{FnReturnsAt};
 ghost use Rattle.std.specs.Option.{option_map};
-ghost use Rattle.network.specs.Flights.{message_at, flight_at, AreNumbered, AreInOrder, IsOldest, IsNewest, HasNewestArrived, NonePasses, IsNext, NoneAfter, position_of, is_after, is_earlier, first_of};
+ghost use Rattle.network.specs.Flights.{message_at, flight_at, AreNumbered, AreInOrder, IsAlone, IsOldest, IsNewest, HasNewestArrived, NonePasses, IsNext, NoneAfter, position_of, is_after, is_earlier, first_of};
 ghost use Rattle.network.specs.Slots.{get, AreTaken};
 
 use crate::slots::Slots;
@@ -219,6 +219,33 @@ impl Net {
             }
             None => None,
         }
+    }
+
+    /// The key of the only message in flight. `None` where there is none or another; one that was sent long before others may not be found either, which
+    /// costs time alone.
+    #[inline(always)]
+    pub fn alone(&self) -> Option<usize>
+        ensures { IfSome result (IsAlone self.now.slots) }
+    {
+        let count = self.slots.len();
+        if count != 1 {
+            return None;
+        }
+        key_of(&self.slots, &self.keys, self.first)
+    }
+
+    /// Takes the message under a key out, beside which there is no other, and has so many numbers pass: those of messages that were sent and arrived behind
+    /// it, one after another, and that were never kept here.
+    #[inline(always)]
+    pub fn pass(&mut self, key: usize, count: u64)
+        requires { IsAlone self.old.slots key }
+        ensures empty { (other : ℕ) → flight_at self.new other ≡ None }
+        ensures number { self.new.next ≡ min (self.old.next + count) 18446744073709551615 }
+    {
+        self.slots.take(key);
+        let next = self.next.saturating_add(count);
+        self.next = next;
+        self.first = next;
     }
 
     /// The key of the message that was sent first among those that pass: the lowest number, and at one number the lowest key.
