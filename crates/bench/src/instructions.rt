@@ -3,7 +3,7 @@ use std::io;
 use std::rt::Clock;
 use std::time::Instant;
 use table::{Act, effect_at, write_register};
-use words::{Addr, Regs};
+use words::{Addr, Reg, Regs};
 
 /// addi, add, xor, slli, lw, sw, bne and jal, over a few registers.
 pub(crate) const WORDS: [u32; 8] = [
@@ -32,9 +32,18 @@ fn after(word: u32, pc: Addr, regs: &mut Regs) -> Addr {
     }
 }
 
+/// Registers that hold 1, but for x0.
+fn ones() -> Regs {
+    let mut regs = Regs::new();
+    for number in 1..32 {
+        regs.write(Reg::new(number), 1);
+    }
+    regs
+}
+
 /// Executes the words in turn, and adds up where each goes on.
 fn execute_often(rounds: u64) -> u64 {
-    let mut regs = [1; 32];
+    let mut regs = ones();
     let mut pc = Addr::new(0x1000);
     let mut sum = 0u64;
     for _ in 0..rounds {

@@ -5,7 +5,7 @@ use std::rt::Clock;
 use std::time::Instant;
 use transaction::Tx;
 use undo_log::UndoLog;
-use words::{Addr, BlockNo, HartId, Stamp};
+use words::{Addr, BlockNo, HartId, Regs, Stamp};
 
 /// A log with a record of each of the blocks 0 to 112, which is full.
 fn full() -> UndoLog {
@@ -100,7 +100,7 @@ fn begun(tx: &Tx, count: u64) -> Tx {
     };
     if tx.aborting().is_none() {
         // It is refused at depth 255 alone.
-        let _ = tx.begin(&[7; 32], Addr::new(0x1000), stamp);
+        let _ = tx.begin(&Regs::new(), Addr::new(0x1000), stamp);
     }
     tx
 }

@@ -11,7 +11,8 @@ use Rattle.table.specs.declared.effect.Act.{Act}
 use Rattle.table.specs.declared.effect.Act.TheVariants as act
 use Rattle.table.specs.declared.instr.Instr.{Instr}
 use Rattle.table.specs.declared.instr.Instr.TheVariants.{Jal, Jalr, Branch, StoreConditional}
-use Rattle.table.specs.Effects.{reg, jumps, does, resolved, resolved_by}
+use Rattle.words.specs.Registers.{reg}
+use Rattle.table.specs.Effects.{jumps, does, resolved, resolved_by}
 use Rattle.table.specs.Table.{branch_row, decoded, effect_by, effect_if, effect_of}
 use Rattle.table.specs.Program.{word_at}
 use Rattle.flat.specs.State.{Setting, FlatHart}

@@ -5,7 +5,7 @@ use Rattle.words.specs.declared.entry.Width.{Width}
 use Rattle.words.specs.declared.entry.Width.TheVariants.{Byte, Half, Word}
 use Rattle.words.specs.declared.entry.Entry.TheVariants.{Retire}
 use Rattle.words.specs.Bytes.{bytes_in, number_at}
-use Rattle.table.specs.Effects.{with_reg}
+use Rattle.words.specs.Registers.{with_reg}
 use Rattle.table.specs.declared.effect.Effect.{Effect}
 use Rattle.table.specs.declared.effect.MemoryAct.{MemoryAct}
 use Rattle.table.specs.declared.effect.Store.{Store}

@@ -4,7 +4,7 @@ ghost use Rattle.table.specs.Program.{word_at};
 ghost use Rattle.flat.specs.Causes.{logs_from, load_cause, store_cause, memory_cause, act_cause, effect_or_cause, next_of};
 
 use crate::hart::Hart;
-use table::{Act, Effect, MemoryAct, Slot, Text, byte_count, register};
+use table::{Act, Effect, MemoryAct, Slot, Text, byte_count};
 use words::{Addr, Cause, Reg};
 
 /// The word at a hart's pc, which can be retired, and what it does.
@@ -131,7 +131,7 @@ impl<const SETS: usize, const WAYS: usize> Hart<SETS, WAYS> {
                 }
             }
             Act::Call => {
-                let call = register(&self.regs, Reg::new(17));
+                let call = self.regs.read(Reg::new(17));
                 if depth > 0 {
                     Some(Cause::CallInTransaction)
                 } else if call == 93 || call == 1 {

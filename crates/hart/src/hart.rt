@@ -10,7 +10,7 @@ use cache::{Cache, Line};
 use conflict::{PutOut, Request};
 use std::marker::Model;
 use transaction::Tx;
-use words::{Addr, BlockNo, HartId, LOG_BYTES, Regs, STACK_BYTES, Status};
+use words::{Addr, BlockNo, HartId, LOG_BYTES, Reg, Regs, STACK_BYTES, Status};
 
 /// A hart, with a cache of SETS sets of WAYS lines. What it has put out stands in its machine. Whether two are one, [`Hart::same`] tells. It keeps the first
 /// address of the undo logs, which each access is compared with.
@@ -110,10 +110,11 @@ fn first_regs(index: HartId, harts: usize, size: usize) -> Regs
     ensures { (s : Setting) → s.size ≡ size → s.count ≡ harts → result ≡ first_regs s index }
 {
     let logs_from = size.saturating_sub(harts * LOG_BYTES);
-    let mut regs = [0; 32];
-    regs[2] = logs_from.saturating_sub(index.index() * STACK_BYTES) as u32;
-    regs[10] = index.index() as u32;
-    regs[11] = harts as u32;
+    let stack_top = logs_from.saturating_sub(index.index() * STACK_BYTES);
+    let mut regs = Regs::new();
+    regs.write(Reg::new(2), stack_top as u32);
+    regs.write(Reg::new(10), index.index() as u32);
+    regs.write(Reg::new(11), harts as u32);
     regs
 }
 

@@ -187,14 +187,14 @@ impl<const SETS: usize, const WAYS: usize> Hart<SETS, WAYS> {
             && self.reserved == other.reserved
             && same_request(&self.request, &other.request)
             && same_put(&self.put, &other.put)
-            && same_regs(&self.regs, &other.regs)
+            && same_values(self.regs.values(), other.regs.values())
             && self.tx.same(&other.tx)
             && self.cache.same(&other.cache)
     }
 }
 
-/// Whether two harts have the same registers. It looks at all of them, so that a processor can compare several at once.
-fn same_regs(a: &Regs, b: &Regs) -> bool
+/// Whether two harts have the same values in their registers. It looks at all of them, so that a processor can compare several at once.
+fn same_values(a: &[u32; 32], b: &[u32; 32]) -> bool
     ensures { IsTrue result ↔ (a.now ≡ b.now) }
 {
     let mut same = true;

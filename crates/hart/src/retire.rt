@@ -5,7 +5,7 @@ ghost use Rattle.words.specs.Limits.{log_records};
 ghost use Rattle.words.specs.declared.entry.Entry.TheVariants.{Retire};
 ghost use Rattle.table.specs.declared.effect.Act.TheVariants as act;
 ghost use Rattle.cache.specs.Sets.{line_at, way_at};
-ghost use Rattle.table.specs.Effects.{with_reg};
+ghost use Rattle.words.specs.Registers.{with_reg};
 ghost use Rattle.flat.specs.Effects.{output_by, status_by, load_by, store_by};
 ghost use Rattle.protocol.specs.Hart.{with_line};
 ghost use Rattle.protocol.specs.Lines.{byte_in, line_used};
@@ -18,7 +18,7 @@ use crate::reply::CoreStep;
 use crate::reservation::reserved_begun;
 use crate::transactions::{append_record, begin, commit};
 use cache::Line;
-use table::{Act, Effect, MemoryAct, register, write_register};
+use table::{Act, Effect, MemoryAct, write_register};
 use words::{AbortCause, Addr, BLOCK_BYTES, Block, BlockNo, Entry, Reg, Regs, Stamp, Status};
 
 /// The call 93 exits with a0.
@@ -27,9 +27,7 @@ fn status_by(regs: &Regs, act: &Act) -> Status
     ensures { result ≡ status_by regs.now act.now }
 {
     match act {
-        Act::Call if register(regs, Reg::new(17)) == 93 => {
-            Status::Exited(register(regs, Reg::new(10)))
-        }
+        Act::Call if regs.read(Reg::new(17)) == 93 => { Status::Exited(regs.read(Reg::new(10))) }
         _ => Status::Running,
     }
 }
@@ -40,8 +38,8 @@ fn output_by(regs: &Regs, act: &Act) -> Option<u8>
     ensures { (output : List ℕ) → with_byte output result ≡ output_by output regs.now act.now }
 {
     match act {
-        Act::Call if register(regs, Reg::new(17)) != 93 => {
-            Some((register(regs, Reg::new(10)) % 256) as u8)
+        Act::Call if regs.read(Reg::new(17)) != 93 => {
+            Some((regs.read(Reg::new(10)) % 256) as u8)
         }
         _ => None,
     }

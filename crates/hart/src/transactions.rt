@@ -151,8 +151,7 @@ pub(crate) fn pop_record(tx: &mut Tx)
     tx.pop_record();
 }
 
-/// Appends a block to the log, as it is before a store. The answer is whether there was room. That is asked before the call: behind one that may have
-/// written, what a hart declines would be looked at anew.
+/// Appends a block to the log, as it is before a store. The answer is whether there was room.
 #[inline(always)]
 pub(crate) fn append_record(tx: &mut Tx, block: BlockNo, before: &Block) -> bool
     requires kept { IsKept tx.old }

@@ -1,7 +1,8 @@
 //! What is to be seen of a state, as a list of numbers: of each hart its registers, pc, status and output, and then words of memory.
 
+use crate::states::Registers;
 use std::alloc::AllocError;
-use words::{Regs, Status};
+use words::Status;
 
 /// Pushes a number.
 pub fn push_number(picture: &mut Vec<u32>, number: u32) -> Result<(), AllocError> {
@@ -25,7 +26,7 @@ fn push_status(picture: &mut Vec<u32>, status: &Status) -> Result<(), AllocError
 /// Pushes what is to be seen of a hart.
 pub fn push_hart(
     picture: &mut Vec<u32>,
-    regs: &Regs,
+    regs: &Registers,
     pc: u32,
     status: &Status,
     output: &[u8],

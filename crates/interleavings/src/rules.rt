@@ -2,11 +2,11 @@
 
 ghost use Rattle.std.specs.Prelude.{◌<◌, ◌≤◌};
 
-use crate::states::{Core, Whole};
+use crate::states::{Core, Registers, Whole};
 use std::alloc::{AllocError, Global};
 use std::collections::BTreeMap;
 use table::{Act, Effect, MemoryAct, effect_at};
-use words::{Addr, Cause, Regs, Status, Width};
+use words::{Addr, Cause, Reg, Regs, Status, Width};
 
 /// Where text begins.
 const TEXT: u32 = 0x1000;
@@ -66,6 +66,15 @@ fn call_cause(core: &Core) -> Option<Cause> {
         1 | 93 => None,
         _ => Some(Cause::BadCall),
     }
+}
+
+/// The registers of a hart, as the table takes them.
+fn held(core: &Core) -> Regs {
+    let mut regs = Regs::new();
+    for number in 0..32u8 {
+        regs.write(Reg::new(number), core.regs[usize::from(number)]);
+    }
+    regs
 }
 
 /// This cause, where it is met.
@@ -151,7 +160,7 @@ impl Rules<'_> {
         let Some(word) = self.word(core.pc) else {
             return Next::Stops(Cause::FetchOutside);
         };
-        match effect_at(word, Addr::new(core.pc), &core.regs) {
+        match effect_at(word, Addr::new(core.pc), &held(core)) {
             Err(cause) => Next::Stops(cause),
             Ok(effect) => match self.act_cause(core, &effect.act) {
                 Some(cause) => Next::Stops(cause),
@@ -164,7 +173,7 @@ impl Rules<'_> {
 // The beginning.
 impl Rules<'_> {
     /// The registers that a hart begins with.
-    fn first_regs(&self, number: u32) -> Regs {
+    fn first_regs(&self, number: u32) -> Registers {
         let mut regs = [0; 32];
         let below_logs = self.size.saturating_sub(self.harts.saturating_mul(4096));
         regs[2] = below_logs.saturating_sub(number.saturating_mul(4096));

@@ -1,11 +1,14 @@
 use std::alloc::{AllocError, Global};
 use std::collections::{BTreeMap, BTreeSet};
-use words::{Regs, Status};
+use words::Status;
+
+/// The values of the registers. That of x0 stays 0.
+pub type Registers = [u32; 32];
 
 /// A running transaction.
 #[derive(Clone, Debug, Drop, PartialEq, Eq, Hash)]
 pub(crate) struct Attempt {
-    pub(crate) checkpoint: Regs,
+    pub(crate) checkpoint: Registers,
     pub(crate) abort_pc: u32,
     pub(crate) depth: u32,
     /// How many stores were retired in it, counted up to 113.
@@ -20,7 +23,7 @@ pub(crate) struct Attempt {
 #[derive(Clone, Debug, Drop, PartialEq, Eq)]
 #[derive_where(Hash)]
 pub(crate) struct Core {
-    pub(crate) regs: Regs,
+    pub(crate) regs: Registers,
     pub(crate) pc: u32,
     pub(crate) output: Vec<u8>,
     #[derive_where(skip(Hash))]
@@ -39,7 +42,7 @@ pub(crate) struct Whole {
 
 impl Attempt {
     /// One that begins.
-    pub(crate) fn new(alloc: Global, checkpoint: Regs, abort_pc: u32) -> Self {
+    pub(crate) fn new(alloc: Global, checkpoint: Registers, abort_pc: u32) -> Self {
         Attempt {
             checkpoint,
             abort_pc,

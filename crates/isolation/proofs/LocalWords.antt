@@ -8,7 +8,7 @@ use Rattle.words.specs.declared.entry.Entry.{Entry}
 use Rattle.words.specs.declared.entry.Entry.TheVariants.{Retire, Abort, Trap, Refuse, Spill}
 use Rattle.table.specs.declared.effect.Effect.{Effect}
 use Rattle.table.specs.declared.effect.Act.TheVariants as act
-use Rattle.table.specs.Effects.{with_reg}
+use Rattle.words.specs.Registers.{with_reg}
 use Rattle.flat.specs.State.{Flat, FlatHart, Tx, flat_view}
 use Rattle.flat.specs.Causes.{next_of, done_next}
 use Rattle.flat.specs.Effects.{mem_by, tx_by, retire_of}

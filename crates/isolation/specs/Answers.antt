@@ -4,7 +4,8 @@ use Rattle.words.specs.declared.entry.Access.{Access}
 use Rattle.words.specs.declared.entry.Entry.TheVariants.{Retire}
 use Rattle.std.specs.Prelude.{Ok, Some}
 use Rattle.table.specs.declared.effect.Effect.{Effect}
-use Rattle.table.specs.Effects.{with_reg, resolved}
+use Rattle.words.specs.Registers.{with_reg}
+use Rattle.table.specs.Effects.{resolved}
 use Rattle.table.specs.Table.{effect_of}
 use Rattle.table.specs.Program.{word_at}
 use Rattle.flat.specs.State.{Flat, flat_view, has_written}

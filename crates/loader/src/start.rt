@@ -5,7 +5,7 @@ ghost use Rattle.flat.specs.Boots.{is_size, fits_below, boot_fault};
 
 use crate::program::Program;
 use flat::BootFault;
-use words::{LOG_BYTES, Regs, STACK_BYTES};
+use words::{LOG_BYTES, Reg, Regs, STACK_BYTES};
 
 fn is_size(size: u32) -> bool
     ensures { result ≡ is_size size }
@@ -48,9 +48,10 @@ pub fn first_regs(i: usize, harts: usize, size: usize) -> Regs
     requires hart { i < harts }
     ensures { (s : Setting) → s.size ≡ size → s.count ≡ harts → result ≡ first_regs s i }
 {
-    let mut regs = [0; 32];
-    regs[2] = (size - harts * LOG_BYTES - i * STACK_BYTES) as u32;
-    regs[10] = i as u32;
-    regs[11] = harts as u32;
+    let mut regs = Regs::new();
+    let stack_top = size - harts * LOG_BYTES - i * STACK_BYTES;
+    regs.write(Reg::new(2), stack_top as u32);
+    regs.write(Reg::new(10), i as u32);
+    regs.write(Reg::new(11), harts as u32);
     regs
 }

@@ -3,6 +3,7 @@ ghost use Rattle.protocol.specs.Hart.{is_running};
 ghost use Rattle.machine.specs.Turns.{number_running};
 
 use crate::machine::Machine;
+use crate::seat::Seat;
 use words::Status;
 
 /// How many steps a run makes from one note of its progress to the next.
@@ -33,19 +34,32 @@ impl Progress for Silent {
     fn end(&mut self) {}
 }
 
+/// Whether the hart in a seat runs.
+fn runs<const SETS: usize, const WAYS: usize>(seat: &Seat<SETS, WAYS>) -> bool
+    ensures { result ≡ is_running seat.now.hart.status }
+{
+    seat.hart.status() == Status::Running
+}
+
+/// How many of these harts run.
+fn running_in<const SETS: usize, const WAYS: usize>(seats: &[Seat<SETS, WAYS>]) -> usize
+    ensures { result ≡ number_running seats.now }
+{
+    let mut running = 0;
+    for seat in seats {
+        if runs(seat) {
+            running += 1;
+        }
+    }
+    running
+}
+
 impl<const SETS: usize, const WAYS: usize> Machine<SETS, WAYS> {
     /// How many harts run.
     pub fn running(&self) -> usize
         ensures { result ≡ number_running self.now.seats }
     {
-        self.seats
-            .iter()
-            .filter(
-                |seat| -> bool
-                    ensures { result ≡ is_running seat.now.now.hart.status }
-                { seat.hart.status() == Status::Running },
-            )
-            .count()
+        running_in(&self.seats)
     }
 
     /// Takes note of steps that were made, where progress is due after so many. It is told if they were as many, and the answer is after how many

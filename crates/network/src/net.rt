@@ -241,6 +241,7 @@ impl Net {
         requires { IsAlone self.old.slots key }
         ensures empty { (other : ℕ) → flight_at self.new other ≡ None }
         ensures number { self.new.next ≡ min (self.old.next + count) 18446744073709551615 }
+        ensures room { self.new.room ≡ self.old.room + 1 }
     {
         self.slots.take(key);
         let next = self.next.saturating_add(count);

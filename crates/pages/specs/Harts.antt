@@ -5,7 +5,7 @@ use Rattle.std.specs.List.{concat, flat_map, range_with_len}
 use Rattle.words.specs.Limits.{block_bytes}
 use Rattle.words.specs.declared.cause.Status.{Status}
 use Rattle.texts.specs.Numerals.{hexadecimal}
-use Rattle.table.specs.Effects.{reg}
+use Rattle.words.specs.Registers.{reg}
 use Rattle.table.specs.Program.{word_at}
 use Rattle.disassembler.specs.Canonical.{canonical}
 use Rattle.disassembler.specs.Labels.{label}

@@ -13,7 +13,6 @@ use disassembler::{Symbols, text};
 use itoa::Buffer;
 use machine::{Machine, TxInfo};
 use render::{cached_text, first_byte, hart_text, stamp_text, status_text};
-use table::register;
 use texts::{Line, hexadecimal, put_all};
 use words::{Addr, BlockNo, HartId, Reg, Regs, Sink, SinkFault, Status};
 
@@ -178,7 +177,7 @@ fn put_values<S: Sink>(sink: &mut S, regs: &Regs) -> Result<(), SinkFault>
     ensures { Puts (S.state sink.old) (S.state sink.new) (flat_map (spec.register_item regs.now) (range_with_len 0 32)) result }
 {
     for number in 0..32 {
-        put_value(sink, register(regs, Reg::new(number)))?;
+        put_value(sink, regs.read(Reg::new(number)))?;
     }
     Ok(())
 }

@@ -23,7 +23,8 @@ use Rattle.table.specs.declared.effect.MemoryAct.{MemoryAct}
 use Rattle.table.specs.declared.effect.Act.{Act}
 use Rattle.table.specs.declared.effect.Act.TheVariants as act
 use Rattle.table.specs.declared.effect.Load.{Load}
-use Rattle.table.specs.Effects.{with_reg, resolved}
+use Rattle.words.specs.Registers.{with_reg}
+use Rattle.table.specs.Effects.{resolved}
 use Rattle.table.specs.Program.{word_at}
 use Rattle.flat.specs.State.{Setting}
 use Rattle.flat.specs.Causes.{next_of}

@@ -11,9 +11,7 @@ ghost use Rattle.reference.specs.States.{tx_of, hart_of, view_of, FitsIn, Fits, 
 use crate::overlay::Overlay;
 use loader::{cut_to, lay};
 use std::alloc::{AllocError, Global};
-use table::{
-    Act, Effect, MemoryAct, extend_load, finish_store, register, write_register, write_to,
-};
+use table::{Act, Effect, MemoryAct, extend_load, finish_store, write_register, write_to};
 use words::{AbortCause, Access, Addr, Entry, HartId, LOG_RECORDS, Reg, Regs, Status, Width};
 
 /// How many stores an undo log holds, and so how far they are counted.
@@ -256,8 +254,8 @@ impl Hart {
         ensures ok { OnOk result ((size : ℕ) → hart_of size self.new ≡ record (hart_of size self.old) { output = output_by self.old.output.items self.old.regs Act.Call; status = status_by self.old.regs Act.Call }) }
         ensures err { OnErr result ((size : ℕ) → hart_of size self.new ≡ hart_of size self.old) }
     {
-        let value = register(&self.regs, Reg::new(10));
-        if register(&self.regs, Reg::new(17)) == 93 {
+        let value = self.regs.read(Reg::new(10));
+        if self.regs.read(Reg::new(17)) == 93 {
             self.status = Status::Exited(value);
         } else {
             self.output.push((value % 256) as u8)?;

@@ -3,7 +3,7 @@ ghost use Rattle.words.specs.Bytes.{bytes_in};
 
 use crate::hart::Hart;
 use loader::Program;
-use table::{Act, Effect, MemoryAct, byte_count, effect_at, register};
+use table::{Act, Effect, MemoryAct, byte_count, effect_at};
 use words::{Addr, Cause, LOG_BYTES, Reg, Status};
 
 /// One memory, and harts whose transactions keep what they did to themselves until they commit.
@@ -103,7 +103,7 @@ impl Machine {
                 }
             }
             Act::Call => {
-                let call = register(&hart.regs, Reg::new(17));
+                let call = hart.regs.read(Reg::new(17));
                 if hart.tx.is_some() {
                     Some(Cause::CallInTransaction)
                 } else if call == 93 || call == 1 {

@@ -4,7 +4,7 @@ use Rattle.std.specs.List.{concat, flat_map, range_with_len}
 use Rattle.words.specs.declared.cause.Status.{Status}
 use Rattle.words.specs.declared.cause.Status.TheVariants.{Running, Exited, Stopped}
 use Rattle.texts.specs.Numerals.{hexadecimal}
-use Rattle.table.specs.Effects.{reg}
+use Rattle.words.specs.Registers.{reg}
 use Rattle.disassembler.specs.Mnemonics.{register}
 use Rattle.render.specs.Entries.{cause_text}
 use Rattle.disassembler.specs.Labels.{label}

@@ -6,7 +6,6 @@ use crate::entries::cause_text;
 use arrayvec::ArrayString;
 use disassembler::{Symbols, register_name};
 use itoa::Buffer;
-use table::register;
 use texts::{hexadecimal, put_all};
 use words::{Addr, Reg, Regs, Sink, SinkFault, Status};
 
@@ -42,7 +41,7 @@ fn put_register<S: Sink>(regs: &Regs, reg: Reg, sink: &mut S) -> Result<(), Sink
         &[
             register_name(reg).as_bytes(),
             b"=0x",
-            &hexadecimal(register(regs, reg)),
+            &hexadecimal(regs.read(reg)),
             after.as_bytes(),
         ],
     )

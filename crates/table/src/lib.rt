@@ -20,7 +20,7 @@ pub use effect::{Act, Effect, Load, MemoryAct, Store};
 pub use encoder::encode;
 pub use executor::{
     address, amo_act, byte_count, effect_at, execute, extend_load, finish_load, finish_store, link,
-    load_act, register, store_act, write_register, write_to,
+    load_act, store_act, write_register, write_to,
 };
 pub use instr::{AluOp, AmoOp, BranchOp, ImmOp, Instr, LoadOp, Row, ShiftOp, StoreOp};
 pub use laws::one_row;

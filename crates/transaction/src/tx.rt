@@ -73,7 +73,7 @@ impl Tx {
     {
         Tx {
             depth: 0,
-            checkpoint: [0; 32],
+            checkpoint: Regs::new(),
             abort_pc: Addr::new(0),
             stamp: None,
             overflow: false,

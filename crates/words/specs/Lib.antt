@@ -5,5 +5,6 @@ pub mod Harts
 pub mod Limits
 pub mod LineStates
 pub mod Marks
+pub mod Registers
 pub mod Sinks
 pub mod Stamps

@@ -6,7 +6,8 @@ use Rattle.words.specs.declared.entry.Entry.{Entry}
 use Rattle.words.specs.declared.entry.Entry.TheVariants.{Retire}
 use Rattle.table.specs.declared.effect.Effect.{Effect}
 use Rattle.table.specs.declared.effect.Act.{Act}
-use Rattle.table.specs.Effects.{with_reg, resolved}
+use Rattle.words.specs.Registers.{with_reg}
+use Rattle.table.specs.Effects.{resolved}
 use Rattle.table.specs.Table.{decoded}
 use Rattle.table.specs.Program.{word_at}
 use Rattle.flat.specs.Bytes.{put_at}

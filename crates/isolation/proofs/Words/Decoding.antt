@@ -10,7 +10,8 @@ use Rattle.table.specs.declared.effect.Effect.{Effect}
 use Rattle.table.specs.declared.effect.Load.{Load as Loads}
 use Rattle.table.specs.declared.effect.Act.{Act}
 use Rattle.table.specs.declared.effect.Act.TheVariants as act
-use Rattle.table.specs.Effects.{reg, jumps, does, resolved, resolved_by}
+use Rattle.words.specs.Registers.{reg}
+use Rattle.table.specs.Effects.{jumps, does, resolved, resolved_by}
 use Rattle.table.specs.Numbers.{wrap}
 use Rattle.table.specs.Program.{word_at}
 use Rattle.table.specs.Table.{branch_row, decoded, effect_by, effect_of}

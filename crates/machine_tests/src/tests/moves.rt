@@ -103,5 +103,5 @@ pub(crate) fn pc(machine: &Machine, hart: HartId) -> Option<Addr> {
 /// What a hart's register holds.
 pub(crate) fn register(machine: &Machine, hart: HartId, index: usize) -> Option<u32> {
     let (regs, _, _) = machine.regs(hart)?;
-    regs.get(index).copied()
+    regs.values().get(index).copied()
 }

@@ -5,7 +5,7 @@ ghost use Rattle.outcomes.specs.Searches.{IsSearch};
 use flat::Engine;
 use outcomes::Outcomes;
 use std::alloc::{AllocError, Global};
-use words::{Addr, HartId, Status};
+use words::{Addr, HartId, Reg, Status};
 
 /// What is to be seen of an end: the hart's status, its pc and its t0, and the words at 0, 32, 64 and 0x2000.
 pub(crate) type End = (Status, u32, u32, [Option<u32>; 4]);
@@ -18,7 +18,7 @@ fn end_of<E: Engine>(engine: &E) -> Option<End> {
         engine.peek(Addr::new(64)),
         engine.peek(Addr::new(0x2000)),
     ];
-    Some((status, pc.value(), regs[5], words))
+    Some((status, pc.value(), regs.read(Reg::new(5)), words))
 }
 
 /// The ends that were found.

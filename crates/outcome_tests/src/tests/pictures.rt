@@ -18,7 +18,13 @@ fn push_hart_of<E: Engine>(
         return Ok(());
     };
     let (regs, pc, status) = shown;
-    push_hart(picture, &regs, pc.value(), &status, engine.output(hart))
+    push_hart(
+        picture,
+        regs.values(),
+        pc.value(),
+        &status,
+        engine.output(hart),
+    )
 }
 
 /// What is to be seen of a machine.

@@ -5,7 +5,7 @@ ghost use Rattle.words.specs.declared.entry.Entry.TheVariants.{Abort};
 ghost use Rattle.words.specs.declared.cause.AbortCause.TheVariants.{Asked};
 ghost use Rattle.words.specs.declared.message.Kind.TheVariants.{Write};
 ghost use Rattle.words.specs.declared.message.LineState.TheVariants.{Shared, Modified};
-ghost use Rattle.table.specs.Effects.{reg};
+ghost use Rattle.words.specs.Registers.{reg};
 ghost use Rattle.words.specs.Marks.{no_marks};
 ghost use Rattle.protocol.specs.Messages.{Get};
 ghost use Rattle.protocol.specs.Directory.{Owned};

@@ -4,7 +4,7 @@ ghost use Rattle.std.specs.Option.{option_map};
 ghost use Rattle.words.specs.declared.entry.Entry.TheVariants.{Abort};
 ghost use Rattle.words.specs.declared.cause.AbortCause.TheVariants.{Asked};
 ghost use Rattle.words.specs.declared.message.LineState.TheVariants.{Modified};
-ghost use Rattle.table.specs.Effects.{reg};
+ghost use Rattle.words.specs.Registers.{reg};
 ghost use Rattle.words.specs.Marks.{no_marks};
 ghost use Rattle.protocol.specs.Values.{raw, peek};
 ghost use Rattle.part_tests.specs.Programs.{sw_x5_x5, commit_twice, abort_within};

@@ -4,9 +4,14 @@ use crate::tests::claims::{equal, equal_text, holds};
 use std::process::Abort;
 use std::test::Fail;
 use transaction::{Restart, Tx, TxFault};
-use words::{AbortCause, Addr, BlockNo, Cause, HartId, Regs, Stamp};
+use words::{AbortCause, Addr, BlockNo, Cause, HartId, Reg, Regs, Stamp};
 
-const REGS: Regs = [7; 32];
+/// Registers in which x31 holds 7.
+fn regs() -> Regs {
+    let mut regs = Regs::new();
+    regs.write(Reg::new(31), 7);
+    regs
+}
 
 fn stamp(count: u64) -> Stamp {
     Stamp {
@@ -28,10 +33,10 @@ fn check_begin(
     equal(rt, &tx.begin(regs, Addr::new(pc), stamp(count)), &want);
 }
 
-/// A transaction that began with `REGS`, the abort pc 0x1014 and the stamp of count 5.
+/// A transaction that began with `regs`, the abort pc 0x1014 and the stamp of count 5.
 fn begun(rt: &impl Abort) -> Tx {
     let mut tx = Tx::new(Addr::new(0xff000));
-    check_begin(rt, &mut tx, &REGS, 0x1014, 5, Ok(true));
+    check_begin(rt, &mut tx, &regs(), 0x1014, 5, Ok(true));
     holds(rt, tx.aborting().is_none());
     tx
 }
@@ -70,7 +75,7 @@ fn check_commit(rt: &impl Abort, tx: &mut Tx) {
 /// A transaction in a transaction, with a record and both flags.
 fn nested(rt: &impl Abort) -> Tx {
     let mut tx = begun(rt);
-    check_begin(rt, &mut tx, &[0; 32], 0, 6, Ok(false));
+    check_begin(rt, &mut tx, &Regs::new(), 0, 6, Ok(false));
     append(rt, &mut tx);
     tx.set_overflow();
     tx.set_cycle();
@@ -86,7 +91,7 @@ fn an_inner_begin_keeps_what_the_outermost_took(rt: HostRuntime) {
         &(tx.stamp(), tx.abort_pc()),
         &(Some(stamp(5)), Addr::new(0x1014)),
     );
-    equal(&rt, &tx.checkpoint()[31], &7);
+    equal(&rt, &tx.checkpoint().read(Reg::new(31)), &7);
 }
 
 #[test]
@@ -118,7 +123,7 @@ fn outside_nothing_commits_and_nothing_aborts(rt: HostRuntime) {
 fn a_commit_leaves_no_stamp_for_the_next(rt: HostRuntime) {
     let mut tx = begun(&rt);
     check_commit(&rt, &mut tx);
-    check_begin(&rt, &mut tx, &REGS, 0x1014, 6, Ok(true));
+    check_begin(&rt, &mut tx, &regs(), 0x1014, 6, Ok(true));
     check_stamp(&rt, &tx, 6);
 }
 
@@ -158,7 +163,7 @@ fn an_abort_restarts_at_the_checkpoint(rt: HostRuntime) {
     let restart = tx.end_abort();
     equal(
         &rt,
-        &(restart.regs[31], restart.pc, restart.cause),
+        &(restart.regs.read(Reg::new(31)), restart.pc, restart.cause),
         &(7, Addr::new(0x1014), cause),
     );
     check_state(&rt, &tx, 0, false, 0);
@@ -169,7 +174,7 @@ fn an_abort_keeps_the_stamp(rt: HostRuntime) {
     let mut tx = undone(&rt, AbortCause::Asked);
     end_abort(&rt, &mut tx);
     check_stamps(&rt, &tx, None, Some(5));
-    check_begin(&rt, &mut tx, &REGS, 0x1014, 9, Ok(false));
+    check_begin(&rt, &mut tx, &regs(), 0x1014, 9, Ok(false));
     check_stamp(&rt, &tx, 5);
 }
 
@@ -177,9 +182,9 @@ fn an_abort_keeps_the_stamp(rt: HostRuntime) {
 fn nests_255_deep(rt: HostRuntime) {
     let mut tx = Tx::new(Addr::new(0xff000));
     for depth in 0..255 {
-        check_begin(&rt, &mut tx, &REGS, 0, 0, Ok(depth == 0));
+        check_begin(&rt, &mut tx, &regs(), 0, 0, Ok(depth == 0));
     }
-    check_begin(&rt, &mut tx, &REGS, 0, 0, Err(TxFault::TooDeep));
+    check_begin(&rt, &mut tx, &regs(), 0, 0, Err(TxFault::TooDeep));
     equal(&rt, &tx.depth(), &255);
 }
 

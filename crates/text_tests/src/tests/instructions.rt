@@ -10,7 +10,7 @@ use std::test::Fail;
 use table::{
     Act, AmoOp, Effect, Instr, Load, MemoryAct, Row, Segment, Store, Text, byte_count, decode,
     effect_at, encode, execute, extend_load, finish_amo, finish_load, finish_store, one_row,
-    register, row_named, write_register, write_to,
+    row_named, write_register, write_to,
 };
 use tables::{
     ATOMICS, BRANCHES, ILLEGAL, JUMPS, LINES, LOADED, LOADS, MISALIGNED, SPELLED, STORES, UNKNOWN,
@@ -122,7 +122,7 @@ fn check_illegal(rt: &impl Abort, word: u32) {
     equal_at(rt, &decode(word), &None, &word);
     equal_at(
         rt,
-        &effect_at(word, Addr::new(0x1000), &[0; 32]),
+        &effect_at(word, Addr::new(0x1000), &Regs::new()),
         &Err(Cause::Illegal),
         &word,
     );
@@ -142,11 +142,20 @@ fn words_beside_the_illegal_ones_are_instructions(rt: HostRuntime) {
     }
 }
 
+/// Registers that hold this value, but for x0.
+fn filled(value: u32) -> Regs {
+    let mut regs = Regs::new();
+    for number in 1..32 {
+        regs.write(Reg::new(number), value);
+    }
+    regs
+}
+
 /// Registers with these values in x5 and x6.
 fn with_values(a: u32, b: u32) -> Regs {
-    let mut regs = [0x0bad_0bad; 32];
-    regs[5] = a;
-    regs[6] = b;
+    let mut regs = filled(0x0bad_0bad);
+    regs.write(Reg::new(5), a);
+    regs.write(Reg::new(6), b);
     regs
 }
 
@@ -456,15 +465,17 @@ fn loads_and_stores_end(rt: HostRuntime) {
 fn check_registers(rt: &impl Abort, regs: &Regs, zero: u32, a0: u32) {
     equal(
         rt,
-        &(register(regs, Reg::new(0)), register(regs, Reg::new(10))),
+        &(regs.read(Reg::new(0)), regs.read(Reg::new(10))),
         &(zero, a0),
     );
 }
 
 #[test]
 fn x0_is_never_written(rt: HostRuntime) {
-    let mut regs = [9; 32];
+    let mut regs = filled(9);
     equal(&rt, &write_to(Reg::new(0), 5), &None);
+    regs.write(Reg::new(0), 5);
+    check_registers(&rt, &regs, 0, 9);
     write_register(&mut regs, write_to(Reg::new(10), 5));
     check_registers(&rt, &regs, 0, 5);
     write_register(&mut regs, None);
@@ -473,8 +484,8 @@ fn x0_is_never_written(rt: HostRuntime) {
 
 #[test]
 fn an_instruction_has_its_effect(rt: HostRuntime) {
-    let mut regs = [9; 32];
-    regs[10] = 5;
+    let mut regs = filled(9);
+    regs.write(Reg::new(10), 5);
     equal(
         &rt,
         &execute(Instr::Ecall, Addr::new(0x1000), &regs),

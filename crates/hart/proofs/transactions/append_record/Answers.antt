@@ -1,4 +1,4 @@
-use Rattle.std.proofs.Common.{◌≡◌, ◌≢◌, ◌<◌, ℕ, inl, inr, false, true, refl, ap, arith}
+use Rattle.std.proofs.Common.{◌≡◌, ◌<◌, inl, inr, false, true, refl, ap, arith}
 use Rattle.std.proofs.lemmas.Bool.{cases_eq}
 use Rattle.undo_log.specs.Value.{Log}
 use Rattle.words.specs.Limits.{log_records}

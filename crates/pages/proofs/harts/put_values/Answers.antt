@@ -9,9 +9,9 @@ loop-number-init g c = puts-nothing _
 pub returns-in_err-put_value : goal.returns-in_err-put_value
 returns-in_err-put_value g c =
     puts-cut_first (register_item c.args.regs.now) c.loop-number-test.true c.loop-number.invariant c.in_err-put_value.was
-    (puts-same (ap number_item c.register.ensures ∙ ap (register_item c.args.regs.now) c.new.ensures) c.put_value.ensures) c.from_residual.ensures.0
+    (puts-same (ap number_item c.read.ensures ∙ ap (register_item c.args.regs.now) c.new.ensures) c.put_value.ensures) c.from_residual.ensures.0
 
 pub loop-number-preserved : goal.loop-number-preserved
 loop-number-preserved g c =
     puts-one_first (register_item c.args.regs.now) c.loop-number.invariant
-    (puts-same {r = Ok tt} (ap number_item c.register.ensures ∙ ap (register_item c.args.regs.now) c.new.ensures) c.in_ok-put_value.ensures)
+    (puts-same {r = Ok tt} (ap number_item c.read.ensures ∙ ap (register_item c.args.regs.now) c.new.ensures) c.in_ok-put_value.ensures)

@@ -151,7 +151,7 @@ pub(crate) fn check_needs_hub(rt: &impl Abort, hart: &mut Small, text: &Text) {
 pub(crate) fn check_register(rt: &impl Abort, hart: &Small, index: usize, want: u32) {
     equal_at(
         rt,
-        &hart.registers().get(index).copied(),
+        &hart.registers().values().get(index).copied(),
         &Some(want),
         &index,
     );

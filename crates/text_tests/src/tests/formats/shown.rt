@@ -377,13 +377,13 @@ t3=0x0000001c t4=0x0000001d t5=0x0000001e t6=0x0000001f
 pc=0x00001004 running
 ";
 
-/// Each register has its number, but x0, which reads 0 whatever stands in its place.
+/// Each register has its number, but x0, which reads 0 though it was written.
 fn numbered() -> Regs {
-    let mut regs = [0; 32];
+    let mut regs = Regs::new();
     for number in 0..32 {
-        regs[number] = number as u32;
+        regs.write(Reg::new(number), u32::from(number));
     }
-    regs[0] = 5;
+    regs.write(Reg::new(0), 5);
     regs
 }
 

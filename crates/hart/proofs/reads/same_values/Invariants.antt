@@ -1,6 +1,6 @@
 use Rattle.std.proofs.Common.{◌≡◌, ◌<◌, ◌↔◌, ℕ}
 use Rattle.std.specs.Prelude.{IsTrue, slice_index}
-use Rattle.hart.proofs.reads.same_regs.Given as goal
+use Rattle.hart.proofs.reads.same_values.Given as goal
 
 -- they are the same so far
 abbrev pub invariant-loop-number : goal.invariant-loop-number
