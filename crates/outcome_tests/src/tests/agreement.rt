@@ -106,6 +106,38 @@ fn check_witnesses(
     Ok(())
 }
 
+/// That a program's search made just the moves of the reduction, that it found all these ends, and that each has a witness.
+fn check_search(
+    rt: &(impl Abort + AllocGlobal),
+    source: &Source<'_>,
+    harts: u32,
+    ends: (&Ends, &Ends),
+    outcomes: &Outcomes,
+    tally: &mut Tally,
+) -> Result<(), Fail>
+    requires { IsSearch outcomes.now }
+{
+    let (all, reduced) = ends;
+    check_ends(rt, source, outcomes, all)?;
+    equal_at(rt, &outcomes.len(), &reduced.states, &source);
+    holds_at(rt, reduced.pictures == all.pictures, &source);
+    check_witnesses(rt, source, harts, outcomes, tally)?;
+    tally.add(all.count, all.states);
+    Ok(())
+}
+
+/// The same of the search that is made of it.
+fn check_searched(
+    rt: &(impl Abort + AllocGlobal),
+    source: &Source<'_>,
+    harts: u32,
+    ends: (&Ends, &Ends),
+    tally: &mut Tally,
+) -> Result<(), Fail> {
+    let outcomes = searched_from(rt.alloc(), source, harts, MOST)?;
+    check_search(rt, source, harts, ends, &outcomes, tally)
+}
+
 /// That a program has the ends that all interleavings lead to, that the search makes just the moves of the reduction, and that each end has a witness; if
 /// the program has few enough states.
 pub(crate) fn check_program(
@@ -121,13 +153,7 @@ pub(crate) fn check_program(
     let reduced = all_ends(rt.alloc(), source, harts, SIZE, Order::LocalFirst, MOST)?.ok_or(
         "too many",
     )?;
-    let outcomes = searched_from(rt.alloc(), source, harts, MOST)?;
-    check_ends(rt, source, &outcomes, &all)?;
-    equal_at(rt, &outcomes.len(), &reduced.states, &source);
-    holds_at(rt, reduced.pictures == all.pictures, &source);
-    check_witnesses(rt, source, harts, &outcomes, tally)?;
-    tally.add(all.count, all.states);
-    Ok(())
+    check_searched(rt, source, harts, (&all, &reduced), tally)
 }
 
 /// Checks the programs of so many seeds, of 2 to so many words beside their first and last ones.

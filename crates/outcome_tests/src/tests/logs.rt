@@ -93,17 +93,28 @@ fn check_witnesses(
     Ok(())
 }
 
-/// The exit values and the words at 0 of the ends of so many transactions, and that each is witnessed.
+/// The exit values and the words at 0 of the ends that a search found, and that each is witnessed.
+fn check_all(
+    rt: &(impl Abort + AllocGlobal),
+    outcomes: &Outcomes,
+    wanted: &[(u32, u32)],
+) -> Result<(), Fail>
+    requires { IsSearch outcomes.now }
+{
+    holds(rt, outcomes.is_all);
+    let ends = ends_found(rt.alloc(), outcomes)?;
+    check_ends(rt, &ends, wanted);
+    check_witnesses(rt, outcomes, &ends)
+}
+
+/// The same of so many transactions.
 fn check_adds(
     rt: &(impl Abort + AllocGlobal),
     (transactions, times): (u32, u32),
     wanted: &[(u32, u32)],
 ) -> Result<(), Fail> {
     let outcomes = searched(rt.alloc(), &adds(transactions, times), 1, 20_000)?;
-    holds(rt, outcomes.is_all);
-    let ends = ends_found(rt.alloc(), &outcomes)?;
-    check_ends(rt, &ends, wanted);
-    check_witnesses(rt, &outcomes, &ends)
+    check_all(rt, &outcomes, wanted)
 }
 
 /// So many transactions of so many additions, and their ends: the exit value and the word at 0. A log has 113 records, and is empty again when the next

@@ -49,9 +49,21 @@ fn all_is_found_where_there_is_memory(rt: HostRuntime) -> Result<(), Fail> {
     )?
     .ok_or("too many")?;
     equal(&rt, &(all.states, all.count), &(STATES, ENDS));
+    check_found(&rt)
+}
+
+/// That the search finds all.
+fn check_found(rt: &(impl Abort + AllocGlobal)) -> Result<(), Fail> {
     let outcomes = searched(rt.alloc(), &ADDS_ONCE, 2, 1_000)?;
-    equal(&rt, &(outcomes.is_all, outcomes.len()), &(true, STATES));
-    equal(&rt, &count(rt.alloc(), &outcomes)?, &ENDS);
+    check_all(rt, &outcomes);
+    check_count(rt, &outcomes)
+}
+
+/// That it found so many ends as there are.
+fn check_count(rt: &(impl Abort + AllocGlobal), outcomes: &Outcomes) -> Result<(), Fail>
+    requires { IsSearch outcomes.now }
+{
+    equal(rt, &count(rt.alloc(), outcomes)?, &ENDS);
     Ok(())
 }
 

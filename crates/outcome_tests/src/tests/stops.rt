@@ -1,8 +1,11 @@
 //! Harts that are stopped, outside transactions and inside.
 
+ghost use Rattle.outcomes.specs.Searches.{IsSearch};
+
 use super::ends::{End, ends_found};
 use super::searches::searched;
 use crate::tests::claims::equal;
+use outcomes::Outcomes;
 use std::process::Abort;
 use std::test::Fail;
 use words::{Addr, Cause, Status};
@@ -30,12 +33,19 @@ static STOPS: [([u32; 3], Cause); 16] = [
     ([NOP, NOP, 0x0000_200b], Cause::OutsideTransaction), // tabort
 ];
 
+/// The only end that a search found, which is to have found all.
+fn end_of_all(rt: &(impl Abort + AllocGlobal), outcomes: &Outcomes) -> Result<End, Fail>
+    requires { IsSearch outcomes.now }
+{
+    let mut ends = ends_found(rt.alloc(), outcomes)?;
+    equal(rt, &(outcomes.is_all, ends.len()), &(true, 1));
+    Ok(ends.pop().ok_or("no end")?)
+}
+
 /// The only end of a program of one hart.
 fn only_end(rt: &(impl Abort + AllocGlobal), text: &[u32]) -> Result<End, Fail> {
     let outcomes = searched(rt.alloc(), text, 1, 20_000)?;
-    let mut ends = ends_found(rt.alloc(), &outcomes)?;
-    equal(rt, &(outcomes.is_all, ends.len()), &(true, 1));
-    Ok(ends.pop().ok_or("no end")?)
+    end_of_all(rt, &outcomes)
 }
 
 /// That a program of one hart has one end: it is stopped for this cause at this pc, and stands there.
