@@ -40,16 +40,16 @@ pub all_told : (asked : Search) (file : List ℕ) (before after : Sinks) → Are
     Contains (reports_of ends) (report_of f (addresses asked.words.items))))
 all_told asked file before after given =
     let o = given.0 in
-    let ends = given.1 in
-    let searched = given.2.0 in
+    let ends = given.2.0 in
+    let searched = given.1 in
     let p = searched.program in
-    let all : o.is_all ≡ true = all_of_zero o.is_all given.3 in (
+    let all : o.is_all ≡ true = all_of_zero o.is_all given.2.2 in (
       p,
       searched.can.holds,
       (
         ends,
         states_told asked o,
-        subst (λ (b : Bool). TookAll before.output after.output (ends_text ends (states_told asked o) b)) all given.4,
+        subst (λ (b : Bool). TookAll before.output after.output (ends_text ends (states_told asked o) b)) all given.2.3,
         λ g steps es w f runs stopped belongs.
             told g (search_start asked p).setting p.entry steps es w searched.can.bytes runs stopped asked.states o (addresses asked.words.items) ends searched.found all given.2.1 f belongs,
       ),
@@ -61,8 +61,8 @@ pub told_reached : (asked : Search) (file : List ℕ) (before after : Sinks) (st
     (f : Flat) × (es : List Entry) × IsRun (search_start asked p) es f × IsEnded f × (report ≡ report_of f (addresses asked.words.items))))
 told_reached asked file before after status given =
     let o = given.0 in
-    let ends = given.1 in
-    let searched = given.2.0 in
+    let ends = given.2.0 in
+    let searched = given.1 in
     let p = searched.program in (
       p,
       searched.can.holds,
@@ -70,7 +70,7 @@ told_reached asked file before after status given =
         ends,
         states_told asked o,
         o.is_all,
-        given.4,
+        given.2.3,
         λ report there.
             let e = reached (search_place asked p) asked.states o (addresses asked.words.items) ends searched.found given.2.1 report there in
             (e.1.flat, entries_of e.0, walk_runs (search_place asked p) e.1 e.0 (order_walks (search_place asked p) e.1 e.0 e.2), e.3, sym e.4),
@@ -83,13 +83,13 @@ pub told_one : (asked again : Search) (file : List ℕ) (before after earlier la
     × (reports_of ends ≡ reports_of others)
 told_one asked again file before after earlier later given other path harts memory words =
     let o = given.0 in
-    let ends = given.1 in
-    let s = given.2.0 in
+    let ends = given.2.0 in
+    let s = given.1 in
     let r = other.0 in
-    let others = other.1 in
-    let t = other.2.0 in
-    let all : o.is_all ≡ true = all_of_zero o.is_all given.3 in
-    let whole : r.is_all ≡ true = all_of_zero r.is_all other.3 in
+    let others = other.2.0 in
+    let t = other.1 in
+    let all : o.is_all ≡ true = all_of_zero o.is_all given.2.2 in
+    let whole : r.is_all ≡ true = all_of_zero r.is_all other.2.2 in
     let same : t.program ≡ s.program =
     one_in_file asked.file.now file s.program t.program s.can.holds (subst (λ (name : List ℕ). IsProgramIn name file t.program) path t.can.holds) in
     let first : search_place again t.program ≡ search_place asked s.program = λ k. booted_place (same k).segments (same k).entry (harts k) (memory k) in (
@@ -97,8 +97,8 @@ told_one asked again file before after earlier later given other path harts memo
       others,
       states_told asked o,
       states_told again r,
-      subst (λ (b : Bool). TookAll before.output after.output (ends_text ends (states_told asked o) b)) all given.4,
-      subst (λ (b : Bool). TookAll earlier.output later.output (ends_text others (states_told again r) b)) whole other.4,
+      subst (λ (b : Bool). TookAll before.output after.output (ends_text ends (states_told asked o) b)) all given.2.3,
+      subst (λ (b : Bool). TookAll earlier.output later.output (ends_text others (states_told again r) b)) whole other.2.3,
       lists_one (search_place asked s.program) asked.states again.states o r (addresses asked.words.items) ends others s.found
           (subst (λ (p : Place). Finds p again.states r) first t.found) all whole given.2.1 (subst (λ (ws : List ℕ). AreEndsOf r ws others) words other.2.1),
     )

@@ -118,27 +118,29 @@ module _ (o : Outcomes) (ends : List End) (before after : SinkState) where
   IsUnwitnessed (Some w) why = ((end_numbered ends w.outcome ≡ None) × (why ≡ fault.NoOutcome w.outcome) × IsUntouched before after)
       ⊎ ((e : End) × (end_numbered ends w.outcome ≡ Some e) × IsRunUnput o e.place w.path before after why)
 
--- these are the ends of the program in a file that a search found
-abbrev pub AreFound : Search → List ℕ → Outcomes → List End → Type 0
-AreFound asked file o ends = IsSearched asked file o × AreEndsOf o (addresses asked.words.items) ends
-
-module _ (asked : Search) (file : List ℕ) (before after : Sinks) where
-  -- what was put is each end's report, behind its number, and how many there are
-  abbrev pub AreEndsGiven : ℕ → Type 0
-  AreEndsGiven status = (o : Outcomes) × (ends : List End) × AreFound asked file o ends
+-- what is put of all that a search found
+module _ (asked : Search) (o : Outcomes) (before after : Sinks) where
+  -- each end's report, behind its number, and how many there are; and the file took the run that is asked for
+  abbrev pub AreEndsTold : ℕ → Type 0
+  AreEndsTold status = (ends : List End) × AreEndsOf o (addresses asked.words.items) ends
       × (status ≡ search_status o.is_all)
       × TookAll before.output after.output (ends_text ends (states_told asked o) o.is_all)
       × IsWitnessed o ends before.file after.file asked.witness
 
-  -- why not: there was no search, or not the run that is asked for, and standard output took nothing; or it took a beginning
-  abbrev pub IsUnfound : Fault → Type 0
-  IsUnfound why = (IsUnsearched asked file why × IsUntouched before.file after.file)
-      ⊎ ((o : Outcomes) × (ends : List End) × AreFound asked file o ends × IsUnwitnessed o ends before.file after.file asked.witness why)
+  -- why not: memory ran out before the ends were there, or the run that is asked for could not be put, and standard output took nothing; or it took a beginning
+  abbrev pub AreEndsUntold : Fault → Type 0
+  AreEndsUntold why = ((why ≡ fault.NoMemory) × IsUntouched before.file after.file × IsUntouched before.output after.output)
+      ⊎ ((ends : List End) × AreEndsOf o (addresses asked.words.items) ends
+      × ((IsUnwitnessed o ends before.file after.file asked.witness why × IsUntouched before.output after.output)
+      ⊎ ((why ≡ fault.Unwritten) × TookPart before.output after.output (ends_text ends (states_told asked o) o.is_all)
+      × IsWitnessed o ends before.file after.file asked.witness)))
 
-  abbrev pub AreEndsCut : Fault → Type 0
-  AreEndsCut why = (why ≡ fault.Unwritten) × ((o : Outcomes) × (ends : List End) × AreFound asked file o ends
-      × TookPart before.output after.output (ends_text ends (states_told asked o) o.is_all)
-      × IsWitnessed o ends before.file after.file asked.witness)
+module _ (asked : Search) (file : List ℕ) (before after : Sinks) where
+  -- the program in a file was searched, and what was found was put
+  abbrev pub AreEndsGiven : ℕ → Type 0
+  AreEndsGiven status = (o : Outcomes) × IsSearched asked file o × AreEndsTold asked o before after status
 
+  -- why not: there was no search, and nothing was put; or not all of what it found
   abbrev pub AreEndsNotGiven : Fault → Type 0
-  AreEndsNotGiven why = (IsUnfound why × IsUntouched before.output after.output) ⊎ AreEndsCut why
+  AreEndsNotGiven why = (IsUnsearched asked file why × IsUntouched before.file after.file × IsUntouched before.output after.output)
+      ⊎ ((o : Outcomes) × IsSearched asked file o × AreEndsUntold asked o before after why)

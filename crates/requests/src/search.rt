@@ -5,7 +5,7 @@ ghost use Rattle.outcomes.specs.Searches.{setting_at, IsSearch};
 ghost use Rattle.render.specs.Reports.{AllReadable};
 ghost use Rattle.texts.specs.Puts.{Puts};
 ghost use Rattle.outcomes.specs.Ends.{AreEndsOf};
-ghost use Rattle.requests.specs.Ends.{search_status, states_told, end_numbered, lines_of, IsSearched, IsUnsearched, IsRunPut, IsRunUnput, IsWitnessed, IsUnwitnessed, AreEndsGiven, AreEndsNotGiven};
+ghost use Rattle.requests.specs.Ends.{search_status, states_told, end_numbered, lines_of, IsSearched, IsUnsearched, IsRunPut, IsRunUnput, IsWitnessed, IsUnwitnessed, AreEndsGiven, AreEndsNotGiven, AreEndsTold, AreEndsUntold};
 ghost use Rattle.requests.specs.Runs.{addresses};
 
 use crate::ends_text::put_ends;
@@ -47,6 +47,27 @@ pub(crate) fn find_ends<'a, P: Live, T: Page, O: Sink>(
     let searched = search(alloc, asked, file, progress);
     progress.end();
     let found = searched?;
+    tell_ends(alloc, asked, &found, page, out)
+}
+
+/// Puts the reports on all ends that a search found into `out`; and into `page` a run to one of them, if one is asked for. It answers the status that
+/// the program ends with.
+fn tell_ends<'a, T: Page, O: Sink>(
+    alloc: Global,
+    asked: &Search<'a>,
+    found: &Searched,
+    page: &mut T,
+    out: &mut O,
+) -> Result<u8, Fault<'a>>
+    requires search { IsSearch found.now.outcomes }
+    requires addrs { found.now.addrs.items ≡ addresses asked.now.words.items }
+    requires readable { AllReadable (setting_at found.now.outcomes) found.now.addrs.items }
+    ensures { MatchResult result
+        (AreEndsTold asked.now found.now.outcomes
+        (record { output = O.state out.old; file = T.state page.old }) (record { output = O.state out.new; file = T.state page.new }))
+        (AreEndsUntold asked.now found.now.outcomes
+        (record { output = O.state out.old; file = T.state page.old }) (record { output = O.state out.new; file = T.state page.new })) }
+{
     let ends = ends_of(alloc, &found.outcomes, &found.addrs)?;
     put_witness(alloc, asked.witness, &found.outcomes, &ends, page)?;
     let is_all = found.outcomes.is_all;

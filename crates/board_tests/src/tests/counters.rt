@@ -13,6 +13,26 @@ use std::sync::{Mutex, Wait};
 use std::test::Fail;
 use std::thread::Threads;
 
+/// Has so many harts serve a desk in threads, so many turns each. The answer is whether all of them have ended.
+fn serve_all<'p, const SETS: usize, const WAYS: usize, R: Threads + Wait + Abort + Sync>(
+    rt: &R,
+    desk: &Mutex<Board<'p, SETS, WAYS>>,
+    harts: usize,
+    turns: u64,
+) -> bool
+    requires sets { 0 < SETS }
+    requires ways { 0 < WAYS }
+    requires lines { SETS * WAYS < 2 ^ 32 }
+    requires few { SETS < 2 ^ 32 }
+    requires harts { harts ≤ 8 }
+{
+    let gate = Runs { most: 64 };
+    let ends = serve::<Board<'p, SETS, WAYS>, Runs, R>(rt, desk, harts, &gate, turns).expect(
+        rt, "memory",
+    );
+    ends.iter().all(|end| *end == End::Stopped)
+}
+
 /// The board of a program that so many harts have run in threads, so many turns each, and whether all of them have ended.
 fn served<'p, const SETS: usize, const WAYS: usize, R: Threads + Wait + Abort + AllocGlobal + Sync>(
     rt: &R,
@@ -30,16 +50,26 @@ fn served<'p, const SETS: usize, const WAYS: usize, R: Threads + Wait + Abort + 
         rt, "memory",
     );
     let desk = Mutex::new(board);
-    let gate = Runs { most: 64 };
-    let ends = serve::<Board<'p, SETS, WAYS>, Runs, R>(
-        rt,
-        &desk,
-        harts as usize,
-        &gate,
-        turns,
-    ).expect(rt, "memory");
-    let stopped = ends.iter().all(|end| *end == End::Stopped);
+    let stopped = serve_all(rt, &desk, harts as usize, turns);
     (desk.into_inner().finish(), stopped)
+}
+
+/// That a history makes its end again, and that the harts have counted to a number if all have ended.
+fn check_end<const SETS: usize, const WAYS: usize>(
+    rt: &(impl Abort + AllocGlobal),
+    end: &Finished<'_, SETS, WAYS>,
+    stopped: bool,
+    count: u32,
+)
+    requires sets { 0 < SETS }
+    requires ways { 0 < WAYS }
+    requires lines { SETS * WAYS < 2 ^ 32 }
+    requires few { SETS < 2 ^ 32 }
+{
+    check_again(rt, end);
+    if stopped {
+        equal(rt, &peek(&end.machine, place()), &Some(count));
+    }
 }
 
 /// That what so many harts did in threads is made again by its history, and that they have counted to a number if all have ended. The answer is
@@ -57,10 +87,7 @@ fn check_count<
 {
     let program = program(rt.alloc(), text)?;
     let (end, stopped) = served::<SETS, WAYS, R>(rt, &program, harts, turns);
-    check_again(rt, &end);
-    if stopped {
-        equal(rt, &peek(&end.machine, place()), &Some(count));
-    }
+    check_end(rt, &end, stopped, count);
     Ok(stopped)
 }
 

@@ -3,6 +3,7 @@
 use super::play::{Small, TEN, booted, check_again, make, one, zero};
 use crate::tests::claims::{equal, holds};
 use board::Lease;
+use loader::Program;
 use reference::program;
 use std::process::Abort;
 use std::test::Fail;
@@ -30,15 +31,25 @@ fn check_lease(rt: &impl Abort, lease: &Lease<'_, 2, 1>, hart: HartId, steps: us
     equal(rt, &lease.is_empty(), &(steps == 0));
 }
 
+/// Lends hart 0, whose lease stays its own.
+fn lend_to_stay<'p>(rt: &impl Abort, board: &mut Small<'p>) {
+    let mut lease = board.lend(zero()).expect(rt, "hart 0 runs");
+    check_stays(rt, board, &mut lease);
+    equal(rt, &board.history().len(), &16);
+}
+
+/// Asserts that a lease stays where the other hart of a program has stopped.
+fn check_stopped(rt: &(impl Abort + AllocGlobal), program: &Program) {
+    let mut board = booted(rt, program, 2);
+    core_steps(rt, &mut board, 13);
+    lend_to_stay(rt, &mut board);
+    check_again(rt, &board.finish());
+}
+
 #[test]
 fn a_lease_stays_where_the_hart_does_not_run(rt: HostRuntime) -> Result<(), Fail> {
     let program = program(rt.alloc(), &TEN)?;
-    let mut board = booted(&rt, &program, 2);
-    core_steps(&rt, &mut board, 13);
-    let mut lease = board.lend(zero()).expect(&rt, "hart 0 runs");
-    check_stays(&rt, &mut board, &mut lease);
-    equal(&rt, &board.history().len(), &16);
-    check_again(&rt, &board.finish());
+    check_stopped(&rt, &program);
     Ok(())
 }
 
@@ -51,13 +62,23 @@ fn check_serves_again<'p>(rt: &impl Abort, board: &mut Small<'p>, lease: &mut Le
     holds(rt, board.settle(lease).is_ok());
 }
 
+/// Lends hart 0, whose lease then serves hart 1.
+fn lend_to_serve<'p>(rt: &impl Abort, board: &mut Small<'p>) {
+    let mut lease = board.lend(zero()).expect(rt, "hart 0 runs");
+    check_serves_again(rt, board, &mut lease);
+    equal(rt, &board.history().len(), &12);
+}
+
+/// Asserts that a lease of one hart of a program serves the other.
+fn check_running(rt: &(impl Abort + AllocGlobal), program: &Program) {
+    let mut board = booted(rt, program, 2);
+    lend_to_serve(rt, &mut board);
+    check_again(rt, &board.finish());
+}
+
 #[test]
 fn a_lease_serves_again(rt: HostRuntime) -> Result<(), Fail> {
     let program = program(rt.alloc(), &TEN)?;
-    let mut board = booted(&rt, &program, 2);
-    let mut lease = board.lend(zero()).expect(&rt, "hart 0 runs");
-    check_serves_again(&rt, &mut board, &mut lease);
-    equal(&rt, &board.history().len(), &12);
-    check_again(&rt, &board.finish());
+    check_running(&rt, &program);
     Ok(())
 }

@@ -158,6 +158,19 @@ fn work_twice<'h>(
     true
 }
 
+/// A worker on a heap of which so much is taken. The answer is whether it was refused memory.
+fn work_beside<'p, 'h>(
+    rt: &(impl Abort + Wait + AllocGlobal),
+    program: &'p Program,
+    heap: &'h LocalHeap,
+    rest: Vec<u8, &'h LocalHeap>,
+) -> bool {
+    let desk = Mutex::new(booted(rt, program, heap));
+    let was_refused = work_twice(rt, &desk, rest);
+    check_end(rt, &desk.into_inner().finish());
+    was_refused
+}
+
 /// A worker on a heap on which so many times 32 bytes are left. The answer is whether it was refused memory.
 fn work_on<'p, 'h>(
     rt: &(impl Abort + Wait + AllocGlobal),
@@ -167,13 +180,10 @@ fn work_on<'p, 'h>(
 ) -> bool
     requires { places < 256 }
 {
-    let Ok(rest) = taken(heap, 32 * places) else {
-        return false;
-    };
-    let desk = Mutex::new(booted(rt, program, heap));
-    let was_refused = work_twice(rt, &desk, rest);
-    check_end(rt, &desk.into_inner().finish());
-    was_refused
+    match taken(heap, 32 * places) {
+        Ok(rest) => work_beside(rt, program, heap, rest),
+        Err(AllocError) => false,
+    }
 }
 
 #[test]

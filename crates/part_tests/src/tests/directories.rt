@@ -27,8 +27,12 @@ enum Row {
     Done(usize, bool, Option<Block>),
     /// The block is busy by this hart's request, which is given it in this state.
     Busy(usize, LineState),
-    /// The block's entry, which isn't busy.
-    Entry(Owner, &'static [usize]),
+    /// The block isn't busy, and this hart owns it.
+    Owned(usize),
+    /// The block isn't busy, and this hart owned it and is asked still.
+    Sticky(usize),
+    /// The block isn't busy, and has no owner, but these sharers.
+    Shared(&'static [usize]),
     /// Memory's content of the block.
     Memory(Block),
     /// How many blocks have an entry.
@@ -207,6 +211,20 @@ fn check_used(rt: &impl Abort, directory: &Directory, want: usize) {
     equal(rt, &directory.used(), &want);
 }
 
+/// A row that is about what can be read of the directory.
+fn check_seen(rt: &impl Abort, directory: &Directory, row: &Row) {
+    match *row {
+        Row::Busy(number, give) => check_busy(rt, directory, number, give),
+        Row::Owned(number) => check_entry(rt, directory, Owner::Owned(hart(rt, number)), &[]),
+        Row::Sticky(number) => check_entry(rt, directory, Owner::Sticky(hart(rt, number)), &[]),
+        Row::Shared(sharers) => check_entry(rt, directory, Owner::Nobody, sharers),
+        Row::Memory(content) => check_memory(rt, directory, content),
+        Row::Used(want) => check_used(rt, directory, want),
+        _ => holds(rt, false),
+    }
+}
+
+/// A row that is about what arrives, or about what can be read.
 fn check_row(rt: &impl Abort, directory: &mut Directory, row: &Row) {
     match *row {
         Row::Grants(number, kind, give, content, expect) => {
@@ -230,10 +248,7 @@ fn check_row(rt: &impl Abort, directory: &mut Directory, row: &Row) {
             let received = done(rt, directory, number, ok, content);
             check_count(rt, &received, Some(0));
         }
-        Row::Busy(number, give) => check_busy(rt, directory, number, give),
-        Row::Entry(owner, sharers) => check_entry(rt, directory, owner, sharers),
-        Row::Memory(content) => check_memory(rt, directory, content),
-        Row::Used(want) => check_used(rt, directory, want),
+        other => check_seen(rt, directory, &other),
     }
 }
 
@@ -247,91 +262,99 @@ fn check(rt: &(impl Abort + AllocGlobal), rows: &[Row]) -> Result<(), Fail> {
     Ok(())
 }
 
+/// Harts ask for a block that nobody has.
+static GIVEN_ALONE: [Row; 11] = [
+    Row::Used(0),
+    Row::Grants(0, Kind::Read, LineState::Exclusive, ZEROS, &[]),
+    Row::Busy(0, LineState::Exclusive),
+    // A busy block holds the next request, and a Put.
+    Row::HoldsGet(1, Kind::Read),
+    Row::HoldsPut(0, ONES),
+    // A Done from another hart changes nothing.
+    Row::Done(1, true, None),
+    Row::HoldsGet(1, Kind::Read),
+    Row::Done(0, true, None),
+    Row::Owned(0),
+    Row::Used(1),
+    // Its owner is given M, whatever it asks for.
+    Row::Grants(0, Kind::Read, LineState::Modified, ZEROS, &[]),
+];
+
 #[test]
 fn a_block_that_nobody_has_is_given_alone(rt: HostRuntime) -> Result<(), Fail> {
-    let rows = [
-        Row::Used(0),
-        Row::Grants(0, Kind::Read, LineState::Exclusive, ZEROS, &[]),
-        Row::Busy(0, LineState::Exclusive),
-        // A busy block holds the next request, and a Put.
-        Row::HoldsGet(1, Kind::Read),
-        Row::HoldsPut(0, ONES),
-        // A Done from another hart changes nothing.
-        Row::Done(1, true, None),
-        Row::HoldsGet(1, Kind::Read),
-        Row::Done(0, true, None),
-        Row::Entry(Owner::Owned(HartId::new(0)), &[]),
-        Row::Used(1),
-        // Its owner is given M, whatever it asks for.
-        Row::Grants(0, Kind::Read, LineState::Modified, ZEROS, &[]),
-    ];
-    check(&rt, &rows)
+    check(&rt, &GIVEN_ALONE)
 }
+
+/// Harts read what another owns, and then one of them writes.
+static READ_AND_WRITTEN: [Row; 15] = [
+    Row::Grants(3, Kind::Write, LineState::Modified, ZEROS, &[]),
+    Row::Done(3, true, None),
+    // The owner's content goes to memory.
+    Row::Grants(1, Kind::Read, LineState::Shared, ZEROS, &[3]),
+    Row::Done(1, true, Some(ONES)),
+    Row::Shared(&[1, 3]),
+    Row::Memory(ONES),
+    // A third reader joins, and nobody has to answer.
+    Row::Grants(0, Kind::Read, LineState::Shared, ONES, &[]),
+    Row::Done(0, true, None),
+    Row::Shared(&[0, 1, 3]),
+    // A writer awaits each other sharer; refused, it changes nothing.
+    Row::Grants(1, Kind::Write, LineState::Modified, ONES, &[0, 3]),
+    Row::Done(1, false, None),
+    Row::Shared(&[0, 1, 3]),
+    Row::Grants(1, Kind::Write, LineState::Modified, ONES, &[0, 3]),
+    Row::Done(1, true, None),
+    Row::Owned(1),
+];
 
 #[test]
 fn a_reader_shares_with_the_owner(rt: HostRuntime) -> Result<(), Fail> {
-    let rows = [
-        Row::Grants(3, Kind::Write, LineState::Modified, ZEROS, &[]),
-        Row::Done(3, true, None),
-        // The owner's content goes to memory.
-        Row::Grants(1, Kind::Read, LineState::Shared, ZEROS, &[3]),
-        Row::Done(1, true, Some(ONES)),
-        Row::Entry(Owner::Nobody, &[1, 3]),
-        Row::Memory(ONES),
-        // A third reader joins, and nobody has to answer.
-        Row::Grants(0, Kind::Read, LineState::Shared, ONES, &[]),
-        Row::Done(0, true, None),
-        Row::Entry(Owner::Nobody, &[0, 1, 3]),
-        // A writer awaits each other sharer; refused, it changes nothing.
-        Row::Grants(1, Kind::Write, LineState::Modified, ONES, &[0, 3]),
-        Row::Done(1, false, None),
-        Row::Entry(Owner::Nobody, &[0, 1, 3]),
-        Row::Grants(1, Kind::Write, LineState::Modified, ONES, &[0, 3]),
-        Row::Done(1, true, None),
-        Row::Entry(Owner::Owned(HartId::new(1)), &[]),
-    ];
-    check(&rt, &rows)
+    check(&rt, &READ_AND_WRITTEN)
 }
+
+/// An owner gives up a marked line.
+static PUT_MARKED: [Row; 15] = [
+    Row::Grants(2, Kind::Write, LineState::Modified, ZEROS, &[]),
+    Row::Done(2, true, None),
+    // The Put of a hart that isn't the owner is acknowledged, and that is all.
+    Row::Acknowledges(0, ONES, true),
+    Row::Owned(2),
+    Row::Memory(ZEROS),
+    Row::Acknowledges(2, TWOS, true),
+    Row::Sticky(2),
+    Row::Memory(TWOS),
+    // It is given M for a read.
+    Row::Grants(2, Kind::Read, LineState::Modified, TWOS, &[]),
+    Row::Done(2, false, None),
+    Row::Sticky(2),
+    // Another reader asks it, and then shares with nobody.
+    Row::Grants(0, Kind::Read, LineState::Shared, TWOS, &[2]),
+    Row::Done(0, true, Some(ONES)),
+    Row::Shared(&[0]),
+    Row::Memory(TWOS),
+];
 
 #[test]
 fn a_marked_put_leaves_a_sticky_owner(rt: HostRuntime) -> Result<(), Fail> {
-    let rows = [
-        Row::Grants(2, Kind::Write, LineState::Modified, ZEROS, &[]),
-        Row::Done(2, true, None),
-        // The Put of a hart that isn't the owner is acknowledged, and that is all.
-        Row::Acknowledges(0, ONES, true),
-        Row::Entry(Owner::Owned(HartId::new(2)), &[]),
-        Row::Memory(ZEROS),
-        Row::Acknowledges(2, TWOS, true),
-        Row::Entry(Owner::Sticky(HartId::new(2)), &[]),
-        Row::Memory(TWOS),
-        // It is given M for a read.
-        Row::Grants(2, Kind::Read, LineState::Modified, TWOS, &[]),
-        Row::Done(2, false, None),
-        Row::Entry(Owner::Sticky(HartId::new(2)), &[]),
-        // Another reader asks it, and then shares with nobody.
-        Row::Grants(0, Kind::Read, LineState::Shared, TWOS, &[2]),
-        Row::Done(0, true, Some(ONES)),
-        Row::Entry(Owner::Nobody, &[0]),
-        Row::Memory(TWOS),
-    ];
-    check(&rt, &rows)
+    check(&rt, &PUT_MARKED)
 }
+
+/// A block comes into use and out of it again.
+static OUT_OF_USE: [Row; 11] = [
+    Row::Grants(2, Kind::Read, LineState::Exclusive, ZEROS, &[]),
+    Row::Used(1),
+    Row::Done(2, false, None),
+    Row::Used(0),
+    Row::Grants(2, Kind::Write, LineState::Modified, ZEROS, &[]),
+    Row::Done(2, true, None),
+    Row::Used(1),
+    Row::Acknowledges(2, ONES, false),
+    Row::Used(0),
+    Row::Shared(&[]),
+    Row::Memory(ONES),
+];
 
 #[test]
 fn a_block_out_of_use_has_no_entry(rt: HostRuntime) -> Result<(), Fail> {
-    let rows = [
-        Row::Grants(2, Kind::Read, LineState::Exclusive, ZEROS, &[]),
-        Row::Used(1),
-        Row::Done(2, false, None),
-        Row::Used(0),
-        Row::Grants(2, Kind::Write, LineState::Modified, ZEROS, &[]),
-        Row::Done(2, true, None),
-        Row::Used(1),
-        Row::Acknowledges(2, ONES, false),
-        Row::Used(0),
-        Row::Entry(Owner::Nobody, &[]),
-        Row::Memory(ONES),
-    ];
-    check(&rt, &rows)
+    check(&rt, &OUT_OF_USE)
 }

@@ -110,40 +110,48 @@ fn holds_113_records(rt: HostRuntime) {
     check_restored(&rt, &log, 112, 112);
 }
 
+/// That the words of a record are an address and eight zeros.
+fn check_record(rt: &impl Abort) {
+    let mut log = empty();
+    check_appended(rt, &mut log, 256, 0, Ok(()));
+    check_word(rt, &log, BASE, Some(0x2000));
+    for k in 1..9 {
+        check_word(rt, &log, BASE + 4 * k, Some(0));
+    }
+}
+
+/// Words of a log with two records of one block.
+static TWICE: [(u32, Option<u32>); 4] = [
+    (0xff000, Some(0x2000)),
+    (0xff004, Some(0)),
+    (0xff024, Some(0x2000)),
+    (0xff028, Some(7)),
+];
+
 #[test]
 fn bytes_stand_where_they_should(rt: HostRuntime) {
-    let mut log = empty();
-    check_appended(&rt, &mut log, 256, 0, Ok(()));
-    check_word(&rt, &log, BASE, Some(0x2000));
-    for k in 1..9 {
-        check_word(&rt, &log, BASE + 4 * k, Some(0));
-    }
+    check_record(&rt);
     let mut log = stored_twice(&rt);
-    let words = [
-        (0xff000, Some(0x2000)),
-        (0xff004, Some(0)),
-        (0xff024, Some(0x2000)),
-        (0xff028, Some(7)),
-    ];
-    check_words(&rt, &log, &words);
+    check_words(&rt, &log, &TWICE);
     check_len(&rt, &log, 2);
     check_popped(&rt, &mut log, 7);
-    check_words(&rt, &log, &words);
+    check_words(&rt, &log, &TWICE);
     reset(&mut log);
     check_len(&rt, &log, 0);
     check_word(&rt, &log, 0xff028, Some(7));
 }
 
+/// Words at the ends of a log, and outside it.
+static ENDS: [(u32, Option<u32>); 4] = [
+    (0xfeffc, None),
+    (0xff002, None),
+    (0xffffc, Some(0)),
+    (0x100000, None),
+];
+
 #[test]
 fn words_are_within_the_log(rt: HostRuntime) {
-    let log = stored_twice(&rt);
-    let words = [
-        (0xfeffc, None),
-        (0xff002, None),
-        (0xffffc, Some(0)),
-        (0x100000, None),
-    ];
-    check_words(&rt, &log, &words);
+    check_words(&rt, &stored_twice(&rt), &ENDS);
 }
 
 #[test]
@@ -159,16 +167,21 @@ fn the_oldest_image_is_restored(rt: HostRuntime) {
     check_held(&rt, &log, 256, false);
 }
 
-#[test]
-fn other_bytes_are_another_log(rt: HostRuntime) -> Result<(), Fail> {
-    let mut log = stored_twice(&rt);
+/// That two logs without records differ by the bytes that they hold.
+fn check_bytes(rt: &impl Abort) {
+    let mut log = stored_twice(rt);
     let mut fresh = empty();
     reset(&mut log);
-    check_len(&rt, &log, 0);
-    check_len(&rt, &fresh, 0);
-    check_same(&rt, &log, &fresh, false);
+    check_len(rt, &log, 0);
+    check_len(rt, &fresh, 0);
+    check_same(rt, &log, &fresh, false);
     fresh = log;
-    check_same(&rt, &log, &fresh, true);
+    check_same(rt, &log, &fresh, true);
+}
+
+#[test]
+fn other_bytes_are_another_log(rt: HostRuntime) -> Result<(), Fail> {
+    check_bytes(&rt);
     equal_text(
         &rt,
         LogFull.to_string(rt.alloc())?.as_str(),
@@ -177,31 +190,40 @@ fn other_bytes_are_another_log(rt: HostRuntime) -> Result<(), Fail> {
     Ok(())
 }
 
+/// Words of a log whose second record is undone, and whose first is another since.
+static OVERWRITTEN: [(u32, Option<u32>); 4] = [
+    (0xff000, Some(0x4000)),
+    (0xff004, Some(3)),
+    (0xff024, Some(0x2000)),
+    (0xff028, Some(7)),
+];
+
+/// Words of a log that has had one record.
+static ONCE: [(u32, Option<u32>); 4] = [
+    (0xff000, Some(0x4000)),
+    (0xff004, Some(3)),
+    (0xff024, Some(0)),
+    (0xff028, Some(0)),
+];
+
+/// That a log of one record and other bytes becomes one which has had that record alone.
+fn check_shortened(rt: &impl Abort, log: &mut UndoLog) {
+    let mut shorter = empty();
+    check_appended(rt, &mut shorter, 512, 3, Ok(()));
+    check_same(rt, log, &shorter, false);
+    assign(log, &shorter);
+    check_same(rt, log, &shorter, true);
+    check_len(rt, log, 1);
+    check_words(rt, log, &ONCE);
+}
+
 #[test]
 fn becomes_a_copy_of_a_shorter_log(rt: HostRuntime) {
     let mut log = stored_twice(&rt);
     reset(&mut log);
     check_appended(&rt, &mut log, 512, 3, Ok(()));
-    let words = [
-        (0xff000, Some(0x4000)),
-        (0xff004, Some(3)),
-        (0xff024, Some(0x2000)),
-        (0xff028, Some(7)),
-    ];
-    check_words(&rt, &log, &words);
-    let mut shorter = empty();
-    check_appended(&rt, &mut shorter, 512, 3, Ok(()));
-    check_same(&rt, &log, &shorter, false);
-    assign(&mut log, &shorter);
-    check_same(&rt, &log, &shorter, true);
-    check_len(&rt, &log, 1);
-    let words = [
-        (0xff000, Some(0x4000)),
-        (0xff004, Some(3)),
-        (0xff024, Some(0)),
-        (0xff028, Some(0)),
-    ];
-    check_words(&rt, &log, &words);
+    check_words(&rt, &log, &OVERWRITTEN);
+    check_shortened(&rt, &mut log);
 }
 
 #[test]

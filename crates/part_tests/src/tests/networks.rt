@@ -26,15 +26,14 @@ fn send(rt: &impl Abort, net: &mut Net, block: u32) -> usize {
     net.send(ack(block))
 }
 
-/// A network, and the keys of its three messages, which are told by 1, 2 and 3.
-fn with_three(rt: &(impl Abort + AllocGlobal)) -> (Net, [usize; 3]) {
-    let mut net = Net::new(rt.alloc());
+/// Three messages are sent, which are told by 1, 2 and 3, where there is no room yet: their keys.
+fn send_three(rt: &impl Abort, net: &mut Net) -> [usize; 3] {
     equal(rt, &net.room(), &0);
     net.reserve(3).expect(rt, "memory");
-    let first = send(rt, &mut net, 1);
-    let second = send(rt, &mut net, 2);
-    let third = send(rt, &mut net, 3);
-    (net, [first, second, third])
+    let first = send(rt, net, 1);
+    let second = send(rt, net, 2);
+    let third = send(rt, net, 3);
+    [first, second, third]
 }
 
 fn check_message(rt: &impl Abort, net: &Net, key: usize, want: Option<Message>) {
@@ -75,21 +74,26 @@ fn check_key(rt: &impl Abort, key: usize, want: usize) {
     equal(rt, &key, &want);
 }
 
+/// That a network which is empty at first keeps the order of its messages.
+fn check_order(rt: &impl Abort, net: &mut Net) {
+    let [first, second, third] = send_three(rt, net);
+    check_message(rt, net, third, Some(ack(3)));
+    check_message(rt, net, 100, None);
+    check_oldest(rt, net, first);
+    check_taken(rt, net, first, Some(ack(1)));
+    check_taken(rt, net, first, None);
+    // The free key is taken again, by a message that is the last all the same.
+    let fourth = send(rt, net, 4);
+    check_key(rt, fourth, first);
+    check_oldest(rt, net, second);
+    check_message(rt, net, second, Some(ack(2)));
+    check_oldest_above(rt, net, 3, Some(fourth));
+    check_oldest_above(rt, net, 4, None);
+}
+
 #[test]
 fn messages_keep_their_order(rt: HostRuntime) {
-    let (mut net, [first, second, third]) = with_three(&rt);
-    check_message(&rt, &net, third, Some(ack(3)));
-    check_message(&rt, &net, 100, None);
-    check_oldest(&rt, &net, first);
-    check_taken(&rt, &mut net, first, Some(ack(1)));
-    check_taken(&rt, &mut net, first, None);
-    // The free key is taken again, by a message that is the last all the same.
-    let fourth = send(&rt, &mut net, 4);
-    check_key(&rt, fourth, first);
-    check_oldest(&rt, &net, second);
-    check_message(&rt, &net, second, Some(ack(2)));
-    check_oldest_above(&rt, &net, 3, Some(fourth));
-    check_oldest_above(&rt, &net, 4, None);
+    check_order(&rt, &mut Net::new(rt.alloc()));
 }
 
 /// That so much room isn't given.
@@ -97,31 +101,46 @@ fn check_refused(rt: &impl Abort, net: &mut Net, count: usize) {
     holds(rt, net.reserve(count).is_err());
 }
 
+/// That a network which is empty at first loses nothing where no room is given.
+fn check_refusal(rt: &impl Abort, net: &mut Net) {
+    let [first, _, third] = send_three(rt, net);
+    check_refused(rt, net, usize::MAX / 2);
+    check_message(rt, net, third, Some(ack(3)));
+    check_oldest(rt, net, first);
+    check_message(rt, net, first, Some(ack(1)));
+}
+
 #[test]
 fn a_refused_growth_loses_nothing(rt: HostRuntime) {
-    let (mut net, [first, _, third]) = with_three(&rt);
-    check_refused(&rt, &mut net, usize::MAX / 2);
-    check_message(&rt, &net, third, Some(ack(3)));
-    check_oldest(&rt, &net, first);
-    check_message(&rt, &net, first, Some(ack(1)));
+    check_refusal(&rt, &mut Net::new(rt.alloc()));
+}
+
+/// That these messages come by age: those told by 2, 3 and 4.
+fn check_ages(rt: &impl Abort, net: &Net, [second, third, fourth]: [usize; 3]) {
+    check_next(rt, net, None, Some(second));
+    check_next(rt, net, Some(second), Some(third));
+    check_next(rt, net, Some(third), Some(fourth));
+    check_next(rt, net, Some(fourth), None);
+    check_message(rt, net, second, Some(ack(2)));
+    check_message(rt, net, third, Some(ack(3)));
+    check_message(rt, net, fourth, Some(ack(4)));
+    // After a key with nothing under it comes the oldest message.
+    check_next(rt, net, Some(100), Some(second));
+}
+
+/// That in a network which is empty at first the messages come by age.
+fn check_by_age(rt: &impl Abort, net: &mut Net) {
+    check_next(rt, net, None, None);
+    let [first, second, third] = send_three(rt, net);
+    check_next(rt, net, None, Some(first));
+    check_taken(rt, net, first, Some(ack(1)));
+    let fourth = send(rt, net, 4);
+    // The key of the first message is taken again.
+    check_key(rt, fourth, first);
+    check_ages(rt, net, [second, third, fourth]);
 }
 
 #[test]
 fn messages_come_by_age(rt: HostRuntime) {
-    check_next(&rt, &Net::new(rt.alloc()), None, None);
-    let (mut net, [first, second, third]) = with_three(&rt);
-    check_next(&rt, &net, None, Some(first));
-    check_taken(&rt, &mut net, first, Some(ack(1)));
-    let fourth = send(&rt, &mut net, 4);
-    // The key of the first message is taken again.
-    check_key(&rt, fourth, first);
-    check_next(&rt, &net, None, Some(second));
-    check_next(&rt, &net, Some(second), Some(third));
-    check_next(&rt, &net, Some(third), Some(fourth));
-    check_next(&rt, &net, Some(fourth), None);
-    check_message(&rt, &net, second, Some(ack(2)));
-    check_message(&rt, &net, third, Some(ack(3)));
-    check_message(&rt, &net, fourth, Some(ack(4)));
-    // After a key with nothing under it comes the oldest message.
-    check_next(&rt, &net, Some(100), Some(second));
+    check_by_age(&rt, &mut Net::new(rt.alloc()));
 }

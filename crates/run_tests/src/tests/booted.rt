@@ -2,7 +2,7 @@
 
 ghost use Rattle.std.specs.Prelude.{◌<◌, ◌*◌, ◌^◌};
 
-use loader::read_elf;
+use loader::{Program, read_elf};
 use machine::Machine;
 use reference::elf_file;
 use std::alloc::Global;
@@ -29,6 +29,13 @@ pub(crate) const STORES_ONCE: [u32; 6] = [
     0x0000_0073,
 ];
 
+/// A program of these words.
+fn program_of(alloc: Global, text: &[u32]) -> Result<Program, Fail> {
+    let file = elf_file(alloc, text)?;
+    let program = read_elf(alloc, &file);
+    Ok(program?)
+}
+
 /// A machine of so many harts and bytes of memory at the start of a program.
 pub(crate) fn booted_in<const SETS: usize, const WAYS: usize>(
     alloc: Global,
@@ -40,13 +47,18 @@ pub(crate) fn booted_in<const SETS: usize, const WAYS: usize>(
     requires ways { 0 < WAYS }
     requires lines { SETS * WAYS < 2 ^ 32 }
 {
-    let file = elf_file(alloc, text)?;
-    Ok(Machine::boot(alloc, read_elf(alloc, &file)?, harts, size)?)
+    Ok(Machine::boot(alloc, program_of(alloc, text)?, harts, size)?)
+}
+
+/// A program of these words, where there is the memory for it.
+fn expect_program(rt: &(impl Abort + AllocGlobal), text: &[u32]) -> Program {
+    let file = elf_file(rt.alloc(), text).expect(rt, "memory");
+    let program = read_elf(rt.alloc(), &file);
+    program.expect(rt, "a program")
 }
 
 /// A machine of so many harts at the start of a program.
 pub(crate) fn booted(rt: &(impl Abort + AllocGlobal), text: &[u32], harts: u32) -> Machine<16, 4> {
-    let file = elf_file(rt.alloc(), text).expect(rt, "memory");
-    let program = read_elf(rt.alloc(), &file).expect(rt, "a program");
+    let program = expect_program(rt, text);
     Machine::boot(rt.alloc(), program, harts, 131_072).expect(rt, "a machine")
 }

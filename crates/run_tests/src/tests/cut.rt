@@ -50,16 +50,8 @@ fn check_done(
     Ok(())
 }
 
-/// Does a command that goes on or comes to the limit of its turns.
-fn go(
-    rt: &impl Abort,
-    alloc: Global,
-    session: &mut Session<16, 4>,
-    line: &str,
-) -> Result<(), Fail> {
-    let command = read(rt, alloc, line);
-    let mut sink = Breaking::new(alloc, 20);
-    let answer = session.command(&Symbols::none(alloc), command, &mut sink);
+/// That a command went on or came to the limit of its turns. It fails where memory ran out.
+fn check_went(rt: &impl Abort, answer: Result<Flow, DebugFault>, line: &str) -> Result<(), Fail> {
     if answer == Err(DebugFault::NoMemory) {
         Err("memory ran out")?;
     }
@@ -71,17 +63,17 @@ fn go(
     Ok(())
 }
 
-/// The session of a program, after a command.
-fn after(
+/// Does a command that goes on or comes to the limit of its turns.
+fn go(
     rt: &impl Abort,
     alloc: Global,
-    text: &[u32],
-    harts: u32,
+    session: &mut Session<16, 4>,
     line: &str,
-) -> Result<Session<16, 4>, Fail> {
-    let mut session = Session::new(booted_in(alloc, text, harts, 131_072)?);
-    go(rt, alloc, &mut session, line)?;
-    Ok(session)
+) -> Result<(), Fail> {
+    let command = read(rt, alloc, line);
+    let mut sink = Breaking::new(alloc, 20);
+    let answer = session.command(&Symbols::none(alloc), command, &mut sink);
+    check_went(rt, answer, line)
 }
 
 /// That a sink has failed once if its command was cut, and then has a beginning of what the whole tells.
@@ -123,13 +115,20 @@ struct Case<'a> {
     shown: &'a str,
 }
 
-/// Whether the command was cut in a session, of whose puts so many are taken. What is typed after it is done all the same.
+/// The session of a case's program, in which nothing was typed yet.
+fn session_of(rt: &impl AllocGlobal, case: &Case<'_>) -> Result<Session<16, 4>, Fail> {
+    let machine = booted_in(rt.alloc(), case.text, case.harts, 131_072)?;
+    Ok(Session::new(machine))
+}
+
+/// Whether the command was cut in a new session, of whose puts so many are taken. What is typed after it is done all the same.
 fn is_cut_then_done(
     rt: &(impl Abort + AllocGlobal),
     session: &mut Session<16, 4>,
     case: &Case<'_>,
     left: u32,
 ) -> Result<bool, Fail> {
+    go(rt, rt.alloc(), session, case.before)?;
     let cut = is_cut(rt, rt.alloc(), session, case.line, case.told, left)?;
     check_done(rt, rt.alloc(), session, case.then, case.shown)?;
     Ok(cut)
@@ -137,16 +136,17 @@ fn is_cut_then_done(
 
 /// Whether the command is cut where so many puts are taken.
 fn is_cut_by(rt: &(impl Abort + AllocGlobal), case: &Case<'_>, left: u32) -> Result<bool, Fail> {
-    let mut session = after(rt, rt.alloc(), case.text, case.harts, case.before)?;
+    let mut session = session_of(rt, case)?;
     is_cut_then_done(rt, &mut session, case, left)
 }
 
-/// That a session tells the whole of the command, and of what is typed after it.
+/// That a new session tells the whole of the command, and of what is typed after it.
 fn check_both(
     rt: &(impl Abort + AllocGlobal),
     session: &mut Session<16, 4>,
     case: &Case<'_>,
 ) -> Result<(), Fail> {
+    go(rt, rt.alloc(), session, case.before)?;
     check_done(rt, rt.alloc(), session, case.line, case.told)?;
     check_done(rt, rt.alloc(), session, case.then, case.shown)
 }
@@ -167,7 +167,7 @@ fn check_cuts(rt: &(impl Abort + AllocGlobal), case: &Case<'_>) -> Result<(), Fa
 /// done again.
 fn check(rt: &(impl Abort + AllocGlobal), case: &Case<'_>) -> Result<(), Fail> {
     check_cuts(rt, case)?;
-    let mut session = after(rt, rt.alloc(), case.text, case.harts, case.before)?;
+    let mut session = session_of(rt, case)?;
     check_both(rt, &mut session, case)
 }
 

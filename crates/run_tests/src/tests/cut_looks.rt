@@ -5,7 +5,7 @@ use debugger::commands::{DebugFault, Look, help, look};
 use disassembler::Symbols;
 use machine::Machine;
 use reference::{Breaking, COMMITS};
-use std::alloc::{AllocError, Global};
+use std::alloc::AllocError;
 use std::process::Abort;
 use std::test::Fail;
 use words::{HartId, Step};
@@ -51,13 +51,6 @@ fn ask(machine: &mut Machine<2, 1>) -> Result<(), Fail> {
     let oldest = machine.next_message(None).ok_or("no message")?;
     make(machine, Step::Deliver(oldest))?;
     Ok(())
-}
-
-/// Two harts that both want the block at 0x2000: hart 0's request is granted, and hart 1's is held.
-fn two_want(alloc: Global) -> Result<Machine<2, 1>, Fail> {
-    let mut machine = booted_in::<2, 1>(alloc, &STORES_ONCE, 2, SIZE)?;
-    ask(&mut machine)?;
-    Ok(machine)
 }
 
 const REGISTERS: &str = "\
@@ -120,27 +113,41 @@ static OF_STORED: [(Look, &str); 9] = [
     (Look::Harts, "0 pc=0x00001010 running depth 1\n"),
 ];
 
+/// That the looks are cut where two harts both want the block at 0x2000: hart 0's request is granted, and hart 1's is held.
+fn check_two(rt: &(impl Abort + AllocGlobal), machine: &mut Machine<2, 1>) -> Result<(), Fail> {
+    ask(machine)?;
+    check_cut(rt, machine, &OF_TWO);
+    Ok(())
+}
+
 #[test]
 fn each_put_fails_in_turn(rt: HostRuntime) -> Result<(), Fail> {
-    check_cut(&rt, &two_want(rt.alloc())?, &OF_TWO);
+    let mut machine = booted_in::<2, 1>(rt.alloc(), &STORES_ONCE, 2, SIZE)?;
+    check_two(&rt, &mut machine)
+}
+
+/// That the looks are cut where hart 0 has stored in its transaction.
+fn check_stored(rt: &(impl Abort + AllocGlobal), machine: &mut Machine<16, 4>) -> Result<(), Fail> {
+    go(machine, 4)?;
+    check_cut(rt, machine, &OF_STORED);
     Ok(())
 }
 
 #[test]
 fn each_put_about_a_transaction_fails_in_turn(rt: HostRuntime) -> Result<(), Fail> {
     let mut machine = booted_in::<16, 4>(rt.alloc(), &COMMITS, 1, SIZE)?;
-    go(&mut machine, 4)?;
-    check_cut(&rt, &machine, &OF_STORED);
-    Ok(())
+    check_stored(&rt, &mut machine)
+}
+
+/// That the looks are cut where a program begins.
+fn check_begun(rt: &(impl Abort + AllocGlobal), machine: &Machine<16, 4>) {
+    let looks = [(Look::Regs(0), REGISTERS), (Look::Help, help())];
+    check_cut(rt, machine, &looks);
 }
 
 #[test]
 fn each_put_of_registers_and_help_fails_in_turn(rt: HostRuntime) -> Result<(), Fail> {
     let machine = booted_in::<16, 4>(rt.alloc(), &COMMITS, 1, SIZE)?;
-    check_cut(
-        &rt,
-        &machine,
-        &[(Look::Regs(0), REGISTERS), (Look::Help, help())],
-    );
+    check_begun(&rt, &machine);
     Ok(())
 }

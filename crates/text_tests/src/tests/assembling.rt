@@ -38,6 +38,16 @@ fn words_of(alloc: Global, program: &Program) -> Result<String, AllocError> {
     Ok(words)
 }
 
+/// Checks that the text of a program has these words.
+fn check_words(
+    rt: &(impl Abort + AllocGlobal),
+    program: &Program,
+    words: &str,
+) -> Result<(), Fail> {
+    equal_text(rt, words_of(rt.alloc(), program)?.as_str(), words);
+    Ok(())
+}
+
 /// Checks that a source is assembled to these words of text and these bytes of data.
 fn check(
     rt: &(impl Abort + AllocGlobal),
@@ -47,26 +57,30 @@ fn check(
 ) -> Result<(), Fail> {
     let program = assemble(rt.alloc(), source).ok().ok_or("a program")?;
     holds_at(rt, has_parts(&program, data), &source);
-    equal_text(rt, words_of(rt.alloc(), &program)?.as_str(), words);
-    Ok(())
+    check_words(rt, &program, words)
 }
 
 const EXIT: &str = "li a7, 93\nli a0, 0\necall\n";
 
 /// The file of the program that exits with 0, byte for byte.
 #[rattlefmt::skip]
-const EXIT_FILE: [u8; 96] = [
+static EXIT_FILE: [u8; 96] = [
     0x7f, 0x45, 0x4c, 0x46, 0x01, 0x01, 0x01, 0x00, 0, 0, 0, 0, 0, 0, 0, 0, 0x02, 0x00, 0xf3, 0x00, 0x01, 0, 0, 0,
     0x00, 0x10, 0, 0, 0x34, 0, 0, 0, 0, 0, 0, 0, 0, 0, 0, 0, 0x34, 0x00, 0x20, 0x00, 0x01, 0x00, 0, 0, 0, 0, 0, 0,
     0x01, 0, 0, 0, 0x54, 0, 0, 0, 0x00, 0x10, 0, 0, 0x00, 0x10, 0, 0, 0x0c, 0, 0, 0, 0x0c, 0, 0, 0, 0x05, 0, 0, 0, 0x01, 0, 0, 0,
     0x93, 0x08, 0xd0, 0x05, 0x13, 0x05, 0x00, 0x00, 0x73, 0x00, 0x00, 0x00,
 ];
 
+/// Checks that a program is written as the file that exits with 0.
+fn check_file(rt: &(impl Abort + AllocGlobal), program: &Program) -> Result<(), Fail> {
+    equal_items(rt, &write_elf(rt.alloc(), program)?, &EXIT_FILE);
+    Ok(())
+}
+
 #[test]
 fn the_exit_program_is_its_file(rt: HostRuntime) -> Result<(), Fail> {
     let program = assemble(rt.alloc(), EXIT).ok().ok_or("a program")?;
-    equal_items(&rt, &write_elf(rt.alloc(), &program)?[..], &EXIT_FILE[..]);
-    Ok(())
+    check_file(&rt, &program)
 }
 
 /// Sources of the same program, which has no data.
@@ -79,7 +93,7 @@ static EXITS: [&str; 4] = [
 
 #[test]
 fn a_program_without_data_is_text_alone(rt: HostRuntime) -> Result<(), Fail> {
-    for source in EXITS {
+    for &source in &EXITS {
         check(&rt, source, "05d00893 00000513 00000073", b"")?;
     }
     Ok(())

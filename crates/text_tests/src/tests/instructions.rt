@@ -103,16 +103,22 @@ fn other_names_have_no_row(rt: HostRuntime) {
     }
 }
 
-#[test]
-fn words_are_the_assemblers(rt: HostRuntime) -> Result<(), Fail> {
-    let mut lines = String::new(rt.alloc());
+/// Puts the lines of the words behind others, and asserts that each instruction is its word again.
+fn put_lines(rt: &impl Abort, lines: &mut String) -> Result<(), Fail> {
     for &word in &WORDS {
         if let Some(instr) = decode(word) {
             let [a, b, c] = operands(&instr);
             writeln!(lines, "{} {a} {b} {c}", row(&instr).name())?;
-            check_encodes(&rt, instr, word);
+            check_encodes(rt, instr, word);
         }
     }
+    Ok(())
+}
+
+#[test]
+fn words_are_the_assemblers(rt: HostRuntime) -> Result<(), Fail> {
+    let mut lines = String::new(rt.alloc());
+    put_lines(&rt, &mut lines)?;
     equal_text(&rt, lines.as_str(), LINES);
     Ok(())
 }
@@ -363,11 +369,17 @@ fn atomic_words_are_spelled_as_assemblers_do(rt: HostRuntime) -> Result<(), Fail
     Ok(())
 }
 
+/// Asserts that a line is refused for its mnemonic.
+fn check_unknown(rt: &(impl Abort + AllocGlobal), line: &str) -> Result<(), Fail> {
+    let fault = assemble(rt.alloc(), line).err().ok_or("a fault")?;
+    equal_at(rt, &fault.fault, &AsmFault::Unknown, &line);
+    Ok(())
+}
+
 #[test]
 fn other_suffixes_are_unknown(rt: HostRuntime) -> Result<(), Fail> {
-    for line in UNKNOWN {
-        let fault = assemble(rt.alloc(), line).err().ok_or("a fault")?;
-        equal_at(&rt, &fault.fault, &AsmFault::Unknown, &line);
+    for &line in &UNKNOWN {
+        check_unknown(&rt, line)?;
     }
     Ok(())
 }
@@ -519,26 +531,34 @@ fn check_touches(rt: &impl Abort, text: &Text, addr: u32, width: Width, want: bo
     equal_at(rt, &text.touches(Addr::new(addr), width), &want, &addr);
 }
 
+/// Asserts which words the text of the segments has.
+fn check_text(rt: &impl Abort, text: &Text) {
+    check_word(rt, text, 0x0ffc, None);
+    check_word(rt, text, 0x1000, Some(0x05d0_0893));
+    check_word(rt, text, 0x1004, Some(0x13));
+    check_word(rt, text, 0x1008, None);
+    check_word(rt, text, 0x2000, None);
+}
+
 #[test]
 fn text_is_what_is_executable(rt: HostRuntime) -> Result<(), Fail> {
     let segments = segments(rt.alloc())?;
-    let text = Text::new(&segments);
-    check_word(&rt, &text, 0x0ffc, None);
-    check_word(&rt, &text, 0x1000, Some(0x05d0_0893));
-    check_word(&rt, &text, 0x1004, Some(0x13));
-    check_word(&rt, &text, 0x1008, None);
-    check_word(&rt, &text, 0x2000, None);
+    check_text(&rt, &Text::new(&segments));
     Ok(())
+}
+
+/// Asserts which accesses touch the text of the segments.
+fn check_accesses(rt: &impl Abort, text: &Text) {
+    check_touches(rt, text, 0x0fff, Width::Byte, false);
+    check_touches(rt, text, 0x0ffe, Width::Word, true);
+    check_touches(rt, text, 0x1007, Width::Byte, true);
+    check_touches(rt, text, 0x1008, Width::Word, false);
+    check_touches(rt, text, 0x2000, Width::Word, false);
 }
 
 #[test]
 fn accesses_touch_text_or_not(rt: HostRuntime) -> Result<(), Fail> {
     let segments = segments(rt.alloc())?;
-    let text = Text::new(&segments);
-    check_touches(&rt, &text, 0x0fff, Width::Byte, false);
-    check_touches(&rt, &text, 0x0ffe, Width::Word, true);
-    check_touches(&rt, &text, 0x1007, Width::Byte, true);
-    check_touches(&rt, &text, 0x1008, Width::Word, false);
-    check_touches(&rt, &text, 0x2000, Width::Word, false);
+    check_accesses(&rt, &Text::new(&segments));
     Ok(())
 }

@@ -1,7 +1,7 @@
 use crate::tests::claims::{equal, equal_at, equal_items, holds, holds_at};
 use crate::tests::sample::SAMPLE;
 use loader::{LoadFault, Program, read_elf, write_elf};
-use std::alloc::Global;
+use std::alloc::{AllocError, Global};
 use std::process::Abort;
 use std::test::Fail;
 use table::Segment;
@@ -99,21 +99,22 @@ fn is_sample(program: &Program) -> bool {
         }
 }
 
+/// That the text of a program has this word there, or none.
+fn check_word(rt: &impl Abort, program: &Program, addr: u32, want: Option<u32>) {
+    equal(rt, &program.text().word(Addr::new(addr)), &want);
+}
+
+/// That a program is the sample, and has its words.
+fn check_sample(rt: &impl Abort, program: &Program) {
+    holds(rt, is_sample(program));
+    check_word(rt, program, 0x1000, Some(0x05d0_0893));
+    check_word(rt, program, 0x1008, Some(0x0000_0073));
+    check_word(rt, program, 0x100c, None);
+}
+
 #[test]
 fn reads_the_sample(rt: HostRuntime) {
-    let program = read(&rt, &SAMPLE);
-    holds(&rt, is_sample(&program));
-    equal(
-        &rt,
-        &program.text().word(Addr::new(0x1000)),
-        &Some(0x05d0_0893),
-    );
-    equal(
-        &rt,
-        &program.text().word(Addr::new(0x1008)),
-        &Some(0x0000_0073),
-    );
-    equal(&rt, &program.text().word(Addr::new(0x100c)), &None);
+    check_sample(&rt, &read(&rt, &SAMPLE));
 }
 
 #[test]
@@ -129,33 +130,34 @@ fn prefixes_are_truncated(rt: HostRuntime) -> Result<(), Fail> {
     Ok(())
 }
 
+static FAULTS: [((usize, u32), LoadFault); 22] = [
+    ((4, 0x0001_0102), LoadFault::NotElf32),
+    ((0, 0x464c_457e), LoadFault::NotElf32),
+    ((20, 2), LoadFault::NotElf32),
+    ((16, 0x0000_0002), LoadFault::NotRiscv),
+    ((16, 0x0000_0003), LoadFault::NotRiscv),
+    ((16, 0x00f3_0003), LoadFault::NotExec),
+    ((36, 1), LoadFault::Compressed),
+    ((40, 0x0020_0000), LoadFault::BadHeaderSize),
+    ((40, 0x0000_0034), LoadFault::BadHeaderSize),
+    ((TABLE_LEN, 0), LoadFault::BadEntry),
+    ((TABLE_LEN, 2), LoadFault::Truncated),
+    ((28, 0xffff_fff0), LoadFault::Truncated),
+    ((KIND + 4, 0xffff_fff8), LoadFault::Truncated),
+    ((KIND + 4, 85), LoadFault::Truncated),
+    ((ADDR, 0x003f_fff8), LoadFault::SegmentOutside),
+    ((ADDR, 0xffff_fff8), LoadFault::SegmentOutside),
+    ((MEMORY_SIZE, 11), LoadFault::SegmentOutside),
+    ((FLAGS, 7), LoadFault::WritableText),
+    ((FLAGS, 6), LoadFault::BadEntry),
+    ((ENTRY, 0x1002), LoadFault::BadEntry),
+    ((ENTRY, 0x100c), LoadFault::BadEntry),
+    ((KIND, 2), LoadFault::BadEntry),
+];
+
 #[test]
 fn refuses_each_fault(rt: HostRuntime) {
-    let cases = [
-        ((4, 0x0001_0102), LoadFault::NotElf32),
-        ((0, 0x464c_457e), LoadFault::NotElf32),
-        ((20, 2), LoadFault::NotElf32),
-        ((16, 0x0000_0002), LoadFault::NotRiscv),
-        ((16, 0x0000_0003), LoadFault::NotRiscv),
-        ((16, 0x00f3_0003), LoadFault::NotExec),
-        ((36, 1), LoadFault::Compressed),
-        ((40, 0x0020_0000), LoadFault::BadHeaderSize),
-        ((40, 0x0000_0034), LoadFault::BadHeaderSize),
-        ((TABLE_LEN, 0), LoadFault::BadEntry),
-        ((TABLE_LEN, 2), LoadFault::Truncated),
-        ((28, 0xffff_fff0), LoadFault::Truncated),
-        ((KIND + 4, 0xffff_fff8), LoadFault::Truncated),
-        ((KIND + 4, 85), LoadFault::Truncated),
-        ((ADDR, 0x003f_fff8), LoadFault::SegmentOutside),
-        ((ADDR, 0xffff_fff8), LoadFault::SegmentOutside),
-        ((MEMORY_SIZE, 11), LoadFault::SegmentOutside),
-        ((FLAGS, 7), LoadFault::WritableText),
-        ((FLAGS, 6), LoadFault::BadEntry),
-        ((ENTRY, 0x1002), LoadFault::BadEntry),
-        ((ENTRY, 0x100c), LoadFault::BadEntry),
-        ((KIND, 2), LoadFault::BadEntry),
-    ];
-    for (change, want) in cases {
+    for &(change, want) in &FAULTS {
         let bytes = sample_with(&rt, &[change]);
         equal_at(
             &rt,
@@ -196,16 +198,17 @@ fn passes_over_what_is_not_loaded(rt: HostRuntime) {
     }
 }
 
+/// That the two words behind those of the sample are 0.
+fn check_zeros(rt: &impl Abort, program: &Program) {
+    check_word(rt, program, 0x1008, Some(0x0000_0073));
+    check_word(rt, program, 0x100c, Some(0));
+    check_word(rt, program, 0x1010, Some(0));
+}
+
 #[test]
 fn memory_beyond_the_file_is_zero(rt: HostRuntime) {
-    let program = read(&rt, &sample_with(&rt, &[(MEMORY_SIZE, 20)]));
-    equal(
-        &rt,
-        &program.text().word(Addr::new(0x1008)),
-        &Some(0x0000_0073),
-    );
-    equal(&rt, &program.text().word(Addr::new(0x100c)), &Some(0));
-    equal(&rt, &program.text().word(Addr::new(0x1010)), &Some(0));
+    let bytes = sample_with(&rt, &[(MEMORY_SIZE, 20)]);
+    check_zeros(&rt, &read(&rt, &bytes));
 }
 
 #[test]
@@ -254,13 +257,11 @@ fn copies_are_the_same(rt: HostRuntime) {
     check_same(&rt, &program, &other, false);
 }
 
-/// The sample's header with as many segments as a file can have: the sample's, and others of a byte
-/// each, one after another from the last address down.
-fn full_table(rt: &(impl Abort + AllocGlobal)) -> Vec<u8> {
-    let mut bytes = Vec::from_slice(rt.alloc(), &SAMPLE[..KIND]).expect(rt, "memory");
+/// Puts the header of a segment of a byte for each address, from the last one down, and then the
+/// sample's text.
+fn put_headers(bytes: &mut Vec<u8>) -> Result<(), AllocError> {
     let mut header = [0; 32];
     header.copy_from_slice(&SAMPLE[KIND..KIND + SECOND]);
-    bytes.extend_from_slice(&header).expect(rt, "memory");
     set(
         &mut header,
         &[
@@ -271,9 +272,16 @@ fn full_table(rt: &(impl Abort + AllocGlobal)) -> Vec<u8> {
     );
     for i in 1..u32::from(u16::MAX) {
         set(&mut header, &[(ADDR - KIND, 0x0040_0000 - 4 * i)]);
-        bytes.extend_from_slice(&header).expect(rt, "memory");
+        bytes.extend_from_slice(&header)?;
     }
-    bytes.extend_from_slice(&SAMPLE[84..]).expect(rt, "memory");
+    bytes.extend_from_slice(&SAMPLE[84..])
+}
+
+/// The sample's header with as many segments as a file can have: the sample's, and others of a byte
+/// each, one after another from the last address down.
+fn full_table(rt: &(impl Abort + AllocGlobal)) -> Vec<u8> {
+    let mut bytes = Vec::from_slice(rt.alloc(), &SAMPLE[..84]).expect(rt, "memory");
+    put_headers(&mut bytes).expect(rt, "memory");
     let end = KIND + SECOND * usize::from(u16::MAX);
     set(&mut bytes, &[(TABLE_LEN, 0xffff), (KIND + 4, end as u32)]);
     bytes
@@ -292,20 +300,27 @@ fn a_full_table_is_read(rt: HostRuntime) {
     check_same(&rt, &again, &program, true);
 }
 
+/// That these are the text and the data of the linker's file.
+fn check_segments(rt: &impl Abort, text: &Segment, data: &Segment) {
+    holds(rt, text.exec && !data.exec);
+    equal(rt, &(text.addr, text.size), &(0x1000, 20));
+    equal(rt, &(data.addr, data.size), &(0x2000, 12));
+    equal(rt, &text.bytes.len(), &20);
+    equal_items(rt, &data.bytes, &[7, 0, 0, 0]);
+}
+
+/// That a program is that of the linker's file.
+fn check_linked(rt: &impl Abort, program: &Program) {
+    equal(rt, &program.entry(), &Addr::new(0x1000));
+    match program.segments() {
+        [text, data] => check_segments(rt, text, data),
+        _ => holds_at(rt, false, &"the linker's file has two segments"),
+    }
+}
+
 #[test]
 fn a_linked_file_is_read(rt: HostRuntime) {
-    let program = read(&rt, &LINKED);
-    equal(&rt, &program.entry(), &Addr::new(0x1000));
-    match program.segments() {
-        [text, data] => {
-            holds(&rt, text.exec && !data.exec);
-            equal(&rt, &(text.addr, text.size), &(0x1000, 20));
-            equal(&rt, &(data.addr, data.size), &(0x2000, 12));
-            equal(&rt, &text.bytes.len(), &20);
-            equal_items(&rt, &data.bytes, &[7, 0, 0, 0]);
-        }
-        _ => holds_at(&rt, false, &"the linker's file has two segments"),
-    }
+    check_linked(&rt, &read(&rt, &LINKED));
 }
 
 /// That a file is read and written as this one.

@@ -101,28 +101,26 @@ fn a_retired_word_has_its_parts(rt: HostRuntime) -> Result<(), Fail> {
     Ok(())
 }
 
+/// Asserts the line of an abort for this cause.
+fn check_abort(rt: &(impl Abort + AllocGlobal), cause: AbortCause, want: &str) {
+    let entry = Entry::Abort {
+        hart: hart(1),
+        cause,
+    };
+    check_entry(rt, entry, want);
+}
+
 #[test]
 fn other_entries_have_their_lines(rt: HostRuntime) -> Result<(), Fail> {
     let pc = Addr::new(0x1004);
-    let causes = [
-        (AbortCause::Asked, "1 abort asked\n"),
-        (AbortCause::Conflict, "1 abort conflict\n"),
-        (AbortCause::LogFull, "1 abort logfull\n"),
-        (
-            AbortCause::Trapped(Cause::CallInTransaction, pc),
-            "1 abort trap 12 CallInTransaction\n",
-        ),
-    ];
-    for (cause, want) in causes {
-        check_entry(
-            &rt,
-            Entry::Abort {
-                hart: hart(1),
-                cause,
-            },
-            want,
-        );
-    }
+    check_abort(&rt, AbortCause::Asked, "1 abort asked\n");
+    check_abort(&rt, AbortCause::Conflict, "1 abort conflict\n");
+    check_abort(&rt, AbortCause::LogFull, "1 abort logfull\n");
+    check_abort(
+        &rt,
+        AbortCause::Trapped(Cause::CallInTransaction, pc),
+        "1 abort trap 12 CallInTransaction\n",
+    );
     check_entry(
         &rt,
         Entry::Trap {
@@ -159,44 +157,47 @@ fn both() -> HartSet {
     harts
 }
 
-#[test]
-fn the_directory_tells_owner_sharers_and_request(rt: HostRuntime) -> Result<(), Fail> {
-    let first = DirEntry::first();
-    let entries = [
-        (first, "owner none sharers - busy -"),
-        (
-            DirEntry {
-                sharers: both(),
-                ..first
-            },
-            "owner none sharers 0,1 busy -",
-        ),
-        (
-            DirEntry {
-                owner: Owner::Owned(hart(0)),
-                ..first
-            },
-            "owned 0 sharers - busy -",
-        ),
-        (
-            DirEntry {
-                owner: Owner::Sticky(hart(1)),
-                busy: Some(Busy {
-                    requester: hart(0),
-                    give: LineState::Modified,
-                }),
-                ..first
-            },
-            "sticky 1 sharers - busy 0 M",
-        ),
-    ];
-    for (entry, want) in entries {
-        equal_text(&rt, directory_text(&entry).as_str(), want);
-    }
+/// Asserts that an entry of the directory has this text.
+fn check_directory(rt: &impl Abort, entry: &DirEntry, want: &str) {
+    equal_text(rt, directory_text(entry).as_str(), want);
+}
+
+/// Asserts the text of a block that a hart owned and gave up while another waits for it.
+fn check_sticky(rt: &impl Abort) {
+    let entry = DirEntry {
+        owner: Owner::Sticky(hart(1)),
+        busy: Some(Busy {
+            requester: hart(0),
+            give: LineState::Modified,
+        }),
+        ..DirEntry::first()
+    };
+    check_directory(rt, &entry, "sticky 1 sharers - busy 0 M");
+}
+
+/// Asserts that an entry of the directory is put with the end of its line.
+fn check_put_directory(rt: &(impl Abort + AllocGlobal)) {
     let mut sink = taken(rt.alloc());
-    holds(&rt, put_directory(&first, &mut sink).is_ok());
-    equal_items(&rt, &sink.bytes, b"owner none sharers - busy -\n");
-    Ok(())
+    holds(rt, put_directory(&DirEntry::first(), &mut sink).is_ok());
+    equal_items(rt, &sink.bytes, b"owner none sharers - busy -\n");
+}
+
+#[test]
+fn the_directory_tells_owner_sharers_and_request(rt: HostRuntime) {
+    let first = DirEntry::first();
+    check_directory(&rt, &first, "owner none sharers - busy -");
+    let shared = DirEntry {
+        sharers: both(),
+        ..first
+    };
+    check_directory(&rt, &shared, "owner none sharers 0,1 busy -");
+    let owned = DirEntry {
+        owner: Owner::Owned(hart(0)),
+        ..first
+    };
+    check_directory(&rt, &owned, "owned 0 sharers - busy -");
+    check_sticky(&rt);
+    check_put_directory(&rt);
 }
 
 #[test]
@@ -247,122 +248,142 @@ fn stamp() -> Option<Stamp> {
     })
 }
 
-#[test]
-fn messages_between_harts_and_directory(rt: HostRuntime) -> Result<(), Fail> {
-    let content = [7, 0, 0, 0, 0, 0, 0, 9];
-    let messages = [
-        (
-            Message::Get {
-                from: hart(1),
-                block: block(),
-                kind: Kind::Read,
-                stamp: stamp(),
-            },
-            "get 1 0x00002000 read stamp 0.1",
-        ),
-        (
-            Message::Get {
-                from: hart(0),
-                block: block(),
-                kind: Kind::Write,
-                stamp: None,
-            },
-            "get 0 0x00002000 write stamp -",
-        ),
-        (
-            Message::Put {
-                from: hart(0),
-                block: block(),
-                content,
-                marked: true,
-            },
-            "put 0 0x00002000 marked content 0x00000007",
-        ),
-        (
-            Message::Done {
-                from: hart(1),
-                block: block(),
-                ok: false,
-                content: None,
-            },
-            "done 1 0x00002000 refused content -",
-        ),
-        (
-            Message::Done {
-                from: hart(1),
-                block: block(),
-                ok: true,
-                content: Some(content),
-            },
-            "done 1 0x00002000 ok content 0x00000007",
-        ),
-        (
-            Message::Grant {
-                to: hart(1),
-                block: block(),
-                give: LineState::Modified,
-                content,
-                expect: both(),
-            },
-            "grant 1 0x00002000 M expect 0,1 content 0x00000007",
-        ),
-        (
-            Message::PutAck {
-                to: hart(0),
-                block: block(),
-            },
-            "putack 0 0x00002000",
-        ),
-    ];
-    for (message, want) in messages {
-        equal_text(&rt, message_text(&message).as_str(), want);
-    }
-    Ok(())
+/// Asserts that a message has this text.
+fn check_message(rt: &impl Abort, message: &Message, want: &str) {
+    equal_text(rt, message_text(message).as_str(), want);
+}
+
+/// A block's content.
+const CONTENT: [u32; 8] = [7, 0, 0, 0, 0, 0, 0, 9];
+
+/// Asserts the texts of requests for a block.
+fn check_gets(rt: &impl Abort) {
+    check_message(
+        rt,
+        &Message::Get {
+            from: hart(1),
+            block: block(),
+            kind: Kind::Read,
+            stamp: stamp(),
+        },
+        "get 1 0x00002000 read stamp 0.1",
+    );
+    check_message(
+        rt,
+        &Message::Get {
+            from: hart(0),
+            block: block(),
+            kind: Kind::Write,
+            stamp: None,
+        },
+        "get 0 0x00002000 write stamp -",
+    );
+}
+
+/// Asserts the texts of messages that end a request.
+fn check_dones(rt: &impl Abort) {
+    check_message(
+        rt,
+        &Message::Done {
+            from: hart(1),
+            block: block(),
+            ok: false,
+            content: None,
+        },
+        "done 1 0x00002000 refused content -",
+    );
+    check_message(
+        rt,
+        &Message::Done {
+            from: hart(1),
+            block: block(),
+            ok: true,
+            content: Some(CONTENT),
+        },
+        "done 1 0x00002000 ok content 0x00000007",
+    );
 }
 
 #[test]
-fn messages_from_hart_to_hart(rt: HostRuntime) -> Result<(), Fail> {
-    let messages = [
-        (
-            Message::Forward {
-                to: hart(0),
-                block: block(),
-                kind: Kind::Write,
-                requester: hart(1),
-                stamp: stamp(),
-            },
-            "forward 0 0x00002000 write for 1 stamp 0.1",
-        ),
-        (
-            Message::Ack {
-                from: hart(0),
-                to: hart(1),
-                block: block(),
-                content: None,
-            },
-            "ack 0 0x00002000 to 1 content -",
-        ),
-        (
-            Message::Nack {
-                from: hart(0),
-                to: hart(1),
-                block: block(),
-                stamp: stamp(),
-            },
-            "nack 0 0x00002000 to 1 stamp 0.1",
-        ),
-    ];
-    for (message, want) in messages {
-        equal_text(&rt, message_text(&message).as_str(), want);
-    }
+fn messages_between_harts_and_directory(rt: HostRuntime) {
+    check_gets(&rt);
+    check_dones(&rt);
+    check_message(
+        &rt,
+        &Message::Put {
+            from: hart(0),
+            block: block(),
+            content: CONTENT,
+            marked: true,
+        },
+        "put 0 0x00002000 marked content 0x00000007",
+    );
+    check_message(
+        &rt,
+        &Message::Grant {
+            to: hart(1),
+            block: block(),
+            give: LineState::Modified,
+            content: CONTENT,
+            expect: both(),
+        },
+        "grant 1 0x00002000 M expect 0,1 content 0x00000007",
+    );
+    check_message(
+        &rt,
+        &Message::PutAck {
+            to: hart(0),
+            block: block(),
+        },
+        "putack 0 0x00002000",
+    );
+}
+
+/// Asserts that a message is put with the end of its line.
+fn check_put_message(rt: &(impl Abort + AllocGlobal)) {
     let mut sink = taken(rt.alloc());
     let arrived = Message::PutAck {
         to: hart(1),
         block: block(),
     };
-    holds(&rt, put_message(&arrived, &mut sink).is_ok());
-    equal_items(&rt, &sink.bytes, b"putack 1 0x00002000\n");
-    Ok(())
+    holds(rt, put_message(&arrived, &mut sink).is_ok());
+    equal_items(rt, &sink.bytes, b"putack 1 0x00002000\n");
+}
+
+#[test]
+fn messages_from_hart_to_hart(rt: HostRuntime) {
+    check_message(
+        &rt,
+        &Message::Forward {
+            to: hart(0),
+            block: block(),
+            kind: Kind::Write,
+            requester: hart(1),
+            stamp: stamp(),
+        },
+        "forward 0 0x00002000 write for 1 stamp 0.1",
+    );
+    check_message(
+        &rt,
+        &Message::Ack {
+            from: hart(0),
+            to: hart(1),
+            block: block(),
+            content: None,
+        },
+        "ack 0 0x00002000 to 1 content -",
+    );
+    check_message(
+        &rt,
+        &Message::Nack {
+            from: hart(0),
+            to: hart(1),
+            block: block(),
+            stamp: stamp(),
+        },
+        "nack 0 0x00002000 to 1 stamp 0.1",
+    );
+    check_put_message(&rt);
 }
 
 const REGISTERS: &str = "\
@@ -387,8 +408,19 @@ fn numbered() -> Regs {
     regs
 }
 
+/// Asserts how the status of a hart is shown that exited or trapped.
+fn check_status(rt: &impl Abort) {
+    equal_text(rt, status_text(Status::Exited(3)).as_str(), "exit 3");
+    let stopped = Status::Stopped(Cause::OutsideTransaction, Addr::new(0x1004));
+    equal_text(
+        rt,
+        status_text(stopped).as_str(),
+        "trap 14 OutsideTransaction",
+    );
+}
+
 #[test]
-fn registers_stand_four_on_a_line(rt: HostRuntime) -> Result<(), Fail> {
+fn registers_stand_four_on_a_line(rt: HostRuntime) {
     let mut sink = taken(rt.alloc());
     let regs = numbered();
     holds(
@@ -403,18 +435,18 @@ fn registers_stand_four_on_a_line(rt: HostRuntime) -> Result<(), Fail> {
         .is_ok(),
     );
     equal_items(&rt, &sink.bytes, REGISTERS.as_bytes());
-    equal_text(&rt, status_text(Status::Exited(3)).as_str(), "exit 3");
-    let stopped = Status::Stopped(Cause::OutsideTransaction, Addr::new(0x1004));
-    equal_text(
-        &rt,
-        status_text(stopped).as_str(),
-        "trap 14 OutsideTransaction",
-    );
-    Ok(())
+    check_status(&rt);
+}
+
+/// Asserts that a sink took a part of the registers, and that one put failed.
+fn check_part(rt: &impl Abort, sink: &Breaking, left: u32) {
+    equal_at(rt, &sink.failed, &1, &left);
+    holds_at(rt, REGISTERS.as_bytes().starts_with(&sink.bytes), &left);
+    holds_at(rt, sink.bytes.len() < REGISTERS.len(), &left);
 }
 
 #[test]
-fn each_put_fails_in_turn(rt: HostRuntime) -> Result<(), Fail> {
+fn each_put_fails_in_turn(rt: HostRuntime) {
     let regs = numbered();
     for left in 0..133 {
         let mut sink = Breaking::new(rt.alloc(), left);
@@ -426,9 +458,6 @@ fn each_put_fails_in_turn(rt: HostRuntime) -> Result<(), Fail> {
             &mut sink,
         );
         holds_at(&rt, answer.is_err(), &left);
-        equal_at(&rt, &sink.failed, &1, &left);
-        holds_at(&rt, REGISTERS.as_bytes().starts_with(&sink.bytes), &left);
-        holds_at(&rt, sink.bytes.len() < REGISTERS.len(), &left);
+        check_part(&rt, &sink, left);
     }
-    Ok(())
 }
