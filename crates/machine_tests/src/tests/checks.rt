@@ -74,17 +74,6 @@ pub(crate) fn check_register(
     equal_at(rt, &register(machine, hart, index), &Some(want), &index);
 }
 
-/// That a machine accepts each of these entries.
-fn check_accepted(
-    rt: &(impl Abort + AllocGlobal),
-    checker: &mut Machine,
-    entries: &[Entry],
-) -> Result<(), Fail> {
-    let accepted = accepted(rt.alloc(), checker, entries)?;
-    check_count(rt, accepted, entries.len());
-    Ok(())
-}
-
 /// That the entries are those of a run of the program.
 pub(crate) fn check_run(
     rt: &(impl Abort + AllocGlobal),
@@ -93,5 +82,7 @@ pub(crate) fn check_run(
     entries: &[Entry],
 ) -> Result<(), Fail> {
     let mut checker = booted(rt.alloc(), text, harts)?;
-    check_accepted(rt, &mut checker, entries)
+    let accepted = accepted(rt.alloc(), &mut checker, entries)?;
+    check_count(rt, accepted, entries.len());
+    Ok(())
 }

@@ -10,35 +10,26 @@ use std::process::Abort;
 use std::test::Fail;
 use words::{AbortCause, Addr, Cause, Entry, HartId, Status};
 
-/// That the 256th transaction, each begun in the one before it, is an abort.
-fn check_depth(
-    rt: &(impl Abort + AllocGlobal),
-    machine: &mut Machine,
-    entries: &mut Vec<Entry>,
-) -> Result<(), Fail> {
-    go(rt.alloc(), machine, zero(), 1000, entries)?;
+#[test]
+fn transactions_nest_255_deep(rt: HostRuntime) -> Result<(), Fail> {
+    let mut machine = booted(rt.alloc(), &[0x0000_000b; 256], 1)?;
+    let mut entries = Vec::new(rt.alloc());
+    go(rt.alloc(), &mut machine, zero(), 1000, &mut entries)?;
     let pc = Addr::new(0x1000 + 4 * 255);
     let abort = Entry::Abort {
         hart: zero(),
         cause: AbortCause::Trapped(Cause::TooDeep, pc),
     };
-    check_count(rt, entries.len(), 256);
-    check_entry(rt, entries, 255, abort);
+    check_count(&rt, entries.len(), 256);
+    check_entry(&rt, &entries, 255, abort);
     let status = Status::Stopped(Cause::TooDeep, pc);
-    check_status(rt, machine, zero(), status);
+    check_status(&rt, &machine, zero(), status);
     Ok(())
-}
-
-#[test]
-fn transactions_nest_255_deep(rt: HostRuntime) -> Result<(), Fail> {
-    let mut machine = booted(rt.alloc(), &[0x0000_000b; 256], 1)?;
-    let mut entries = Vec::new(rt.alloc());
-    check_depth(&rt, &mut machine, &mut entries)
 }
 
 /// Programs that trap at their third word. The first instructions put an address into t0; with one hart and 65,536 bytes the logs begin at
 /// 61,440.
-static TRAPS: [([u32; 3], Cause); 11] = [
+const TRAPS: [([u32; 3], Cause); 11] = [
     ([0x0000_12b7, 0x0000_0013, 0x0002_a023], Cause::StoreText),
     ([0x0001_02b7, 0x0000_0013, 0xffc2_a303], Cause::LogRegion),
     ([0x0001_02b7, 0x0000_0013, 0x0002_a303], Cause::LoadOutside),
@@ -66,36 +57,26 @@ static TRAPS: [([u32; 3], Cause); 11] = [
 ];
 
 /// That the third word of a program traps.
-fn check_trap(
-    rt: &(impl Abort + AllocGlobal),
-    machine: &mut Machine,
-    entries: &mut Vec<Entry>,
-    text: &[u32],
-    cause: Cause,
-) -> Result<(), Fail> {
-    go(rt.alloc(), machine, zero(), 10, entries)?;
+fn check_trap(rt: &(impl Abort + AllocGlobal), text: &[u32], cause: Cause) -> Result<(), Fail> {
+    let mut machine = booted(rt.alloc(), text, 1)?;
+    let mut entries = Vec::new(rt.alloc());
+    go(rt.alloc(), &mut machine, zero(), 10, &mut entries)?;
     let pc = Addr::new(0x1008);
     let trap = Entry::Trap {
         hart: zero(),
         cause,
         pc,
     };
-    check_entry(rt, entries, 2, trap);
-    check_status(rt, machine, zero(), Status::Stopped(cause, pc));
-    check_run(rt, text, 1, entries)
-}
-
-/// The same of a new machine.
-fn check_trap_of(rt: &(impl Abort + AllocGlobal), text: &[u32], cause: Cause) -> Result<(), Fail> {
-    let mut machine = booted(rt.alloc(), text, 1)?;
-    let mut entries = Vec::new(rt.alloc());
-    check_trap(rt, &mut machine, &mut entries, text, cause)
+    check_entry(rt, &entries, 2, trap);
+    check_status(rt, &machine, zero(), Status::Stopped(cause, pc));
+    check_run(rt, text, 1, &entries)?;
+    Ok(())
 }
 
 #[test]
 fn what_cannot_be_retired_traps(rt: HostRuntime) -> Result<(), Fail> {
     for (text, cause) in &TRAPS {
-        check_trap_of(&rt, text, *cause)?;
+        check_trap(&rt, text, *cause)?;
     }
     Ok(())
 }

@@ -3,7 +3,7 @@
 ghost use Rattle.std.specs.Prelude.{◌<◌, ◌*◌, ◌^◌};
 
 use directory::DirEntry;
-use loader::{Program, read_elf};
+use loader::read_elf;
 use machine::{Machine, TxInfo};
 use reference::elf_file;
 use std::alloc::{AllocError, Global};
@@ -12,13 +12,6 @@ use words::{Addr, BlockNo, Entry, HartId, Message, Regs, Status, Step};
 
 /// How many bytes of memory the machines here have.
 pub(crate) const SIZE: u32 = 131_072;
-
-/// A program of these words.
-pub(crate) fn program_of(alloc: Global, text: &[u32]) -> Result<Program, Fail> {
-    let file = elf_file(alloc, text)?;
-    let program = read_elf(alloc, &file);
-    Ok(program?)
-}
 
 /// The coherent machine as a program begins in it.
 pub(crate) fn booted<const SETS: usize, const WAYS: usize>(
@@ -31,7 +24,8 @@ pub(crate) fn booted<const SETS: usize, const WAYS: usize>(
     requires ways { 0 < WAYS }
     requires lines { SETS * WAYS < 2 ^ 32 }
 {
-    Ok(Machine::boot(alloc, program_of(alloc, text)?, harts, size)?)
+    let file = elf_file(alloc, text)?;
+    Ok(Machine::boot(alloc, read_elf(alloc, &file)?, harts, size)?)
 }
 
 /// One step, enabled or not, its entry pushed. It fails only if memory runs out.

@@ -1,10 +1,11 @@
 //! Schedules that a simulator wouldn't choose.
 
 use super::machines::{
-    all_stopped, entry, harts, has_line, make, message, next_message, next_turn, program_of,
+    all_stopped, entry, harts, has_line, make, message, next_message, next_turn,
 };
+use loader::read_elf;
 use machine::Machine;
-use reference::Machine as Checker;
+use reference::{Machine as Checker, elf_file};
 use std::alloc::{AllocError, Global};
 use std::test::Fail;
 use words::{BlockNo, Entry, HartId, Message, Step};
@@ -25,15 +26,6 @@ pub(crate) enum Schedule {
     Keys,
 }
 
-/// That a plain machine accepts all of these entries.
-fn accept_all(alloc: Global, checker: &mut Checker, entries: &[Entry]) -> Result<(), Fail> {
-    match checker.check_all(alloc, entries) {
-        Ok(accepted) if accepted == entries.len() => Ok(()),
-        Ok(_) => Err("an entry is refused")?,
-        Err((_, fault)) => Err(fault)?,
-    }
-}
-
 /// The plain machine after these entries, where it accepts them all.
 pub(crate) fn checked(
     alloc: Global,
@@ -42,9 +34,13 @@ pub(crate) fn checked(
     size: u32,
     entries: &[Entry],
 ) -> Result<Checker, Fail> {
-    let mut checker = Checker::boot(alloc, program_of(alloc, text)?, harts, size)?;
-    accept_all(alloc, &mut checker, entries)?;
-    Ok(checker)
+    let file = elf_file(alloc, text)?;
+    let mut checker = Checker::boot(alloc, read_elf(alloc, &file)?, harts, size)?;
+    match checker.check_all(alloc, entries) {
+        Ok(accepted) if accepted == entries.len() => Ok(checker),
+        Ok(_) => Err("an entry is refused")?,
+        Err((_, fault)) => Err(fault)?,
+    }
 }
 
 /// Every hart gives up every line that it holds of so many blocks from 0x2000 on.

@@ -86,25 +86,16 @@ fn turns_of_two(
     Ok(())
 }
 
-/// That the turns of two harts that count give the same entries wherever their run is cut.
-fn check_cuts(
-    rt: &(impl Abort + AllocGlobal),
-    steps: &mut Vec<Step>,
-    whole: &mut Vec<Entry>,
-) -> Result<(), Fail> {
-    turns_of_two(rt, steps, whole)?;
-    holds(rt, whole.len() >= 1400);
-    for cut in [0, 1, 2, 3, 10, 1000, 2999, 20_000] {
-        check_cut(rt, steps, cut, whole)?;
-    }
-    Ok(())
-}
-
 #[test]
 fn a_run_that_is_cut_goes_on(rt: HostRuntime) -> Result<(), Fail> {
     let mut steps = Vec::new(rt.alloc());
     let mut whole = Vec::new(rt.alloc());
-    check_cuts(&rt, &mut steps, &mut whole)
+    turns_of_two(&rt, &mut steps, &mut whole)?;
+    holds(&rt, whole.len() >= 1400);
+    for cut in [0, 1, 2, 3, 10, 1000, 2999, 20_000] {
+        check_cut(&rt, &steps, cut, &whole)?;
+    }
+    Ok(())
 }
 
 /// A step, tried again if memory ran out.
