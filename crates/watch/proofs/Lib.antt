@@ -1,4 +1,5 @@
 mod Requests
+mod Alone
 mod Tracing
 mod RowLines
 mod Counted

@@ -61,4 +61,13 @@ impl Counts {
         let place = place(hart, kind);
         self.counts[place] = self.counts[place].wrapping_add(1);
     }
+
+    /// Counts so many more of a kind, likewise.
+    #[inline(always)]
+    pub(crate) fn add_some(&mut self, hart: HartId, kind: Kind, number: u64)
+        ensures { (h : ℕ) (k : Kind) → Grows (count_at self.old h k) (number * one_if (is_count h k (hart, kind))) (count_at self.new h k) }
+    {
+        let place = place(hart, kind);
+        self.counts[place] = self.counts[place].wrapping_add(number);
+    }
 }
