@@ -1,11 +1,11 @@
 -- A request that is served at once: the turns of its messages.
-use Rattle.std.proofs.Common.{◌≡◌, ◌≢◌, ◌<◌, ◌≤◌, ◌+◌, ◌∙◌, inl, inr, ℕ, zero, suc, Bool, true, false, cond, Option, Some, None, IfSome, List, [], ◌∷◌, ◌++◌, length, map, min, arith, refl, sym, ap, subst, subst₂}
-use Rattle.std.specs.Prelude.{◌==◌, IsSome, IsSomeAnd, is_none, option_to_list, slice_get, slice_set}
+use Rattle.std.proofs.Common.{◌≡◌, ◌≢◌, ◌<◌, ◌≤◌, ◌+◌, ◌∙◌, inl, inr, ℕ, zero, suc, Bool, true, false, cond, Option, Some, None, IfSome, List, [], ◌∷◌, ◌++◌, length, min, arith, refl, sym, ap, subst, subst₂}
+use Rattle.std.specs.Prelude.{◌==◌, IsSome, IsSomeAnd, is_none, is_some, option_to_list, slice_get, slice_set}
 use Rattle.std.specs.List.{slice_index_or}
 use Rattle.std.specs.Option.{option_map, option_map_or}
-use Rattle.std.proofs.lemmas.Bool.{cases_eq}
+use Rattle.std.proofs.lemmas.Bool.{cases_eq, true≢false}
 use Rattle.std.proofs.lemmas.List.{append_assoc, append-nil, get_or-set_other, length-append, length-set}
-use Rattle.std.proofs.lemmas.Option.{same_Some, none-some}
+use Rattle.std.proofs.lemmas.Option.{same_Some, none-some, slice_get_read}
 use Rattle.std.proofs.Math.Path.{fun_ext}
 use Rattle.words.specs.Harts.{names}
 use Rattle.words.specs.declared.message.Message.{Message as Coded}
@@ -23,9 +23,10 @@ use Rattle.flat.proofs.Maps.{two_numbers}
 use Rattle.network.specs.declared.net.Flight.{Flight}
 use Rattle.network.specs.Flights.{IsAlone}
 use Rattle.protocol.specs.Messages.{Block, Granted, Message, Get, Grant, Forward, Done, shown as shown_message, block_of, receiver_of}
-use Rattle.protocol.specs.Hart.{Hart, HartResult, Request as Waiting, quiet, stamp_of}
+use Rattle.protocol.specs.Hart.{Hart, HartResult, Request as Waiting, overflow_of, quiet, stamp_of}
 use Rattle.words.specs.Stamps.{earlier}
-use Rattle.protocol.specs.HartMessages.{message_row}
+use Rattle.protocol.specs.HartMessages.{message_row, refuse_row, acknowledge_row}
+use Rattle.protocol.specs.Lines.{refuses}
 use Rattle.protocol.specs.Start.{first_hart}
 use Rattle.protocol.specs.Requests.{answer_row, granted_so_far, end_row, granted_row, refused_row, have_answered, with_grant, with_ack, with_nack}
 use Rattle.protocol.specs.Directory.{Busy, Served, unless_busy, forwards, done_of as done_by}
@@ -41,14 +42,14 @@ use Rattle.hart.specs.Rows.{done_of, answer_of, refusal_of}
 use Rattle.hart.specs.Shown.{shown_hart}
 use Rattle.machine.specs.Mail.{Mail, SendsOn, in_flight, mail_of, number_after}
 use Rattle.machine.specs.Making.{MakesStep}
-use Rattle.machine.specs.Serving.{Hears, Settles, Replies, AnsweredBy, Answered, Ends, forward_of}
+use Rattle.machine.specs.Serving.{Hears, Settles, Replies, AnsweredBy, Answered, Ends, forward_of, forwards_to, Arrival, Arrives, ArriveAll, get_arrival, grant_arrival, forward_arrivals, answer_arrival, answer_arrivals, end_arrivals, end_of, arrivals_behind}
 use Rattle.machine.specs.States.{Seat, State, shown, geometry, hart_at, IsSound}
-use Rattle.machine.specs.Turns.{is_held, IsOldestFree, TakesMany}
+use Rattle.machine.specs.Turns.{is_held, IsOldestFree}
 use Rattle.machine.proofs.Changed.{changed_at}
 use Rattle.machine.proofs.Places.{got_there, beyond}
 use Rattle.machine.proofs.Deliveries.{arrives_at_hart}
 use Rattle.machine.proofs.Served.{block_inside, serves, follows}
-use Rattle.machine.proofs.Taken.{none_taken, one_taken, both_taken}
+use Rattle.machine.proofs.Arriving.{arrive_both, seats_beside}
 
 -- Mail
 
@@ -212,15 +213,15 @@ module _ (n i b : ℕ) (h : Hart) (m : Message) where
   ended_out keep (Some r) is = own_out (r.block == b) (keep r) is
 
 module _ (sets ways : ℕ) where
-  -- so many messages arrive, one after another
-  abbrev pub Goes : State → ℕ → State → Type 0
-  Goes v number w = ((after : ℕ) → TakesMany (geometry sets ways) v after number w after) × IsSound sets ways w
+  -- messages arrive, one after another
+  abbrev pub Goes : State → List Arrival → State → Type 0
+  Goes v ds w = ArriveAll (geometry sets ways) v ds w × IsSound sets ways w
 
-  go_on : (v u w : State) (m n : ℕ) → Goes v m u → Goes u n w → Goes v (m + n) w
-  go_on v u w m n first later = ((λ after. both_taken (geometry sets ways) v u w after after after m n (first.0 after) (later.0 after)), later.1)
+  go_on : (v u w : State) (ds bs : List Arrival) → Goes v ds u → Goes u bs w → Goes v (ds ++ bs) w
+  go_on v u w ds bs first later = (arrive_both (geometry sets ways) v u w ds bs first.0 later.0, later.1)
 
-  go_one : (v w : State) (key : ℕ) (e : Option Entry) → IsOldestFree (shown sets v) v.flights key → MakesStep (geometry sets ways) v (Deliver key) e w × IsSound sets ways w → Goes v 1 w
-  go_one v w key e next made = ((λ after. one_taken (geometry sets ways) v w after (Deliver key) e (record { next = next; made = made.0 })), made.1)
+  go_one : (v w : State) (a : Arrival) → Arrives (geometry sets ways) v a w → IsSound sets ways w → Goes v (a ∷ []) w
+  go_one v w a arrives sound = ((w, arrives, refl), sound)
 
   -- A hart hears a message
 
@@ -235,6 +236,36 @@ module _ (sets ways : ℕ) where
   hears key i v m seats flights next sent entry sound h here goes sends =
       arrives_at_hart sets ways key i v (record v { seats = seats; flights = flights; sent = next }) h.was h.is m sent entry sound
       (record { number = h.number; before = h.before; after = h.after; program = refl; directory = refl; stays = h.stays }) h.output refl here goes h.ways h.row sends
+
+  -- and it is its turn
+  heard : (key i : ℕ) (v : State) (m : Message) (seats : List Seat) (flights : List (Option Flight)) (next : ℕ) (sent : ℕ → Option Message) (entry : ℕ → Option Entry)
+      → IsSound sets ways v → Hears sets i m v.seats seats sent entry → in_flight v.flights key ≡ Some m → receiver_of m ≡ Some i
+      → SendsOn (put_at key None (mail_of v.flights)) v.sent (option_to_list (sent i)) (mail_of flights) next → IsOldestFree (shown sets v) v.flights key
+      → Goes v (record { message = m; sent = option_to_list (sent i); entry = entry i } ∷ []) (record v { seats = seats; flights = flights; sent = next })
+  heard key i v m seats flights next sent entry sound h here goes sends oldest =
+      let w : State = record v { seats = seats; flights = flights; sent = next } in
+      let made = hears key i v m seats flights next sent entry sound h here goes sends in
+      go_one v w (record { message = m; sent = option_to_list (sent i); entry = entry i }) (record {
+        key = key;
+        here = here;
+        turn = λ after. record { next = oldest; made = made.0 };
+        sends = sends;
+        others = λ j ne. seats_beside sets i j v.seats seats h.is h.after (λ e. ne (goes ∙ ap Some e));
+        directory = λ is. refl;
+      }) made.1
+
+  -- and one that the directory hears
+  told_there : (key : ℕ) (v w : State) (m : Message) (sent : List Message) → in_flight v.flights key ≡ Some m → receiver_of m ≡ None → w.seats ≡ v.seats
+      → SendsOn (put_at key None (mail_of v.flights)) v.sent sent (mail_of w.flights) w.sent → IsOldestFree (shown sets v) v.flights key
+      → MakesStep (geometry sets ways) v (Deliver key) None w → Arrives (geometry sets ways) v (record { message = m; sent = sent; entry = None }) w
+  told_there key v w m sent here goes seats sends oldest made = record {
+    key = key;
+    here = here;
+    turn = λ after. record { next = oldest; made = made };
+    sends = sends;
+    others = λ j ne. ap (λ l. hart_at sets l j) seats;
+    directory = λ is. absurd (true≢false (sym is ∙ ap is_some goes));
+  }
 
   -- The end
 
@@ -256,21 +287,22 @@ module _ (sets ways : ℕ) where
   module _ (u : State) (left : List (Option Flight)) (empty : mail_of left ≡ nothing) (from n : ℕ) (new : Blocks) where
     end_told : (b : ℕ) (ok : Bool) (content : Option Block) (number : ℕ) → let f : Flight = record { message = coded.Done from b ok content; number = n } in
         IsSound sets ways (record u { flights = alone f }) → Ends (Some (Done from b ok content)) u.directory new number
-        → ((after : ℕ) → TakesMany (geometry sets ways) (record u { flights = alone f }) after number (record u { directory = new; flights = left }) after) × IsSound sets ways (record u { directory = new; flights = left })
+        → Goes (record u { flights = alone f }) (end_arrivals (Done from b ok content ∷ [])) (record u { directory = new; flights = left })
     unfolding alone_is
     end_told b ok content number sound (is, used, (set, silent)) =
         let f : Flight = record { message = coded.Done from b ok content; number = n } in
         let v : State = record u { flights = alone f } in
         let w : State = record u { directory = new; flights = left } in
+        let none : SendsOn (put_at 0 None (mail_of (alone f))) u.sent [] (mail_of left) u.sent = (empty ∙ sym (emptied (alone f) 0 (alone_is f)), refl) in
         let made = serves sets ways 0 v w (coded.Done from b ok content) (done_by (entry_at u.directory b).busy from ok content (entry_at u.directory b) (memory_at u.directory b)) sound refl refl
-        (record { program = refl; seats = refl; stamps = refl; row = refl; block = set; used = used; sends = subst (λ ms. SendsOn (put_at 0 None (mail_of (alone f))) u.sent ms (mail_of left) u.sent) (sym silent) (empty ∙ sym (emptied (alone f) 0 (alone_is f)), refl) }) in
-        ((λ after. subst (λ k. TakesMany (geometry sets ways) v after k w after) (sym is) (one_taken (geometry sets ways) v w after (Deliver 0) None (record { next = oldest_alone (shown sets v) (alone f) 0 (alone_is f) refl; made = made.0 }))), made.1)
+        (record { program = refl; seats = refl; stamps = refl; row = refl; block = set; used = used; sends = subst (λ ms. SendsOn (put_at 0 None (mail_of (alone f))) u.sent ms (mail_of left) u.sent) (sym silent) none }) in
+        go_one v w (record { message = Done from b ok content; sent = []; entry = None }) (told_there 0 v w (Done from b ok content) [] refl refl refl none (oldest_alone (shown sets v) (alone f) 0 (alone_is f) refl) made.0) made.1
 
     pub ends : (s : Settled) (number : ℕ) → IsSound sets ways (record u { flights = ending left from n s }) → Ends (done_of from s) u.directory new number
-        → ((after : ℕ) → TakesMany (geometry sets ways) (record u { flights = ending left from n s }) after number (record u { directory = new; flights = left }) after) × IsSound sets ways (record u { directory = new; flights = left })
+        → Goes (record u { flights = ending left from n s }) (end_arrivals (option_to_list (done_of from s))) (record u { directory = new; flights = left })
     ends request.Waiting number sound (same, none) =
         let stays : record u { flights = left } ≡ record u { directory = new; flights = left } = λ k. record u { directory = sym same k; flights = left } in
-        ((λ after. subst₂ (λ (k : ℕ) (w : State). TakesMany (geometry sets ways) (record u { flights = left }) after k w after) (sym none) stays (none_taken (geometry sets ways) (record u { flights = left }) after)), subst (IsSound sets ways) stays sound)
+        (sym stays, subst (IsSound sets ways) stays sound)
     ends (request.Refused b) number sound told_so = end_told b false None number sound told_so
     ends (request.Granted b content) number sound told_so = end_told b true content number sound told_so
 
@@ -323,12 +355,12 @@ module _ (sets ways : ℕ) where
           let made = hears (length xs) r (at u old (xs ++ Some f ∷ ys) n) m new (Some g ∷ left) (number_after n) (λ i. done_of i settled) (λ i. None) sound h here goes sends in
           awaits g (number_after n) made.1 (out_behind r b ok content m old new settled is ended h)
 
-      waits_on : (settled : Settled) → Settles sets r m old new settled
-          → (settled ≡ request.Waiting) × MakesStep (geometry sets ways) (at u old (xs ++ Some f ∷ ys) n) (Deliver (length xs)) None (at u new (xs ++ None ∷ ys) n) × IsSound sets ways (at u new (xs ++ None ∷ ys) n)
-      waits_on request.Waiting h =
-          let made = hears (length xs) r (at u old (xs ++ Some f ∷ ys) n) m new (xs ++ None ∷ ys) n (λ i. done_of i request.Waiting) (λ i. None) sound h here goes (place xs ys (Some f) None, refl) in (refl, made.0, made.1)
-      waits_on (request.Refused b) h = absurd (ends_not b false None (request.Refused b) (λ i. refl) h)
-      waits_on (request.Granted b content) h = absurd (ends_not b true content (request.Granted b content) (λ i. refl) h)
+      waits_on : (settled : Settled) → Settles sets r m old new settled → IsOldestFree (shown sets (at u old (xs ++ Some f ∷ ys) n)) (xs ++ Some f ∷ ys) (length xs)
+          → Goes (at u old (xs ++ Some f ∷ ys) n) (record { message = m; sent = []; entry = None } ∷ []) (at u new (xs ++ None ∷ ys) n)
+      waits_on request.Waiting h oldest =
+          heard (length xs) r (at u old (xs ++ Some f ∷ ys) n) m new (xs ++ None ∷ ys) n (λ i. done_of i request.Waiting) (λ i. None) sound h here goes (place xs ys (Some f) None, refl) oldest
+      waits_on (request.Refused b) h oldest = absurd (ends_not b false None (request.Refused b) (λ i. refl) h)
+      waits_on (request.Granted b content) h oldest = absurd (ends_not b true content (request.Granted b content) (λ i. refl) h)
 
   -- Answers
 
@@ -413,20 +445,53 @@ module _ (sets ways : ℕ) where
         let both = swap q.requester x.0 m (forward_of q x.0) old mid heard (λ n. done_of n next) (λ n. Some (answer_of n q.requester q.block x.1)) (λ n. None) (λ n. refusal_of n q.requester q.block x.1) (λ e. ne (sym e)) s h in
         let on = past xs m both.0 heard new next both.2 rest in (on.0, (both.0, (ne, both.1), on.1), on.2)
 
-    pub reorder : (tos : List ℕ) (old : List Seat) (before : Settled) (new : List Seat) (settled : Settled) → AnsweredBy sets q tos old before new settled
-        → (xs : List (ℕ × ForwardAnswer)) × (map (λ x. x.0) xs ≡ tos) × (mid : List Seat) × AllAsked xs old mid × AllTold xs mid before new settled
-    reorder [] old before new settled (same, is) = ([], refl, old, refl, (same, is))
-    reorder (to ∷ tos) old before new settled (reply, asked, heard, next, h, s, rest) =
-        let on = reorder tos heard next new settled rest in
-        let moved = past on.0 (answer_of to q.requester q.block reply) asked heard on.2 next s on.3 in
-        ((to, reply) ∷ on.0, ap (λ l. to ∷ l) on.1, moved.0, (asked, h, moved.1), (on.2, next, moved.2, on.4))
+    pub reorder : (xs : List (ℕ × ForwardAnswer)) (old : List Seat) (before : Settled) (new : List Seat) (settled : Settled) → AnsweredBy sets q xs old before new settled
+        → (mid : List Seat) × AllAsked xs old mid × AllTold xs mid before new settled
+    reorder [] old before new settled (same, is) = (old, refl, (same, is))
+    reorder (x ∷ xs) old before new settled (asked, heard, next, h, s, rest) =
+        let on = reorder xs heard next new settled rest in
+        let moved = past xs (answer_of x.0 q.requester q.block x.1) asked heard on.0 next s on.1 in
+        (moved.0, (asked, h, moved.1), (on.0, next, moved.2, on.2))
 
     -- one more has answered
-    pub told_more : (tos : List ℕ) (to : ℕ) (old : List Seat) (before : Settled) (mid : List Seat) (settled : Settled) (asked new : List Seat) (next : Settled) (reply : ForwardAnswer) → AnsweredBy sets q tos old before mid settled
-        → Replies sets q to mid asked reply → Settles sets q.requester (answer_of to q.requester q.block reply) asked new next → AnsweredBy sets q (tos ++ to ∷ []) old before new next
-    told_more [] to old before mid settled asked new next reply (same, is) h s = (reply, asked, new, next, subst (λ (l : List Seat). Replies sets q to l asked reply) same h, s, (refl, refl))
-    told_more (t ∷ ts) to old before mid settled asked new next reply (first, first_asked, heard, on, k, o, rest) h s =
-        (first, first_asked, heard, on, k, o, told_more ts to heard on mid settled asked new next reply rest h s)
+    pub told_more : (xs : List (ℕ × ForwardAnswer)) (to : ℕ) (old : List Seat) (before : Settled) (mid : List Seat) (settled : Settled) (asked new : List Seat) (next : Settled) (reply : ForwardAnswer) → AnsweredBy sets q xs old before mid settled
+        → Replies sets q to mid asked reply → Settles sets q.requester (answer_of to q.requester q.block reply) asked new next → AnsweredBy sets q (xs ++ (to, reply) ∷ []) old before new next
+    told_more [] to old before mid settled asked new next reply (same, is) h s = (asked, new, next, subst (λ (l : List Seat). Replies sets q to l asked reply) same h, s, (refl, refl))
+    told_more (x ∷ xs) to old before mid settled asked new next reply (first_asked, heard, on, k, o, rest) h s =
+        (first_asked, heard, on, k, o, told_more xs to heard on mid settled asked new next reply rest h s)
+
+    -- a hart that hears a forward awaits what it awaited, and none but the requester hears the answers
+    waits_so : (b : Bool) (i : ℕ) (h : Hart) → (cond b (refuse_row i q.block q.requester q.stamp h) (acknowledge_row i q.block q.kind q.requester h)).hart.request ≡ h.request
+    waits_so true i h = refl
+    waits_so false i h = refl
+
+    replied : (to : ℕ) (a : ForwardAnswer) (old asked : List Seat) → Replies sets q to old asked a → (i : ℕ) → (hart_at sets asked i).request ≡ (hart_at sets old i).request
+    replied to a old asked (apart, h) i = elim (cases_eq i to) [
+      | inl e ↦
+          let was : Hart = shown_hart sets h.is.output h.was.hart in
+          let before : hart_at sets old to ≡ shown_hart sets h.was.output h.was.hart =
+          ap (λ o. option_map_or (λ (s : Seat). shown_hart sets s.output s.hart) o (first_hart idle)) (slice_get_read old (length old) to h.was refl h.number h.before) in
+          let behind : hart_at sets asked to ≡ shown_hart sets h.is.output h.is.hart =
+          hart_behind to (forward_of q to) old asked (λ n. Some (answer_of n q.requester q.block a)) (λ n. refusal_of n q.requester q.block a) h in
+          let there : (hart_at sets asked to).request ≡ (hart_at sets old to).request =
+          ap (λ (t : Hart). t.request) behind ∙ sym (ap (λ (t : HartResult). t.hart.request) (h.row h.is.output))
+          ∙ waits_so (refuses (was.lines q.block) (overflow_of was.tx) q.kind) h.was.hart.index was ∙ sym (ap (λ (t : Hart). t.request) before) in
+          subst (λ j. (hart_at sets asked j).request ≡ (hart_at sets old j).request) (sym e) there
+      | inr ne ↦ ap (λ (t : Hart). t.request) (seats_beside sets to i old asked h.is h.after (λ e. ne (sym e)))
+    ]
+
+    still_wait : (xs : List (ℕ × ForwardAnswer)) (old : List Seat) (before : Settled) (new : List Seat) (settled : Settled) → AnsweredBy sets q xs old before new settled
+        → (i : ℕ) → i ≢ q.requester → (hart_at sets new i).request ≡ (hart_at sets old i).request
+    still_wait [] old before new settled (same, is) i ne = ap (λ l. (hart_at sets l i).request) same
+    still_wait (x ∷ xs) old before new settled (asked, heard, next, h, s, rest) i ne =
+        still_wait xs heard next new settled rest i ne
+        ∙ ap (λ (t : Hart). t.request) (seats_beside sets q.requester i asked heard s.is s.after (λ e. ne (sym e)))
+        ∙ replied x.0 x.1 old asked h i
+
+    pub all_wait : (granted : Granted) (xs : List (ℕ × ForwardAnswer)) (old new : List Seat) (settled : Settled) → Answered sets q granted xs old new settled
+        → (i : ℕ) → i ≢ q.requester → (hart_at sets new i).request ≡ (hart_at sets old i).request
+    all_wait granted xs old new settled (first, waiting, s, rest) i ne =
+        still_wait xs waiting first new settled rest i ne ∙ ap (λ (t : Hart). t.request) (seats_beside sets q.requester i old waiting s.is s.after (λ e. ne (sym e)))
 
     -- their forwards, and their answers, numbered one after another
 
@@ -454,7 +519,7 @@ module _ (sets ways : ℕ) where
 
     -- forwards are sent behind what is sent
     sends_forwards : (xs : List (ℕ × ForwardAnswer)) (before : List (Option Flight)) (n : ℕ) → IsFull before → n + length xs ≤ 18446744073709551615
-        → SendsOn (mail_of before) n (map (forward_of q) (map (λ x. x.0) xs)) (mail_of (before ++ forwards_from n xs)) (n + length xs)
+        → SendsOn (mail_of before) n (forwards_to q xs) (mail_of (before ++ forwards_from n xs)) (n + length xs)
     sends_forwards [] before n full range = (ap mail_of (append-nil before), omega arith)
     sends_forwards (x ∷ xs) before n full range =
         let f : Flight = forward_flight x.0 n in
@@ -467,23 +532,24 @@ module _ (sets ways : ℕ) where
           record { free = beyond before (length before) None (omega arith); lowest = full },
           refl,
           refl,
-          subst₂ (λ mail k. SendsOn mail k (map (forward_of q) (map (λ y. y.0) xs)) (mail_of (before ++ forwards_from n (x ∷ xs))) (n + suc (length xs))) (added before (Some f)) next
-              (subst₂ (λ slots k. SendsOn (mail_of (before ++ Some f ∷ [])) (suc n) (map (forward_of q) (map (λ y. y.0) xs)) (mail_of slots) k) whole count more),
+          subst₂ (λ mail k. SendsOn mail k (forwards_to q xs) (mail_of (before ++ forwards_from n (x ∷ xs))) (n + suc (length xs))) (added before (Some f)) next
+              (subst₂ (λ slots k. SendsOn (mail_of (before ++ Some f ∷ [])) (suc n) (forwards_to q xs) (mail_of slots) k) whole count more),
         )
 
     -- one forward after another arrives, and is answered
     forward_phase : (xs : List (ℕ × ForwardAnswer)) (done : List (Option Flight)) (b m n : ℕ) (u : State) (old new : List Seat) → IsFull done → Above b done → m + length xs ≤ suc b → b < n → n + length xs ≤ 18446744073709551615
         → IsSound sets ways (at u old ((done ++ None ∷ []) ++ forwards_from m xs) n) → AllAsked xs old new
-        → Goes (at u old ((done ++ None ∷ []) ++ forwards_from m xs) n) (length xs) (at u new ((done ++ answers_from n xs) ++ None ∷ []) (n + length xs))
+        → Goes (at u old ((done ++ None ∷ []) ++ forwards_from m xs) n) (forward_arrivals q xs) (at u new ((done ++ answers_from n xs) ++ None ∷ []) (n + length xs))
     forward_phase [] done b m n u old new full above low high range sound same =
         let is : at u old ((done ++ None ∷ []) ++ []) n ≡ at u new ((done ++ []) ++ None ∷ []) (n + 0) =
         λ k. at u (sym same k) ((append-nil (done ++ None ∷ []) ∙ ap (λ (l : List (Option Flight)). l ++ None ∷ []) (sym (append-nil done))) k) (let zero : n ≡ n + 0 = omega arith in zero k) in
-        subst (λ (w : State). Goes (at u old ((done ++ None ∷ []) ++ []) n) 0 w) is ((λ after. none_taken (geometry sets ways) (at u old ((done ++ None ∷ []) ++ []) n) after), sound)
+        subst (λ (w : State). Goes (at u old ((done ++ None ∷ []) ++ []) n) [] w) is (refl, sound)
     forward_phase (x ∷ xs) done b m n u old new full above low high range sound (mid, (ne, h), rest) =
         let D : List (Option Flight) = done ++ None ∷ [] in
         let ys : List (Option Flight) = forwards_from (suc m) xs in
         let f : Flight = forward_flight x.0 m in
         let a : Flight = answer_flight x n in
+        let arrived : Arrival = record { message = forward_of q x.0; sent = answer_of x.0 q.requester q.block x.1 ∷ []; entry = refusal_of x.0 q.requester q.block x.1 } in
         let v : State = at u old (D ++ Some f ∷ ys) n in
         let L : List (Option Flight) = ((done ++ Some a ∷ []) ++ None ∷ []) ++ ys in
         let moved : done ++ Some a ∷ None ∷ ys ≡ L = sym (append_assoc (done ++ Some a ∷ []) (None ∷ []) ys ∙ append_assoc done (Some a ∷ []) (None ∷ ys)) in
@@ -491,18 +557,17 @@ module _ (sets ways : ℕ) where
         let sends : SendsOn (put_at (length D) None (mail_of (D ++ Some f ∷ ys))) n (answer_of x.0 q.requester q.block x.1 ∷ []) (mail_of L) (number_after n) =
         subst₂ (λ mail slots. SendsOn mail n (answer_of x.0 q.requester q.block x.1 ∷ []) (mail_of slots) (number_after n)) taken moved
         (send_at done (None ∷ ys) a (answer_of x.0 q.requester q.block x.1) n full (answer_told x.0 q.requester q.block x.1) refl) in
-        let made = hears (length D) x.0 v (forward_of q x.0) mid L (number_after n) (λ i. Some (answer_of i q.requester q.block x.1)) (λ i. refusal_of i q.requester q.block x.1) sound h
-        (ap (λ o. option_map shown_message (option_map (λ (g : Flight). g.message) o)) (seam D ys (Some f))) refl sends in
         let next : number_after n ≡ suc n = omega (arith, range) in
-        let first : Goes v 1 (at u mid L (suc n)) = subst (λ k. Goes v 1 (at u mid L k)) next
-        (go_one v (at u mid L (number_after n)) (length D) (refusal_of x.0 q.requester q.block x.1)
-        (oldest_at (shown sets v) D ys f refl (above_both m done (None ∷ []) (above_less m b done (omega (arith, low)) above) (above_none m [] (λ j g is. absurd (none-some g is)))) (above_forwards m (suc m) xs (omega arith))) made) in
+        let first : Goes v (arrived ∷ []) (at u mid L (suc n)) = subst (λ k. Goes v (arrived ∷ []) (at u mid L k)) next
+        (heard (length D) x.0 v (forward_of q x.0) mid L (number_after n) (λ i. Some (answer_of i q.requester q.block x.1)) (λ i. refusal_of i q.requester q.block x.1) sound h
+        (ap (λ o. option_map shown_message (option_map (λ (g : Flight). g.message) o)) (seam D ys (Some f))) refl sends
+        (oldest_at (shown sets v) D ys f refl (above_both m done (None ∷ []) (above_less m b done (omega (arith, low)) above) (above_none m [] (λ j g is. absurd (none-some g is)))) (above_forwards m (suc m) xs (omega arith)))) in
         let above_still : Above b (done ++ Some a ∷ []) = above_both b done (Some a ∷ []) above (above_some b a [] high (λ j g is. absurd (none-some g is))) in
         let on = forward_phase xs (done ++ Some a ∷ []) b (suc m) (suc n) u mid new (full_more done a full) above_still (omega (arith, low)) (omega (arith, high)) (omega (arith, range)) first.1 rest in
         let last : at u new (((done ++ Some a ∷ []) ++ answers_from (suc n) xs) ++ None ∷ []) (suc n + length xs) ≡ at u new ((done ++ answers_from n (x ∷ xs)) ++ None ∷ []) (n + suc (length xs)) =
         λ k. at u new (append_assoc done (Some a ∷ []) (answers_from (suc n) xs) k ++ None ∷ []) (let count : suc n + length xs ≡ n + suc (length xs) = omega arith in count k) in
-        let whole = go_on v (at u mid L (suc n)) (at u new (((done ++ Some a ∷ []) ++ answers_from (suc n) xs) ++ None ∷ []) (suc n + length xs)) 1 (length xs) first on in
-        subst₂ (λ (k : ℕ) (w : State). Goes v k w) (let count : 1 + length xs ≡ suc (length xs) = omega arith in count) last whole
+        subst (λ (w : State). Goes v (forward_arrivals q (x ∷ xs)) w) last
+        (go_on v (at u mid L (suc n)) (at u new (((done ++ Some a ∷ []) ++ answers_from (suc n) xs) ++ None ∷ []) (suc n + length xs)) (arrived ∷ []) (forward_arrivals q xs) first on)
 
     -- the first slot is free
     first_none : (gone zs : List (Option Flight)) → IsEmpty gone → (left : List (Option Flight)) × (gone ++ None ∷ zs ≡ None ∷ left)
@@ -530,18 +595,17 @@ module _ (sets ways : ℕ) where
     -- one answer after another arrives
     answer_phase : (x : ℕ × ForwardAnswer) (xs : List (ℕ × ForwardAnswer)) (gone : List (Option Flight)) (m n : ℕ) (u : State) (old : List Seat) (before : Settled) (new : List Seat) (settled : Settled) (left : List (Option Flight))
         → IsEmpty gone → mail_of left ≡ nothing → IsSound sets ways (at u old (gone ++ (answers_from m (x ∷ xs) ++ None ∷ [])) n) → AllTold (x ∷ xs) old before new settled
-        → Goes (at u old (gone ++ (answers_from m (x ∷ xs) ++ None ∷ [])) n) (suc (length xs)) (at u new (ending left q.requester n settled) (number_by n settled))
+        → Goes (at u old (gone ++ (answers_from m (x ∷ xs) ++ None ∷ [])) n) (answer_arrivals q (x ∷ xs) settled) (at u new (ending left q.requester n settled) (number_by n settled))
     answer_phase x [] gone m n u old before new settled left empty none sound (mid, next, s, (same, is)) =
         let a : Flight = answer_flight x m in
         let L : List (Option Flight) = gone ++ Some a ∷ None ∷ [] in
         let v : State = at u old L n in
         let told : Message = answer_of x.0 q.requester q.block x.1 in
         let h : Settles sets q.requester told old new settled = subst₂ (λ (l : List Seat) (t : Settled). Settles sets q.requester told old l t) (sym same) (sym is) s in
-        let made = hears (length gone) q.requester v told new (ending left q.requester n settled) (number_by n settled) (λ i. done_of i settled) (λ i. None) sound h
+        heard (length gone) q.requester v told new (ending left q.requester n settled) (number_by n settled) (λ i. done_of i settled) (λ i. None) sound h
         (ap (λ o. option_map shown_message (option_map (λ (g : Flight). g.message) o)) (seam gone (None ∷ []) (Some a)) ∙ ap Some (answer_told x.0 q.requester q.block x.1)) (answer_goes x.0 q.requester q.block x.1)
-        (subst (λ mail. SendsOn mail n (option_to_list (done_of q.requester settled)) (mail_of (ending left q.requester n settled)) (number_by n settled)) (sym (emptied L (length gone) (alone_in gone a empty))) (sends_end left q.requester n settled none)) in
-        go_one v (at u new (ending left q.requester n settled) (number_by n settled)) (length gone) None
-        (oldest_at (shown sets v) gone (None ∷ []) a (answer_free (shown sets v) x.0 q.requester q.block x.1) (above_empty m gone empty) (above_none m [] (λ j g at_it. absurd (none-some g at_it)))) made
+        (subst (λ mail. SendsOn mail n (option_to_list (done_of q.requester settled)) (mail_of (ending left q.requester n settled)) (number_by n settled)) (sym (emptied L (length gone) (alone_in gone a empty))) (sends_end left q.requester n settled none))
+        (oldest_at (shown sets v) gone (None ∷ []) a (answer_free (shown sets v) x.0 q.requester q.block x.1) (above_empty m gone empty) (above_none m [] (λ j g at_it. absurd (none-some g at_it))))
     answer_phase x (y ∷ ys) gone m n u old before new settled left empty none sound (mid, next, s, rest) =
         let a : Flight = answer_flight x m in
         let c : Flight = answer_flight y (suc m) in
@@ -557,17 +621,15 @@ module _ (sets ways : ℕ) where
         let awaits : (g : Flight) (k : ℕ) → IsSound sets ways (at u mid (Some g ∷ free.0) k) → (hart_at sets mid q.requester).request ≡ None → ⊥ =
         λ g k also. waits_answered (suc (length gone)) y.0 q.block q.requester y.1 (at u mid (Some g ∷ free.0) k) also
         (ap (λ o. option_map shown_message (option_map (λ (e : Flight). e.message) o)) there ∙ ap Some (answer_told y.0 q.requester q.block y.1)) in
-        let step = waits_on gone zs free.0 a told n q.requester u old mid sound free.1 (answer_told x.0 q.requester q.block x.1) (answer_goes x.0 q.requester q.block x.1) (answer_is x.0 q.requester q.block x.1) awaits next s in
-        let w : State = at u mid (gone ++ None ∷ zs) n in
-        let first : Goes v 1 w = go_one v w (length gone) None
+        let step = waits_on gone zs free.0 a told n q.requester u old mid sound free.1 (answer_told x.0 q.requester q.block x.1) (answer_goes x.0 q.requester q.block x.1) (answer_is x.0 q.requester q.block x.1) awaits next s
         (oldest_at (shown sets v) gone zs a (answer_free (shown sets v) x.0 q.requester q.block x.1) (above_empty m gone empty)
-        (above_both m (answers_from (suc m) (y ∷ ys)) (None ∷ []) (above_answers m (suc m) (y ∷ ys) (omega arith)) (above_none m [] (λ j g at_it. absurd (none-some g at_it))))) (step.1, step.2) in
+        (above_both m (answers_from (suc m) (y ∷ ys)) (None ∷ []) (above_answers m (suc m) (y ∷ ys) (omega arith)) (above_none m [] (λ j g at_it. absurd (none-some g at_it))))) in
+        let w : State = at u mid (gone ++ None ∷ zs) n in
         let same : gone ++ None ∷ zs ≡ (gone ++ None ∷ []) ++ zs = sym (append_assoc gone (None ∷ []) zs) in
-        let on = answer_phase y ys (gone ++ None ∷ []) (suc m) n u mid next new settled left (empty_more gone empty) none (subst (λ l. IsSound sets ways (at u mid l n)) same first.1) rest in
-        let on_from : Goes w (suc (length ys)) (at u new (ending left q.requester n settled) (number_by n settled)) =
-        subst (λ l. Goes (at u mid l n) (suc (length ys)) (at u new (ending left q.requester n settled) (number_by n settled))) (sym same) on in
-        subst (λ k. Goes v k (at u new (ending left q.requester n settled) (number_by n settled))) (let count : 1 + suc (length ys) ≡ suc (suc (length ys)) = omega arith in count)
-        (go_on v w (at u new (ending left q.requester n settled) (number_by n settled)) 1 (suc (length ys)) first on_from)
+        let on = answer_phase y ys (gone ++ None ∷ []) (suc m) n u mid next new settled left (empty_more gone empty) none (subst (λ l. IsSound sets ways (at u mid l n)) same step.1) rest in
+        let on_from : Goes w (answer_arrivals q (y ∷ ys) settled) (at u new (ending left q.requester n settled) (number_by n settled)) =
+        subst (λ l. Goes (at u mid l n) (answer_arrivals q (y ∷ ys) settled) (at u new (ending left q.requester n settled) (number_by n settled))) (sym same) on in
+        go_on v w (at u new (ending left q.requester n settled) (number_by n settled)) (answer_arrival q x [] ∷ []) (answer_arrivals q (y ∷ ys) settled) step on_from
 
     -- A request
 
@@ -589,15 +651,15 @@ module _ (sets ways : ℕ) where
         → Answers (Some (answer_to d q given)) (row_of d (Get q.requester q.block q.kind q.stamp)) q.block d new
     is_answered d new given o is = subst (λ r. Answers (option_map (answer_to d q) r) (row_of d (Get q.requester q.block q.kind q.stamp)) q.block d new) is
 
-    pub is_forwarded : (n read expect : ℕ) (tos : List ℕ) → read ≡ n → forwards read (names expect) q.block q.kind q.requester q.stamp ≡ map (forward_of q) tos
-        → forwards n (names expect) q.block q.kind q.requester q.stamp ≡ map (forward_of q) tos
-    is_forwarded n read expect tos same = subst (λ k. forwards k (names expect) q.block q.kind q.requester q.stamp ≡ map (forward_of q) tos) same
+    pub is_forwarded : (n read expect : ℕ) (xs : List (ℕ × ForwardAnswer)) → read ≡ n → forwards read (names expect) q.block q.kind q.requester q.stamp ≡ forwards_to q xs
+        → forwards n (names expect) q.block q.kind q.requester q.stamp ≡ forwards_to q xs
+    is_forwarded n read expect xs same = subst (λ k. forwards k (names expect) q.block q.kind q.requester q.stamp ≡ forwards_to q xs) same
 
-    pub is_asked : (d : Blocks) (given : Given) (read : Block) (tos : List ℕ) (lent old new : List Seat) (settled : Settled) → read ≡ memory_at d q.block → lent ≡ old
-        → Answered sets q (record { give = given.give; content = read; expect = names given.expect }) tos lent new settled
-        → Answered sets q (record { give = given.give; content = memory_at d q.block; expect = names given.expect }) tos old new settled
-    is_asked d given read tos lent old new settled words seats =
-        subst₂ (λ (content : Block) (xs : List Seat). Answered sets q (record { give = given.give; content = content; expect = names given.expect }) tos xs new settled) words seats
+    pub is_asked : (d : Blocks) (given : Given) (read : Block) (xs : List (ℕ × ForwardAnswer)) (lent old new : List Seat) (settled : Settled) → read ≡ memory_at d q.block → lent ≡ old
+        → Answered sets q (record { give = given.give; content = read; expect = names given.expect }) xs lent new settled
+        → Answered sets q (record { give = given.give; content = memory_at d q.block; expect = names given.expect }) xs old new settled
+    is_asked d given read xs lent old new settled words seats =
+        subst₂ (λ (content : Block) (before : List Seat). Answered sets q (record { give = given.give; content = content; expect = names given.expect }) xs before new settled) words seats
 
     module _ (key : ℕ) (v : State) (given : Given) (d : Blocks) (s : IsServing key v given d) where
       abbrev pub granted : Granted
@@ -620,14 +682,25 @@ module _ (sets ways : ℕ) where
           subst (λ m. is_held (shown sets v) m ≡ false) (sym same) (not_busy (entry_at v.directory q.block).busy _ _ _ s.answers)
 
       -- it arrives
-      abbrev behind_get : List (Option Flight) → ℕ → State
+      abbrev pub behind_get : List (Option Flight) → ℕ → State
       behind_get flights next = record v { directory = d; flights = flights; sent = next }
 
-      get_goes : (flights : List (Option Flight)) (next : ℕ) → SendsOn nothing v.sent (told ∷ forwarded) (mail_of flights) next → Goes v 1 (behind_get flights next)
-      get_goes flights next sends =
-          go_one v (behind_get flights next) key None (oldest_alone (shown sets v) v.flights key s.only free)
-          (follows sets ways key v (behind_get flights next) (coded.Get q.requester q.block q.kind q.stamp) (answer_to v.directory q given) s.sound s.here refl s.answers s.used refl refl refl
-          (subst (λ mail. SendsOn mail v.sent (told ∷ forwarded) (mail_of flights) next) (sym (emptied v.flights key s.only)) sends))
+      get_goes : (xs : List (ℕ × ForwardAnswer)) (flights : List (Option Flight)) (next : ℕ) → forwarded ≡ forwards_to q xs → SendsOn nothing v.sent (told ∷ forwards_to q xs) (mail_of flights) next
+          → Arrives (geometry sets ways) v (get_arrival q granted xs) (behind_get flights next) × IsSound sets ways (behind_get flights next)
+      get_goes xs flights next are sends =
+          let w : State = behind_get flights next in
+          let taken : SendsOn (put_at key None (mail_of v.flights)) v.sent (told ∷ forwards_to q xs) (mail_of flights) next =
+          subst (λ mail. SendsOn mail v.sent (told ∷ forwards_to q xs) (mail_of flights) next) (sym (emptied v.flights key s.only)) sends in
+          let made = follows sets ways key v w (coded.Get q.requester q.block q.kind q.stamp) (answer_to v.directory q given) s.sound s.here refl s.answers s.used refl refl refl
+          (subst (λ ms. SendsOn (put_at key None (mail_of v.flights)) v.sent (told ∷ ms) (mail_of flights) next) (sym are) taken) in
+          (told_there key v w (Get q.requester q.block q.kind q.stamp) (told ∷ forwards_to q xs) s.here refl refl taken (oldest_alone (shown sets v) v.flights key s.only free) made.0, made.1)
+
+      -- and then others do: until it is known how it ends, these
+      abbrev pub Begins : List (ℕ × ForwardAnswer) → List Arrival → State → Type 0
+      Begins xs ds w = (u : State) × Arrives (geometry sets ways) v (get_arrival q granted xs) u × (u.directory ≡ d) × Goes u ds w
+
+      abbrev pub so_far : List (ℕ × ForwardAnswer) → Settled → List Arrival
+      so_far xs settled = grant_arrival q granted xs settled ∷ (forward_arrivals q xs ++ answer_arrivals q xs settled)
 
       -- so many messages were sent until it is known how it ends, where so many harts are asked
       abbrev pub so_many : ℕ → ℕ
@@ -638,23 +711,24 @@ module _ (sets ways : ℕ) where
 
       module _ (seats : List Seat) (settled : Settled) (left : List (Option Flight)) (empty : mail_of left ≡ nothing) where
         -- nobody is asked
-        none_asked : (first : Settled) (waiting : List Seat) → forwarded ≡ [] → Settles sets q.requester told v.seats waiting first → seats ≡ waiting → settled ≡ first → Goes v 2 (behind 0 seats settled left)
+        none_asked : (first : Settled) (waiting : List Seat) → forwarded ≡ [] → Settles sets q.requester told v.seats waiting first → seats ≡ waiting → settled ≡ first → Begins [] (so_far [] settled) (behind 0 seats settled left)
         none_asked first waiting none grants same is =
             let n : ℕ = number_after v.sent in
             let many : n ≡ so_many 0 = omega (arith, s.range) in
             let F : List (Option Flight) = alone grant_flight in
-            let w : State = at (behind_get F n) seats (ending left q.requester n settled) (number_by n settled) in
-            let get = get_goes F n (subst (λ fs. SendsOn nothing v.sent (told ∷ fs) (mail_of F) n) (sym none) (send_one grant_flight told v.sent refl refl)) in
+            let u : State = behind_get F n in
+            let w : State = at u seats (ending left q.requester n settled) (number_by n settled) in
+            let get = get_goes [] F n none (send_one grant_flight told v.sent refl refl) in
             let h : Settles sets q.requester told v.seats seats settled = subst₂ (λ (l : List Seat) (t : Settled). Settles sets q.requester told v.seats l t) (sym same) (sym is) grants in
-            let grant = hears 0 q.requester (behind_get F n) told seats w.flights w.sent (λ i. done_of i settled) (λ i. None) get.1 h refl refl
-            (subst (λ mail. SendsOn mail n (option_to_list (done_of q.requester settled)) (mail_of w.flights) w.sent) (sym (emptied F 0 (alone_is grant_flight))) (sends_end left q.requester n settled empty)) in
-            subst (λ k. Goes v 2 (at (behind_get F n) seats (ending left q.requester k settled) (number_by k settled))) many
-            (go_on v (behind_get F n) w 1 1 get (go_one (behind_get F n) w 0 None (oldest_at (shown sets (behind_get F n)) [] [] grant_flight refl (λ j f is_it. absurd (none-some f is_it)) (λ j f is_it. absurd (none-some f is_it))) grant))
+            let grant : Goes u (grant_arrival q granted [] settled ∷ []) w = heard 0 q.requester u told seats w.flights w.sent (λ i. done_of i settled) (λ i. None) get.1 h refl refl
+            (subst (λ mail. SendsOn mail n (option_to_list (done_of q.requester settled)) (mail_of w.flights) w.sent) (sym (emptied F 0 (alone_is grant_flight))) (sends_end left q.requester n settled empty))
+            (oldest_at (shown sets u) [] [] grant_flight refl (λ j f is_it. absurd (none-some f is_it)) (λ j f is_it. absurd (none-some f is_it))) in
+            subst (λ k. Begins [] (so_far [] settled) (at u seats (ending left q.requester k settled) (number_by k settled))) many (u, get.0, refl, grant)
 
         -- some are
-        some_asked : (x : ℕ × ForwardAnswer) (xs : List (ℕ × ForwardAnswer)) (first : Settled) (waiting mid : List Seat) → suc (length xs) ≤ 8 → forwarded ≡ map (forward_of q) (map (λ y. y.0) (x ∷ xs))
+        some_asked : (x : ℕ × ForwardAnswer) (xs : List (ℕ × ForwardAnswer)) (first : Settled) (waiting mid : List Seat) → suc (length xs) ≤ 8 → forwarded ≡ forwards_to q (x ∷ xs)
             → Settles sets q.requester told v.seats waiting first → AllAsked (x ∷ xs) waiting mid → AllTold (x ∷ xs) mid first seats settled
-            → Goes v (2 + (suc (length xs) + suc (length xs))) (behind (suc (length xs)) seats settled left)
+            → Begins (x ∷ xs) (so_far (x ∷ xs) settled) (behind (suc (length xs)) seats settled left)
         some_asked x xs first waiting mid few are grants asks tells =
             let k : ℕ = suc (length xs) in
             let n : ℕ = v.sent + 1 + k in
@@ -662,55 +736,52 @@ module _ (sets ways : ℕ) where
             let G : List (Option Flight) = Some grant_flight ∷ fs in
             let next : suc v.sent ≡ number_after v.sent = omega (arith, s.range) in
             let count : suc v.sent + k ≡ n = omega arith in
-            let sends : SendsOn nothing v.sent (told ∷ map (forward_of q) (map (λ y. y.0) (x ∷ xs))) (mail_of G) n = (
+            let sends : SendsOn nothing v.sent (told ∷ forwards_to q (x ∷ xs)) (mail_of G) n = (
               0,
               grant_flight,
               record { free = refl; lowest = λ other below. absurd (omega (arith, below)) },
               refl,
               refl,
-              subst₂ (λ mail l. SendsOn mail l (map (forward_of q) (map (λ y. y.0) (x ∷ xs))) (mail_of G) n) (first_sent grant_flight) next
-                  (subst (λ l. SendsOn (mail_of (alone grant_flight)) (suc v.sent) (map (forward_of q) (map (λ y. y.0) (x ∷ xs))) (mail_of G) l) count
+              subst₂ (λ mail l. SendsOn mail l (forwards_to q (x ∷ xs)) (mail_of G) n) (first_sent grant_flight) next
+                  (subst (λ l. SendsOn (mail_of (alone grant_flight)) (suc v.sent) (forwards_to q (x ∷ xs)) (mail_of G) l) count
                   (sends_forwards (x ∷ xs) (alone grant_flight) (suc v.sent) (full_more [] grant_flight (λ j below. absurd (omega (arith, below)))) (omega (arith, s.range, few)))),
             ) in
-            let get = get_goes G n (subst (λ ms. SendsOn nothing v.sent (told ∷ ms) (mail_of G) n) (sym are) sends) in
+            let get = get_goes (x ∷ xs) G n are sends in
             let u : State = behind_get G n in
             let awaits : (g : Flight) (l : ℕ) → IsSound sets ways (at u waiting (Some g ∷ fs) l) → (hart_at sets waiting q.requester).request ≡ None → ⊥ =
             λ g l also. waits_forwarded 1 x.0 q.block q.requester q.kind q.stamp (at u waiting (Some g ∷ fs) l) also refl in
-            let step = waits_on [] fs fs grant_flight told n q.requester u v.seats waiting get.1 refl refl refl (grant_is q.requester q.block granted) awaits first grants in
-            let grant : Goes u 1 (at u waiting (None ∷ fs) n) = go_one u (at u waiting (None ∷ fs) n) 0 None (oldest_at (shown sets u) [] fs grant_flight refl (λ j f is_it. absurd (none-some f is_it)) (above_forwards v.sent (suc v.sent) (x ∷ xs) (omega arith))) (step.1, step.2) in
+            let grant : Goes u (grant_arrival q granted (x ∷ xs) settled ∷ []) (at u waiting (None ∷ fs) n) =
+            waits_on [] fs fs grant_flight told n q.requester u v.seats waiting get.1 refl refl refl (grant_is q.requester q.block granted) awaits first grants
+            (oldest_at (shown sets u) [] fs grant_flight refl (λ j f is_it. absurd (none-some f is_it)) (above_forwards v.sent (suc v.sent) (x ∷ xs) (omega arith))) in
             let ask = forward_phase (x ∷ xs) [] (v.sent + k) (suc v.sent) n u waiting mid (λ j below. absurd (omega (arith, below))) (λ j f is_it. absurd (none-some f is_it)) (omega arith) (omega arith) (omega (arith, s.range, few)) grant.1 asks in
             let tell = answer_phase x xs [] n (n + k) u mid first seats settled left (λ j. refl) empty ask.1 tells in
-            let all = go_on v u (at u seats (ending left q.requester (n + k) settled) (number_by (n + k) settled)) 1 (1 + (k + k)) get
-            (go_on u (at u waiting (None ∷ fs) n) (at u seats (ending left q.requester (n + k) settled) (number_by (n + k) settled)) 1 (k + k) grant
-            (go_on (at u waiting (None ∷ fs) n) (at u mid (answers_from n (x ∷ xs) ++ None ∷ []) (n + k)) (at u seats (ending left q.requester (n + k) settled) (number_by (n + k) settled)) k k ask tell)) in
-            subst₂ (λ (c l : ℕ). Goes v c (at u seats (ending left q.requester l settled) (number_by l settled))) (let long : 1 + (1 + (k + k)) ≡ 2 + (k + k) = omega arith in long) (let many : n + k ≡ so_many k = omega arith in many) all
+            let last : State = at u seats (ending left q.requester (n + k) settled) (number_by (n + k) settled) in
+            let behind_grant = at u waiting (None ∷ fs) n in
+            let all : Goes u (so_far (x ∷ xs) settled) last = go_on u behind_grant last (grant_arrival q granted (x ∷ xs) settled ∷ []) (forward_arrivals q (x ∷ xs) ++ answer_arrivals q (x ∷ xs) settled) grant
+            (go_on behind_grant (at u mid (answers_from n (x ∷ xs) ++ None ∷ []) (n + k)) last (forward_arrivals q (x ∷ xs)) (answer_arrivals q (x ∷ xs) settled) ask tell) in
+            subst (λ (l : ℕ). Begins (x ∷ xs) (so_far (x ∷ xs) settled) (at u seats (ending left q.requester l settled) (number_by l settled))) (let many : n + k ≡ so_many k = omega arith in many) (u, get.0, refl, all)
 
-        by_order : (xs : List (ℕ × ForwardAnswer)) (first : Settled) (waiting mid : List Seat) → length xs ≤ 8 → forwarded ≡ map (forward_of q) (map (λ y. y.0) xs)
-            → Settles sets q.requester told v.seats waiting first → AllAsked xs waiting mid → AllTold xs mid first seats settled → Goes v (2 + (length xs + length xs)) (behind (length xs) seats settled left)
+        by_order : (xs : List (ℕ × ForwardAnswer)) (first : Settled) (waiting mid : List Seat) → length xs ≤ 8 → forwarded ≡ forwards_to q xs
+            → Settles sets q.requester told v.seats waiting first → AllAsked xs waiting mid → AllTold xs mid first seats settled → Begins xs (so_far xs settled) (behind (length xs) seats settled left)
         by_order [] first waiting mid few are grants asks (same, is) = none_asked first waiting are grants (same ∙ asks) is
         by_order (x ∷ xs) first waiting mid few are grants asks tells = some_asked x xs first waiting mid few are grants asks tells
 
-        pub answered : (tos : List ℕ) → length tos ≤ 8 → forwarded ≡ map (forward_of q) tos → Answered sets q granted tos v.seats seats settled → Goes v (2 + (length tos + length tos)) (behind (length tos) seats settled left)
-        answered tos few are (first, waiting, grants, answers) =
-            let on = reorder tos waiting first seats settled answers in
-            let long : length on.0 ≡ length tos = as_many on.0 ∙ ap length on.1 in
-            subst (λ k. Goes v (2 + (k + k)) (behind k seats settled left)) long
-            (by_order on.0 first waiting on.2 (omega (arith, long, few)) (are ∙ ap (map (forward_of q)) (sym on.1)) grants on.3 on.4)
-          where
-            as_many : (xs : List (ℕ × ForwardAnswer)) → length xs ≡ length (map (λ (y : ℕ × ForwardAnswer). y.0) xs)
-            as_many [] = refl
-            as_many (x ∷ xs) = ap suc (as_many xs)
+        pub answered : (xs : List (ℕ × ForwardAnswer)) → length xs ≤ 8 → forwarded ≡ forwards_to q xs → Answered sets q granted xs v.seats seats settled → Begins xs (so_far xs settled) (behind (length xs) seats settled left)
+        answered xs few are (first, waiting, grants, answers) =
+            let on = reorder xs waiting first seats settled answers in by_order xs first waiting on.0 few are grants on.1 on.2
 
         -- and its end, if it has ended
         abbrev pub served : ℕ → Blocks → State
         served k new = record v { seats = seats; directory = new; flights = left; sent = number_by (so_many k) settled }
 
-        pub whole : (tos : List ℕ) (new : Blocks) (number : ℕ) → length tos ≤ 8 → forwarded ≡ map (forward_of q) tos → Answered sets q granted tos v.seats seats settled
-            → Ends (done_of q.requester settled) d new number → Goes v (2 + (length tos + length tos) + number) (served (length tos) new)
-        whole tos new number few are asks ended =
-            let so_far = answered tos few are asks in
-            let rest = ends (record v { seats = seats; directory = d; sent = number_by (so_many (length tos)) settled }) left empty q.requester (so_many (length tos)) new settled number so_far.1 ended in
-            go_on v (behind (length tos) seats settled left) (served (length tos) new) (2 + (length tos + length tos)) number so_far rest
+        pub whole : (xs : List (ℕ × ForwardAnswer)) (new : Blocks) (number : ℕ) → length xs ≤ 8 → forwarded ≡ forwards_to q xs → Answered sets q granted xs v.seats seats settled
+            → Ends (done_of q.requester settled) d new number → Begins xs (arrivals_behind q granted xs settled) (served (length xs) new)
+        whole xs new number few are asks ended = by (answered xs few are asks)
+          where
+            by : Begins xs (so_far xs settled) (behind (length xs) seats settled left) → Begins xs (arrivals_behind q granted xs settled) (served (length xs) new)
+            by (u, first, same, gone) =
+                let rest = ends (record v { seats = seats; directory = d; sent = number_by (so_many (length xs)) settled }) left empty q.requester (so_many (length xs)) new settled number gone.1 ended in
+                (u, first, same, go_on u (behind (length xs) seats settled left) (served (length xs) new) (so_far xs settled) (end_arrivals (end_of q settled)) gone rest)
 
         pub numbered : (k : ℕ) (new : Blocks) (number : ℕ) → Ends (done_of q.requester settled) d new number → k ≤ 8 → number_by (so_many k) settled ≡ min (v.sent + (1 + (k + k) + number)) 18446744073709551615
         numbered k new number ended few = by settled ended
@@ -720,12 +791,20 @@ module _ (sets ways : ℕ) where
             by (request.Refused b) (is, used, set) = omega (arith, is, s.range, few)
             by (request.Granted b content) (is, used, set) = omega (arith, is, s.range, few)
 
+      pub as_ended : (t : Settled) (new : Blocks) (number : ℕ) → Ends (done_of q.requester t) d new number → number ≡ length (end_of q t)
+      as_ended request.Waiting new number (same, none) = none
+      as_ended (request.Refused b) new number (is, used, set) = is
+      as_ended (request.Granted b content) new number (is, used, set) = is
+
       -- the block that it was for is in memory
-      pub end_inside : (seats : List Seat) (settled : Settled) (tos : List ℕ) → length tos ≤ 8 → forwarded ≡ map (forward_of q) tos → Answered sets q granted tos v.seats seats settled
+      pub end_inside : (seats : List Seat) (settled : Settled) (xs : List (ℕ × ForwardAnswer)) → length xs ≤ 8 → forwarded ≡ forwards_to q xs → Answered sets q granted xs v.seats seats settled
           → IfSome (done_of q.requester settled) (λ m. block_of m < length d.memory)
-      end_inside seats settled tos few are asks = by settled (answered seats settled [] (fun_ext (λ j. refl)) tos few are asks).1
+      end_inside seats settled xs few are asks = by settled (last (answered seats settled [] (fun_ext (λ j. refl)) xs few are asks))
         where
-          by : (t : Settled) → IsSound sets ways (record v { seats = seats; directory = d; flights = ending [] q.requester (so_many (length tos)) t; sent = number_by (so_many (length tos)) t }) → IfSome (done_of q.requester t) (λ m. block_of m < length d.memory)
+          last : Begins xs (so_far xs settled) (behind (length xs) seats settled []) → IsSound sets ways (behind (length xs) seats settled [])
+          last (u, first, same, gone) = gone.1
+
+          by : (t : Settled) → IsSound sets ways (record v { seats = seats; directory = d; flights = ending [] q.requester (so_many (length xs)) t; sent = number_by (so_many (length xs)) t }) → IfSome (done_of q.requester t) (λ m. block_of m < length d.memory)
           by request.Waiting also = tt
           by (request.Refused b) also = block_inside sets ways 0 _ (Done q.requester b false None) also refl
           by (request.Granted b content) also = block_inside sets ways 0 _ (Done q.requester b true content) also refl

@@ -35,4 +35,5 @@ pub use machine::Machine;
 pub use mail::receiver;
 pub use play::{PlainTurns, Turned, hart_after};
 pub use progress::{PROGRESS_INTERVAL, Progress, Silent};
+pub use serving::Service;
 pub use watch::Turn;

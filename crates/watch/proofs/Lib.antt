@@ -3,6 +3,10 @@ mod Alone
 mod Tracing
 mod RowLines
 mod Counted
+mod Arrivals
+mod Freshness
+mod Services
+mod ServedLines
 mod PutArrivals
 mod Capping
 mod Few

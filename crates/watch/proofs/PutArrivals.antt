@@ -1,9 +1,8 @@
 -- Messages that arrived one after another, whose lines were put.
-use Rattle.std.proofs.Common.{◌≡◌, ◌<◌, ◌+◌, ◌++◌, ℕ, List, [], ◌∷◌, length, Option, arith, refl, sym, subst, length-append, append-nil}
+use Rattle.std.proofs.Common.{◌≡◌, ◌<◌, ◌+◌, ◌++◌, ℕ, List, [], ◌∷◌, length, Option, arith, sym, subst, length-append, append-nil}
 use Rattle.words.specs.declared.entry.Entry.{Entry}
 use Rattle.words.specs.declared.entry.Step.TheVariants.{Deliver}
 use Rattle.words.specs.Sinks.{SinkState, TookAll, TookPart}
-use Rattle.texts.proofs.Putting.{took-nothing}
 use Rattle.disassembler.specs.Tables.{Table}
 use Rattle.protocol.specs.Caches.{Geometry}
 use Rattle.machine.specs.Making.{MakesStep}
@@ -16,9 +15,6 @@ use Rattle.watch.specs.Traces.{line_if}
 use Rattle.watch.proofs.Tracing.{traced_both, traced_part}
 
 module _ (g : Geometry) (names : Table) where
-  pub none_put : (v : State) (a : SinkState) → ArePut g names v v 0 a a
-  none_put v a = record { moments = []; took = λ after. (refl, refl); turns = refl; put = took-nothing a }
-
   module _ (v u w : State) (number key : ℕ) (e : Option Entry) (a b c : SinkState) (before : ArePut g names v u number a b) (oldest : IsOldestFree (shown g.sets u) u.flights key) (made : MakesStep g u (Deliver key) e w) where
     abbrev m : Moment
     m = moment u (Deliver key) e w

@@ -1,9 +1,10 @@
 -- What the steps of a run and its messages count as, and how much was in flight and in use.
-use Rattle.std.specs.Prelude.{ℕ, ◌≡◌, ◌≤◌, ◌+◌, ◌==◌, ◌&&◌, min, max, nat_le, Bool, false, List, [], ◌∷◌, length, count_by, is_some, Option, Some, None, get_or}
+use Rattle.std.specs.Prelude.{ℕ, ◌≡◌, ◌≤◌, ◌+◌, ◌-◌, ◌*◌, ◌==◌, ◌&&◌, min, max, nat_le, Bool, false, List, [], ◌∷◌, length, count_by, is_some, Option, Some, None, get_or}
 use Rattle.words.specs.declared.entry.Step.{Step}
 use Rattle.words.specs.declared.entry.Step.TheVariants.{Core, Evict, Deliver}
 use Rattle.network.specs.declared.net.Flight.{Flight}
 use Rattle.protocol.specs.Messages.{Message, shown}
+use Rattle.machine.specs.declared.serving.Service.{Service}
 use Rattle.schedule.specs.declared.choices.Sort.TheVariants.{Get, Put, Done, Grant, Forward, PutAck, Ack, Nack}
 use Rattle.schedule.specs.Steps.{name_of}
 use Rattle.schedule.specs.Moments.{Moment}
@@ -91,3 +92,9 @@ figure_at t figure.MostInUse = t.most_in_use
 -- the messages in flight that were sent when so many had been before are counted, each as what it counts as
 abbrev pub AddsSent : ℕ → List (Option Flight) → Traffic → Traffic → Type 0
 AddsSent before flights old new = (s : Sum) → Rises (sum_at old s) (count_by (was_sent before s) flights) (sum_at new s)
+
+-- how often the messages of a request that was served at once count as this: all of them arrive; and a grant, forwards, answers and an end are sent
+abbrev pub served_as : Sum → Service → ℕ
+served_as s x =
+    (2 + 2 * x.answers + x.ended) * one_if (is_same s Deliveries) + 1 * one_if (is_same s (Sent Grant)) + x.answers * one_if (is_same s (Sent Forward))
+    + (x.answers - x.refusals) * one_if (is_same s (Sent Ack)) + x.refusals * one_if (is_same s (Sent Nack)) + x.ended * one_if (is_same s (Sent Done))

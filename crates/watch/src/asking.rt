@@ -126,7 +126,7 @@ impl Counts {
 
     /// Counts the requests that are held while one is served.
     #[inline(never)]
-    fn note_held<const SETS: usize, const WAYS: usize>(
+    pub(crate) fn note_held<const SETS: usize, const WAYS: usize>(
         &mut self,
         served: HartId,
         block: BlockNo,

@@ -11,6 +11,7 @@ mod kinds;
 mod machine_text;
 mod names;
 mod recording;
+mod served;
 mod table_text;
 mod traffic;
 

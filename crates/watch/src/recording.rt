@@ -26,6 +26,19 @@ struct Lines<'n, 'f> {
     text: Line<ROW_BYTES>,
 }
 
+impl Lines<'_, '_> {
+    /// Puts them at once.
+    fn put<S: Sink>(&self, sink: &mut S) -> Result<(), Unseen>
+        ensures noted { OnOk result (TookAll (S.state sink.old) (S.state sink.new) self.now.text) }
+        ensures missed { OnErr result (TookPart (S.state sink.old) (S.state sink.new) self.now.text) }
+    {
+        match put_all(sink, &[self.text.as_bytes()]) {
+            Ok(()) => Ok(()),
+            Err(SinkFault) => Err(Unseen),
+        }
+    }
+}
+
 impl Listener for Lines<'_, '_> {
     ghost hears = { AddsLine };
 
@@ -61,8 +74,35 @@ impl<'n, 'f> Recorder<'n, 'f> {
         }
     }
 
-    /// Takes turns, so many at most, in which one message after another arrives, each the oldest that isn't held, and puts the lines of their entries. It
-    /// may stop at any turn, which costs time alone.
+    /// Takes the turns in which a request that is alone in flight is served at once, so many at most, and puts the lines of its refusals: how many turns they
+    /// were. It may take none, which costs time alone.
+    fn put_served<const SETS: usize, const WAYS: usize, S: Sink>(
+        &self,
+        machine: &mut Machine<SETS, WAYS>,
+        most: u32,
+        sink: &mut S,
+    ) -> Result<u32, Unseen>
+        ensures turns { IfOk result (λ taken. ArePut (geometry SETS WAYS) self.now.names.now machine.old machine.new taken (S.state sink.old) (S.state sink.new)) }
+        ensures most { IfOk result (λ taken. taken ≤ most) }
+        ensures missed { OnErr result (AreNotPut (geometry SETS WAYS) self.now.names.now machine.old machine.new most (S.state sink.old) (S.state sink.new)) }
+    {
+        let mut lines = Lines {
+            names: self.names,
+            text: Line::new(),
+        };
+        let Some(service) = machine.serve(most, &mut lines) else {
+            return Ok(0);
+        };
+        let turns = service.turns();
+        if service.refusals == 0 {
+            return Ok(turns);
+        }
+        lines.put(sink)?;
+        Ok(turns)
+    }
+
+    /// Takes turns, so many at most, in which one message after another arrives, each the oldest that isn't held, and puts the lines of their entries. A
+    /// request that is alone in flight is served at once. It may stop at any turn, which costs time alone.
     fn put_arrivals<const SETS: usize, const WAYS: usize, S: Sink>(
         &self,
         machine: &mut Machine<SETS, WAYS>,
@@ -73,7 +113,7 @@ impl<'n, 'f> Recorder<'n, 'f> {
         ensures most { IfOk result (λ taken. taken ≤ most) }
         ensures missed { OnErr result (AreNotPut (geometry SETS WAYS) self.now.names.now machine.old machine.new most (S.state sink.old) (S.state sink.new)) }
     {
-        let mut taken = 0;
+        let mut taken = self.put_served(machine, most, sink)?;
         while taken < most {
             let Some(key) = machine.next_arrival() else {
                 break;
@@ -142,10 +182,8 @@ impl<'n, 'f, const SETS: usize, const WAYS: usize, S: Sink> Observer<SETS, WAYS,
         if plain.turns == 0 {
             return Ok((0, plain.last));
         }
-        match put_all(sink, &[lines.text.as_bytes()]) {
-            Ok(()) => Ok((plain.turns, plain.last)),
-            Err(SinkFault) => Err(Unseen),
-        }
+        lines.put(sink)?;
+        Ok((plain.turns, plain.last))
     }
 }
 

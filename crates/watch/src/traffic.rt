@@ -1,12 +1,13 @@
 ghost use Rattle.std.specs.Prelude.{◌≡◌, ◌≤◌, ◌<◌, ◌+◌, ◌*◌, ℕ, length, get_or, max, count_by, is_some};
 ghost use Rattle.watch.specs.Kinds.{one_if};
-ghost use Rattle.watch.specs.Traffic.{AddsSent, Rises, capped, figure_at, is_same, sum_at, sum_of_step, was_sent};
+ghost use Rattle.watch.specs.Traffic.{AddsSent, Rises, capped, figure_at, is_same, served_as, sum_at, sum_of_step, was_sent};
 ghost use Rattle.watch.specs.declared.figures.Figure.{Figure as FigureValue};
 ghost use Rattle.watch.specs.declared.figures.Sum.{Sum as SumValue};
 ghost use Rattle.watch.specs.declared.figures.Sum.TheVariants.{Cores};
 
 use crate::figures::{Figure, Sum};
-use machine::Machine;
+use machine::{Machine, Service};
+use schedule::Sort;
 use words::Step;
 
 /// How many sums there are.
@@ -140,6 +141,31 @@ impl Traffic {
         let flying = self.add_sent(sent, machine);
         self.most_in_flight = self.most_in_flight.max(flying);
         self.most_in_use = self.most_in_use.max(machine.used());
+    }
+
+    /// Counts the messages of a request that was served at once, how many of them were in flight at most, and how many entries of the directory were in use
+    /// while it was served and behind it.
+    pub(crate) fn note_served<const SETS: usize, const WAYS: usize>(
+        &mut self,
+        service: &Service,
+        machine: &Machine<SETS, WAYS>,
+    )
+        requires { service.now.refusals ≤ service.now.answers }
+        ensures sums { (s : SumValue) → sum_at self.new s ≡ capped (sum_at self.old s + served_as s service.now) }
+        ensures most_in_flight { self.new.most_in_flight ≡ max self.old.most_in_flight (1 + service.now.answers) }
+        ensures most_in_use { self.new.most_in_use ≡ max (max self.old.most_in_use service.now.used) (length machine.now.directory.kept) }
+    {
+        let answers = u64::from(service.answers);
+        let refusals = u64::from(service.refusals);
+        let ended = u64::from(service.ended);
+        self.add(Sum::Deliveries, 2 + 2 * answers + ended);
+        self.add(Sum::Sent(Sort::Grant), 1);
+        self.add(Sum::Sent(Sort::Forward), answers);
+        self.add(Sum::Sent(Sort::Ack), answers - refusals);
+        self.add(Sum::Sent(Sort::Nack), refusals);
+        self.add(Sum::Sent(Sort::Done), ended);
+        self.most_in_flight = self.most_in_flight.max(1 + service.answers as usize);
+        self.most_in_use = self.most_in_use.max(service.used).max(machine.used());
     }
 
     /// Counts so many steps of cores that sent nothing while nothing was in flight, with so many entries of the directory in use behind each.

@@ -1,10 +1,10 @@
-use Rattle.std.proofs.Common.{arith, ℕ}
+use Rattle.std.proofs.Common.{arith}
 use Rattle.machine.specs.States.{geometry}
-use Rattle.watch.proofs.Counted.{none_counted, arrived_counted}
+use Rattle.watch.proofs.Counted.{arrived_counted}
 use Rattle.watch.proofs.counting.take_arrivals.Goals as goal
 
 pub loop-taken-init : goal.loop-taken-init
-loop-taken-init g c = (omega arith, λ (after : ℕ). none_counted (geometry g.row.SETS g.row.WAYS) c.args.machine.now after c.args.tally.now)
+loop-taken-init g c = (c.serve_counted-taken.ensures.most, c.serve_counted-taken.ensures.turns)
 
 -- one more
 pub loop-taken-preserved : goal.loop-taken-preserved
