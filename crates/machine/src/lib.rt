@@ -33,7 +33,7 @@ pub use laws::{a_step_has_one_outcome, a_turn_is_one_step, steps_that_are_made_a
 pub use listener::{Listener, Nobody};
 pub use machine::Machine;
 pub use mail::receiver;
-pub use play::{PlainTurns, Turned, hart_after};
+pub use play::{COUNTED, COUNTED_APART, PlainTurns, TRACED, Turned, hart_after};
 pub use progress::{PROGRESS_INTERVAL, Progress, Silent};
 pub use serving::Service;
 pub use watch::Turn;

@@ -7,7 +7,7 @@ mod Arrivals
 mod Freshness
 mod Services
 mod ServedLines
-mod PutArrivals
+mod PutTurns
 mod Capping
 mod Few
 mod Plain

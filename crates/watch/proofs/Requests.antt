@@ -1,7 +1,9 @@
 -- Requests that are counted.
-use Rattle.std.proofs.Common.{◌≡◌, ◌+◌, ℕ, Bool, true, false, List, [], ◌∷◌, Option, Some, None, refl, sym, ap, ◌∙◌, add-one, arith, subst, true≢false}
+use Rattle.std.proofs.Common.{◌≡◌, ◌≤◌, ◌+◌, ◌-◌, ◌++◌, ◌==◌, ◌&&◌, not, ℕ, zero, suc, Bool, true, false, List, [], ◌∷◌, length, Option, Some, None, refl, sym, ap, ◌∙◌, add-one, append-nil, arith, subst, true≢false}
+use Rattle.std.proofs.lemmas.Option.{none-some, slice_get_past}
 use Rattle.std.specs.Prelude.{if◌then◌else◌, is_some, slice_get}
 use Rattle.std.specs.Option.{option_and_then, option_map, option_map_or}
+use Rattle.words.specs.Limits.{most_harts}
 use Rattle.flat.specs.State.{idle}
 use Rattle.hart.specs.Parts.{Parts}
 use Rattle.conflict.specs.Requests.{shown_request}
@@ -11,7 +13,7 @@ use Rattle.protocol.specs.Directory.{Busy}
 use Rattle.protocol.specs.Machine.{Machine}
 use Rattle.protocol.specs.Start.{first_hart}
 use Rattle.machine.specs.Lent.{hart_if}
-use Rattle.machine.specs.States.{Seat, State, hart_at}
+use Rattle.machine.specs.States.{Seat, State, hart_at, shown}
 use Rattle.watch.specs.declared.kinds.Kind.{Kind}
 use Rattle.watch.specs.declared.kinds.Kind.TheVariants.{Held}
 use Rattle.watch.specs.Kinds.{Grows, counts_request, held_behind, held_by, is_count, kind_asked, number_in, one_if, waits_behind}
@@ -77,3 +79,27 @@ module _ (w : Machine) (i b h : ℕ) (k : Kind) (old : ℕ) where
       let more : number_in h k (held_behind w i b (n + 1)) ≡ number_in h k (held_behind w i b n) + 0 = next n false waits in
       let same : number_in h k (held_behind w i b n) ≡ number_in h k (held_behind w i b (n + 1)) = omega (arith, more) in
       subst (λ (m : ℕ). Grows old m mid) same before
+
+-- ---- a number that is no hart's waits for nothing
+
+module _ (sets : ℕ) (v : State) (i b : ℕ) where
+  idle_waits : (j : ℕ) (s : Option Seat) → s ≡ None → not (j == i) && option_map_or (λ r. r.block == b) (option_map_or (λ (x : Seat). shown_hart sets x.output x.hart) s (first_hart idle)).request false ≡ false
+  idle_waits j None is = no (not (j == i))
+    where
+      no : (c : Bool) → c && false ≡ false
+      no true = refl
+      no false = refl
+  idle_waits j (Some s) is = absurd (none-some s (sym is))
+
+  held_past : (d n : ℕ) → n ≡ length v.seats + d → held_behind (shown sets v) i b n ≡ held_behind (shown sets v) i b (length v.seats)
+  unfolding held_behind
+  held_past zero n is = let same : n ≡ length v.seats = omega (arith, is) in ap (held_behind (shown sets v) i b) same
+  held_past (suc d) zero is = absurd (omega (arith, is))
+  held_past (suc d) (suc n) is =
+      let here : n ≡ length v.seats + d = omega (arith, is) in
+      let past : length v.seats ≤ n = omega (arith, here) in
+      let idle_here : waits_behind (shown sets v) i b n ≡ false = idle_waits n (slice_get v.seats n) (slice_get_past v.seats n past) in
+      ap (λ (c : Bool). held_behind (shown sets v) i b n ++ (if c then (n, Held) ∷ [] else [])) idle_here ∙ append-nil (held_behind (shown sets v) i b n) ∙ held_past d n here
+
+  pub held_all : length v.seats ≤ most_harts → held_behind (shown sets v) i b (length v.seats) ≡ held_behind (shown sets v) i b most_harts
+  held_all few = sym (held_past (most_harts - length v.seats) most_harts (omega (arith, few)))

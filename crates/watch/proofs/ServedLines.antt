@@ -5,7 +5,6 @@ use Rattle.std.proofs.lemmas.List.Concat.{flat_map-append}
 use Rattle.disassembler.specs.Tables.{Table}
 use Rattle.directory.specs.declared.rules.Request.{Request}
 use Rattle.hart.specs.declared.reply.ForwardAnswer.{ForwardAnswer}
-use Rattle.hart.specs.declared.reply.ForwardAnswer.TheVariants as answer
 use Rattle.hart.specs.declared.reply.Settled.{Settled}
 use Rattle.hart.specs.Rows.{refusal_of}
 use Rattle.protocol.specs.Caches.{Geometry}
@@ -14,15 +13,19 @@ use Rattle.machine.specs.Serving.{Arrival, ArriveAll, HearsReplies, IsServed, an
 use Rattle.machine.specs.States.{State}
 use Rattle.machine.specs.declared.serving.Service.{Service}
 use Rattle.watch.specs.declared.recording.Lines.{Lines}
-use Rattle.watch.specs.Rows.{AddsLine}
+use Rattle.watch.specs.Rows.{AddsLine, AddsTurns}
 use Rattle.watch.specs.Traces.{line_if, trace_of}
 use Rattle.watch.proofs.Arrivals.{moments_of}
-use Rattle.watch.proofs.Services.{at, every, gone, refusing, refusing_first}
+use Rattle.watch.proofs.Services.{at, every, gone, served_many, served_took}
 
 module _ (names : Table) where
   -- what is written of the answers of harts to hart r's request for block b
   abbrev lines_in : ℕ → ℕ → List (ℕ × ForwardAnswer) → List ℕ
   lines_in r b xs = flat_map (λ x. line_if names (refusal_of x.0 r b x.1)) xs
+
+  replies_names : (r b : ℕ) (xs : List (ℕ × ForwardAnswer)) (x y : Lines) → HearsReplies AddsLine r b x xs y → y.names ≡ x.names
+  replies_names r b [] x y same = ap (λ (l : Lines). l.names) (sym same)
+  replies_names r b (reply ∷ xs) x y (z, first, rest) = replies_names r b xs z y rest ∙ first.names
 
   -- where there was room for the lines of all, all were added
   heard_replies : (r b : ℕ) (xs : List (ℕ × ForwardAnswer)) (x y : Lines) → x.names.now ≡ names → HearsReplies AddsLine r b x xs y → length x.text + 240 * length xs ≤ 1920 → y.text ≡ x.text ++ lines_in r b xs
@@ -65,26 +68,23 @@ module _ (names : Table) where
         flat_map-append as_lines (fs ++ bs) (end_arrivals (end_of q t)) ∙ ap (λ (l : List ℕ). lines_of (fs ++ bs) ++ l) (ends_written (end_of q t)) ∙ append-nil (lines_of (fs ++ bs))
         ∙ flat_map-append as_lines fs bs ∙ ap (λ (l : List ℕ). lines_of fs ++ l) (answers_written xs t) ∙ append-nil (lines_of fs) ∙ forwards_written xs
 
-  -- nothing is written where none refuses
-  none_written : (r b : ℕ) (xs : List (ℕ × ForwardAnswer)) → refusing xs ≡ 0 → lines_in r b xs ≡ []
-  none_written r b [] none = refl
-  none_written r b ((i, answer.Ack content) ∷ xs) none =
-      let first : refusing ((i, answer.Ack content) ∷ xs) ≡ 0 + refusing xs = refusing_first (i, answer.Ack content) xs in
-      none_written r b xs (omega (arith, first, none))
-  none_written r b ((i, answer.Nack stamp) ∷ xs) none =
-      let first : refusing ((i, answer.Nack stamp) ∷ xs) ≡ 1 + refusing xs = refusing_first (i, answer.Nack stamp) xs in
-      absurd (omega (arith, first, none))
-
   module _ (g : Geometry) (v w : State) (s : Service) (xs : List (ℕ × ForwardAnswer)) (is : IsServed g v s xs w) where
     -- what is written of a request that is served is the trace of its turns
-    pub served_text : (x y : Lines) → x.names.now ≡ names → x.text ≡ [] → HearsReplies AddsLine s.requester s.block x xs y → y.text ≡ trace_of names (at g v w s xs is)
+    served_text : (x y : Lines) → x.names.now ≡ names → x.text ≡ [] → HearsReplies AddsLine s.requester s.block x xs y → y.text ≡ trace_of names (at g v w s xs is)
     served_text x y of_names empty heard =
         let none : length x.text ≡ 0 = ap (λ (l : List ℕ). length l) empty in
         let room : length x.text + 240 * length xs ≤ 1920 = omega (arith, none, is.harts) in
         heard_replies s.requester s.block xs x y of_names heard room ∙ ap (λ (l : List ℕ). l ++ lines_in s.requester s.block xs) empty
         ∙ (λ k. lines_in (is.requester k) (is.block k) xs) ∙ sym (traced g v (every g v w s xs is) w (gone g v w s xs is) ∙ all_written is.request is.granted xs is.settled)
 
-    pub nothing_traced : s.refusals ≡ 0 → trace_of names (at g v w s xs is) ≡ []
-    nothing_traced none =
-        traced g v (every g v w s xs is) w (gone g v w s xs is) ∙ all_written is.request is.granted xs is.settled
-        ∙ none_written is.request.requester is.request.block xs (sym is.told.refusals_is ∙ none)
+    -- the turns of a request that is served, and their lines, where nothing was written before
+    pub served_added : (x y : Lines) (after : ℕ) → x.names.now ≡ names → x.text ≡ [] → HearsReplies AddsLine s.requester s.block x xs y → AddsTurns g v after (2 + 2 * s.answers + s.ended) w after x y
+    served_added x y after of_names empty heard = record {
+      moments = at g v w s xs is;
+      took = served_took g v w s xs is after;
+      turns = served_many g v w s xs is;
+      names = replies_names s.requester s.block xs x y heard;
+      text =
+          served_text x y of_names empty heard ∙ ap (λ (t : Table). trace_of t (at g v w s xs is)) (sym of_names)
+          ∙ ap (λ (l : List ℕ). l ++ trace_of x.names.now (at g v w s xs is)) (sym empty);
+    }

@@ -18,7 +18,7 @@ use Rattle.schedule.specs.Observed.{IsSeen, IsHalted, joined}
 use Rattle.schedule.proofs.Seeing.{holds_of_all}
 use Rattle.watch.specs.Traces.{line_of, trace_of, IsTraced, IsCut}
 
-trace_both : (names : Table) (ms ns : List Moment) → trace_of names ms ++ trace_of names ns ≡ trace_of names (ms ++ ns)
+pub trace_both : (names : Table) (ms ns : List Moment) → trace_of names ms ++ trace_of names ns ≡ trace_of names (ms ++ ns)
 trace_both names ms ns = sym (flat_map-append (line_of names) ms ns)
 
 pub traced_both : (names : Table) (a b c : SinkState) (ms ns : List Moment) → TookAll a b (trace_of names ms) → TookAll b c (trace_of names ns) → TookAll a c (trace_of names (ms ++ ns))

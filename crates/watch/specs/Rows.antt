@@ -1,4 +1,4 @@
--- The lines of words that harts retired in a row, and of messages that arrived in a row.
+-- The lines of turns that were taken in a row.
 use Rattle.std.specs.Prelude.{ℕ, ◌≡◌, ◌<◌, ◌≤◌, ◌+◌, ◌++◌, List, length, Option}
 use Rattle.words.specs.declared.entry.Entry.{Entry}
 use Rattle.words.specs.Sinks.{SinkState, TookAll, TookPart}
@@ -16,17 +16,26 @@ pub record AddsLine (before : Lines) (e : Option Entry) (after : Lines) : Type 0
   pub line : length before.text + 240 ≤ 1920 → after.text ≡ before.text ++ line_if before.names.now e
   pub longer : length after.text ≤ length before.text + 240
 
--- so many messages arrived, in turns behind any hart's, and the sink took the lines of their entries
-pub record ArePut (g : Geometry) (names : Table) (v w : State) (number : ℕ) (a b : SinkState) : Type 0 where
+-- so many turns were taken, the first after a hart's, and the lines of what they gave were added. The last of a hart was then this hart's
+pub record AddsTurns (g : Geometry) (v : State) (after number : ℕ) (w : State) (last : ℕ) (before now : Lines) : Type 0 where
   pub moments : List Moment
-  pub took : (after : ℕ) → TookTurns g v after moments w after
+  pub took : TookTurns g v after moments w last
+  pub turns : number ≡ length moments
+  pub names : now.names ≡ before.names
+  pub text : now.text ≡ before.text ++ trace_of before.names.now moments
+
+-- so many turns were taken, and the sink took the lines of what they gave
+pub record PutsTurns (g : Geometry) (names : Table) (v : State) (after number : ℕ) (w : State) (last : ℕ) (a b : SinkState) : Type 0 where
+  pub moments : List Moment
+  pub took : TookTurns g v after moments w last
   pub turns : number ≡ length moments
   pub put : TookAll a b (trace_of names moments)
 
--- some messages arrived, so many at most, and the sink took a beginning of the lines of their entries
-pub record AreNotPut (g : Geometry) (names : Table) (v w : State) (most : ℕ) (a b : SinkState) : Type 0 where
+-- some turns were taken, so many at most, and the sink took a beginning of the lines of what they gave
+pub record CutsTurns (g : Geometry) (names : Table) (v : State) (after most : ℕ) (w : State) (a b : SinkState) : Type 0 where
   pub moments : List Moment
-  pub took : (after : ℕ) → TookTurns g v after moments w after
+  pub last : ℕ
+  pub took : TookTurns g v after moments w last
   pub some : 0 < length moments
   pub few : length moments ≤ most
   pub part : TookPart a b (trace_of names moments)

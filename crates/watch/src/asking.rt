@@ -1,17 +1,17 @@
 //! Requests that are counted: misses and upgrades, and those that are held.
-ghost use Rattle.std.specs.Prelude.{◌≡◌, ◌≤◌, ◌+◌, ℕ};
+ghost use Rattle.std.specs.Prelude.{◌≡◌, ◌≤◌, ◌+◌, ℕ, is_some};
 ghost use Rattle.words.specs.Limits.{most_harts};
 ghost use Rattle.machine.specs.States.{shown};
 ghost use Rattle.protocol.specs.Messages.{shown as shown_message};
 ghost use Rattle.schedule.specs.Moments.{arrival_of};
-ghost use Rattle.watch.specs.Kinds.{Grows, asked_by, asks_if, count_at, counts_asked, counts_request, goes_to, held_behind, number_in, waits_behind};
+ghost use Rattle.watch.specs.Kinds.{Grows, asked_by, asks_if, count_at, counts_asked, counts_request, goes_to, held_behind, kind_asked, number_in, waits_behind};
 ghost use Rattle.watch.specs.declared.kinds.Kind.{Kind as KindValue};
 
 use crate::cells::Counts;
 use crate::kinds::Kind;
 use machine::{Machine, receiver};
 use network::Flight;
-use words::{BlockNo, HARTS, HartId, Message, Step};
+use words::{BlockNo, HartId, Kind as Want, Message, Step};
 
 /// A request, as its hart and its block.
 fn asked_by(message: &Message) -> Option<(HartId, BlockNo)>
@@ -79,6 +79,25 @@ fn waits_behind<const SETS: usize, const WAYS: usize>(
     }
 }
 
+/// What a hart's request for a block counts as. Whether it has a line is looked up only where that tells.
+#[inline(always)]
+fn kind_asked<const SETS: usize, const WAYS: usize>(
+    machine: &Machine<SETS, WAYS>,
+    id: HartId,
+    want: Want,
+    block: BlockNo,
+) -> Kind
+    ensures { result ≡ kind_asked want (is_some (((shown SETS machine.now).harts id).lines block)) }
+{
+    match want {
+        Want::Read => Kind::LoadMissed,
+        Want::Write => {
+            let has_line = machine.line(id, block).is_some();
+            Kind::of_request(Want::Write, has_line)
+        }
+    }
+}
+
 impl Counts {
     /// Counts what was asked for in a step, before which so many messages had been sent, and which delivers this request.
     #[inline(always)]
@@ -117,8 +136,7 @@ impl Counts {
         let Some(request) = hart.request() else {
             return;
         };
-        let has_line = machine.line(id, request.block).is_some();
-        self.add(id, Kind::of_request(request.kind, has_line));
+        self.add(id, kind_asked(machine, id, request.kind, request.block));
         if machine.entry(request.block).busy.is_some() {
             self.add(id, Kind::Held);
         }
@@ -134,7 +152,7 @@ impl Counts {
     )
         ensures { (h : ℕ) (k : KindValue) → Grows (count_at self.old h k) (number_in h k (held_behind (shown SETS machine.now) served block most_harts)) (count_at self.new h k) }
     {
-        for i in 0..HARTS {
+        for i in 0..machine.harts() {
             let id = HartId::new(i as u8);
             if waits_behind(machine, served, block, id) {
                 self.add(id, Kind::Held);

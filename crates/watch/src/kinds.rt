@@ -1,6 +1,11 @@
-ghost use Rattle.std.specs.Prelude.{◌≡◌, ◌<◌};
-ghost use Rattle.watch.specs.Kinds.{index_of, kind_asked, kind_of};
+ghost use Rattle.std.specs.Prelude.{◌≡◌, ◌<◌, ℕ, option_to_list};
+ghost use Rattle.std.specs.Option.{option_map};
+ghost use Rattle.operands.specs.Fields.{opcode_of};
+ghost use Rattle.table.specs.Table.{decoded};
+ghost use Rattle.watch.specs.Kinds.{counts_by, index_of, kind_asked, kind_of};
 
+use operands::opcode;
+use table::{Instr, decode};
 use words::{AbortCause, Kind as Want};
 
 /// What is counted of a hart.
@@ -63,6 +68,36 @@ impl Kind {
             Kind::StoreMissed => 13,
             Kind::Upgraded => 14,
             Kind::Held => 15,
+        }
+    }
+
+    /// What a retired word counts as besides. Where its opcode is that of transactions, no more of it is looked at than tells.
+    #[inline(always)]
+    pub(crate) fn of_word(word: u32) -> Option<Kind>
+        ensures { (hart : ℕ) → option_to_list (option_map (λ kind. (hart, kind)) result) ≡ counts_by hart (decoded word) }
+    {
+        if opcode(word) == 0x0b {
+            return Kind::of_transaction(word);
+        }
+        match decode(word) {
+            Some(Instr::TBegin { .. }) => Some(Kind::Begun),
+            Some(Instr::TCommit) => Some(Kind::Committed),
+            _ => None,
+        }
+    }
+
+    /// The same of a word with the opcode of transactions.
+    #[inline(always)]
+    #[tactic(auto, unfolding(table::specs::Table::decoded))]
+    fn of_transaction(word: u32) -> Option<Kind>
+        requires { opcode_of word ≡ 0x0b }
+        ensures { (hart : ℕ) → option_to_list (option_map (λ kind. (hart, kind)) result) ≡ counts_by hart (decoded word) }
+    {
+        match word {
+            0x0000_100b => Some(Kind::Committed),
+            0x0000_200b => None,
+            _ if word & 0x01ff_f17f == 0x0000_000b => Some(Kind::Begun),
+            _ => None,
         }
     }
 

@@ -1,41 +1,222 @@
-ghost use Rattle.std.specs.Prelude.{◌≡◌, ◌≤◌, IfOk, OnOk, OnErr, MatchResult};
+ghost use Rattle.std.specs.Prelude.{◌≡◌, ◌↔◌, ◌<◌, ◌≤◌, ◌+◌, ◌*◌, [], length, IfOk, OnOk, OnErr, IsTrue, MatchResult};
 ghost use Rattle.words.specs.Sinks.{TookAll, TookPart};
 ghost use Rattle.machine.specs.States.{geometry};
+ghost use Rattle.machine.specs.Turns.{IsQuiescent};
 ghost use Rattle.schedule.specs.Courses.{IsUnbegun, course, forgotten};
-ghost use Rattle.watch.specs.Rows.{AddsLine, ArePut, AreNotPut};
+ghost use Rattle.watch.specs.Rows.{AddsLine, AddsTurns, CutsTurns, PutsTurns};
 ghost use Rattle.watch.specs.Traces.{line_if, trace_of, IsTraced, IsCut};
 
 use disassembler::Symbols;
-use machine::{Listener, Machine, Progress, Turned};
+use machine::{Listener, Machine, Progress, TRACED, Turned, hart_after};
 use network::Flight;
 use render::{ENTRY_BYTES, add_entry, put_entry};
 use schedule::{Choice, Chooser, Halt, Observer, Unseen, run};
 use texts::{Line, put_all};
-use words::{Entry, Sink, SinkFault, Step};
+use words::{Entry, HartId, Sink, SinkFault, Step};
 
-/// How many words are put at once, at most.
-const ROW: u32 = 8;
+/// How many bytes are put at once, at most: the lines of eight entries have room.
+const ROW_BYTES: usize = 8 * ENTRY_BYTES;
 
-/// How many bytes their lines have, at most.
-const ROW_BYTES: usize = 1920;
-
-/// The lines of words that harts retired in a row.
+/// The lines of turns that were taken in a row.
 #[derive(Drop)]
 struct Lines<'n, 'f> {
     names: &'n Symbols<'f>,
     text: Line<ROW_BYTES>,
 }
 
-impl Lines<'_, '_> {
-    /// Puts them at once.
+impl<'n, 'f> Lines<'n, 'f> {
+    /// None so far.
+    #[inline(always)]
+    fn new(names: &'n Symbols<'f>) -> Self
+        ensures { result ≡ record { names = names.entry; text = [] } }
+    {
+        Lines {
+            names,
+            text: Line::new(),
+        }
+    }
+
+    /// Whether there are none.
+    #[inline(always)]
+    fn is_empty(&self) -> bool
+        ensures { IsTrue result ↔ (self.now.text ≡ []) }
+    {
+        self.text.as_bytes().is_empty()
+    }
+
+    /// How many more have room.
+    #[inline(always)]
+    fn room(&self) -> u32
+        ensures { 0 < result → length self.now.text + 240 * result ≤ 1920 }
+    {
+        (ROW_BYTES.saturating_sub(self.text.as_bytes().len()) / ENTRY_BYTES) as u32
+    }
+
+    /// Puts them at once, if there are any.
     fn put<S: Sink>(&self, sink: &mut S) -> Result<(), Unseen>
         ensures noted { OnOk result (TookAll (S.state sink.old) (S.state sink.new) self.now.text) }
         ensures missed { OnErr result (TookPart (S.state sink.old) (S.state sink.new) self.now.text) }
     {
-        match put_all(sink, &[self.text.as_bytes()]) {
+        let text = self.text.as_bytes();
+        if text.is_empty() {
+            return Ok(());
+        }
+        match put_all(sink, &[text]) {
             Ok(()) => Ok(()),
             Err(SinkFault) => Err(Unseen),
         }
+    }
+
+    /// Adds those of turns in which harts retire plain words, so many at most, and one behind them begins or ends a transaction or asks for a block. It takes
+    /// none where it isn't known to be quiescent. The answer is how many there were, and the last turn.
+    #[inline(always)]
+    fn add_words<const SETS: usize, const WAYS: usize>(
+        &mut self,
+        machine: &mut Machine<SETS, WAYS>,
+        last: Turned,
+        most: u32,
+    ) -> (u32, Turned)
+        requires quiescent { IsTrue last.quiescent → IsQuiescent SETS machine.old }
+        requires room { length self.old.text + 240 * most ≤ 1920 }
+        ensures turns { AddsTurns (geometry SETS WAYS) machine.old last.hart result.0 machine.new result.1.hart self.old self.new }
+        ensures most { result.0 ≤ most }
+        ensures quiescent { IsTrue result.1.quiescent → IsQuiescent SETS machine.new }
+    {
+        let row = machine.hear_few_turns(last, most, self);
+        let Turned { hart, quiescent } = row.last;
+        if row.turns == most {
+            return (row.turns, Turned { hart, quiescent });
+        }
+        let behind = Turned { hart, quiescent };
+        match machine.hear_common_turn::<Lines<'n, 'f>, TRACED>(behind, self) {
+            Some(hart) => {
+                let quiescent = machine.is_quiescent();
+                (row.turns + 1, Turned { hart, quiescent })
+            }
+            None => (row.turns, Turned { hart, quiescent }),
+        }
+    }
+
+    /// Adds that of the turn behind a hart's, of any kind, if there is one and memory lasts.
+    #[inline(always)]
+    fn add_turn<const SETS: usize, const WAYS: usize>(
+        &mut self,
+        machine: &mut Machine<SETS, WAYS>,
+        after: HartId,
+    ) -> (u32, Turned)
+        requires room { length self.old.text + 240 ≤ 1920 }
+        ensures turns { AddsTurns (geometry SETS WAYS) machine.old after result.0 machine.new result.1.hart self.old self.new }
+        ensures most { result.0 ≤ 1 }
+        ensures quiescent { IsTrue result.1.quiescent → IsQuiescent SETS machine.new }
+    {
+        let nothing = Turned {
+            hart: after,
+            quiescent: false,
+        };
+        let Some(step) = machine.next_turn(after) else {
+            return (0, nothing);
+        };
+        let Ok(entry) = machine.step(step) else {
+            return (0, nothing);
+        };
+        self.hear(&entry);
+        let hart = hart_after(&step, after);
+        let quiescent = machine.is_quiescent();
+        (1, Turned { hart, quiescent })
+    }
+
+    /// Adds those of turns where it isn't known to be quiescent, so many at most. A request that is alone in flight is served at once, if nothing is written
+    /// yet.
+    #[inline(always)]
+    fn add_others<const SETS: usize, const WAYS: usize>(
+        &mut self,
+        machine: &mut Machine<SETS, WAYS>,
+        after: HartId,
+        most: u32,
+    ) -> (u32, Turned)
+        requires some { 0 < most }
+        requires room { length self.old.text + 240 ≤ 1920 }
+        ensures turns { AddsTurns (geometry SETS WAYS) machine.old after result.0 machine.new result.1.hart self.old self.new }
+        ensures most { result.0 ≤ most }
+        ensures quiescent { IsTrue result.1.quiescent → IsQuiescent SETS machine.new }
+    {
+        if machine.in_flight() == 0 {
+            return self.add_turn(machine, after);
+        }
+        if !self.is_empty() {
+            let quiescent = false;
+            return (
+                0,
+                Turned {
+                    hart: after,
+                    quiescent,
+                },
+            );
+        }
+        match machine.serve(most, self) {
+            Some(service) => {
+                let quiescent = machine.is_quiescent();
+                (
+                    service.turns(),
+                    Turned {
+                        hart: after,
+                        quiescent,
+                    },
+                )
+            }
+            None => self.add_turn(machine, after),
+        }
+    }
+
+    /// Adds those of some turns, so many at most, while they have room. It may take none, which costs time alone.
+    #[inline(always)]
+    fn add_some<const SETS: usize, const WAYS: usize>(
+        &mut self,
+        machine: &mut Machine<SETS, WAYS>,
+        last: Turned,
+        most: u32,
+    ) -> (u32, Turned)
+        requires quiescent { IsTrue last.quiescent → IsQuiescent SETS machine.old }
+        requires some { 0 < most }
+        ensures turns { AddsTurns (geometry SETS WAYS) machine.old last.hart result.0 machine.new result.1.hart self.old self.new }
+        ensures most { result.0 ≤ most }
+        ensures quiescent { IsTrue result.1.quiescent → IsQuiescent SETS machine.new }
+    {
+        let room = self.room();
+        if room == 0 {
+            return (0, last);
+        }
+        if last.quiescent {
+            self.add_words(machine, last, most.min(room))
+        } else {
+            self.add_others(machine, last.hart, most)
+        }
+    }
+
+    /// Adds those of turns, so many at most, one behind another, while they have room. It may stop at any turn, which costs time alone.
+    #[inline(never)]
+    fn add_turns<const SETS: usize, const WAYS: usize>(
+        &mut self,
+        machine: &mut Machine<SETS, WAYS>,
+        last: Turned,
+        most: u32,
+    ) -> (u32, Turned)
+        requires { IsTrue last.quiescent → IsQuiescent SETS machine.old }
+        ensures turns { AddsTurns (geometry SETS WAYS) machine.old last.hart result.0 machine.new result.1.hart self.old self.new }
+        ensures most { result.0 ≤ most }
+        ensures quiescent { IsTrue result.1.quiescent → IsQuiescent SETS machine.new }
+    {
+        let mut taken = 0;
+        let mut now = last;
+        while taken < most {
+            let (more, behind) = self.add_some(machine, now, most - taken);
+            taken += more;
+            now = behind;
+            if more == 0 {
+                break;
+            }
+        }
+        (taken, now)
     }
 }
 
@@ -74,57 +255,27 @@ impl<'n, 'f> Recorder<'n, 'f> {
         }
     }
 
-    /// Takes the turns in which a request that is alone in flight is served at once, so many at most, and puts the lines of its refusals: how many turns they
-    /// were. It may take none, which costs time alone.
-    fn put_served<const SETS: usize, const WAYS: usize, S: Sink>(
+    /// Takes some turns, so many at most, and puts their lines at once. It may take none, which costs time alone.
+    fn put_some<const SETS: usize, const WAYS: usize, S: Sink>(
         &self,
         machine: &mut Machine<SETS, WAYS>,
+        last: Turned,
         most: u32,
         sink: &mut S,
-    ) -> Result<u32, Unseen>
-        ensures turns { IfOk result (λ taken. ArePut (geometry SETS WAYS) self.now.names.now machine.old machine.new taken (S.state sink.old) (S.state sink.new)) }
-        ensures most { IfOk result (λ taken. taken ≤ most) }
-        ensures missed { OnErr result (AreNotPut (geometry SETS WAYS) self.now.names.now machine.old machine.new most (S.state sink.old) (S.state sink.new)) }
+    ) -> Result<(u32, Turned), Unseen>
+        requires { IsTrue last.quiescent → IsQuiescent SETS machine.old }
+        ensures turns { IfOk result (λ taken. PutsTurns (geometry SETS WAYS) self.now.names.now machine.old last.hart taken.0 machine.new taken.1.hart (S.state sink.old) (S.state sink.new)) }
+        ensures most { IfOk result (λ taken. taken.0 ≤ most) }
+        ensures quiescent { IfOk result (λ taken. IsTrue taken.1.quiescent → IsQuiescent SETS machine.new) }
+        ensures missed { OnErr result (CutsTurns (geometry SETS WAYS) self.now.names.now machine.old last.hart most machine.new (S.state sink.old) (S.state sink.new)) }
     {
-        let mut lines = Lines {
-            names: self.names,
-            text: Line::new(),
-        };
-        let Some(service) = machine.serve(most, &mut lines) else {
-            return Ok(0);
-        };
-        let turns = service.turns();
-        if service.refusals == 0 {
-            return Ok(turns);
+        let mut lines = Lines::new(self.names);
+        let (turns, behind) = lines.add_turns(machine, last, most);
+        if turns == 0 {
+            return Ok((0, behind));
         }
         lines.put(sink)?;
-        Ok(turns)
-    }
-
-    /// Takes turns, so many at most, in which one message after another arrives, each the oldest that isn't held, and puts the lines of their entries. A
-    /// request that is alone in flight is served at once. It may stop at any turn, which costs time alone.
-    fn put_arrivals<const SETS: usize, const WAYS: usize, S: Sink>(
-        &self,
-        machine: &mut Machine<SETS, WAYS>,
-        most: u32,
-        sink: &mut S,
-    ) -> Result<u32, Unseen>
-        ensures turns { IfOk result (λ taken. ArePut (geometry SETS WAYS) self.now.names.now machine.old machine.new taken (S.state sink.old) (S.state sink.new)) }
-        ensures most { IfOk result (λ taken. taken ≤ most) }
-        ensures missed { OnErr result (AreNotPut (geometry SETS WAYS) self.now.names.now machine.old machine.new most (S.state sink.old) (S.state sink.new)) }
-    {
-        let mut taken = self.put_served(machine, most, sink)?;
-        while taken < most {
-            let Some(key) = machine.next_arrival() else {
-                break;
-            };
-            let Ok(entry) = machine.step(Step::Deliver(key)) else {
-                break;
-            };
-            self.put(&entry, sink)?;
-            taken += 1;
-        }
-        Ok(taken)
+        Ok((turns, behind))
     }
 }
 
@@ -157,7 +308,7 @@ impl<'n, 'f, const SETS: usize, const WAYS: usize, S: Sink> Observer<SETS, WAYS,
         Ok(self.put(&entry, sink)?)
     }
 
-    /// The lines of a few words are put at once.
+    /// The lines of a few turns are put at once.
     fn take_turns(
         &self,
         machine: &mut Machine<SETS, WAYS>,
@@ -165,25 +316,17 @@ impl<'n, 'f, const SETS: usize, const WAYS: usize, S: Sink> Observer<SETS, WAYS,
         most: u32,
         sink: &mut S,
     ) -> Result<(u32, Turned), Unseen> {
-        // Most turns under contention are messages' turns.
-        if !last.quiescent {
-            let taken = self.put_arrivals(machine, most, sink)?;
-            let behind = Turned {
-                hart: last.hart,
-                quiescent: machine.is_quiescent(),
-            };
-            return Ok((taken, behind));
+        let mut taken = 0;
+        let mut now = last;
+        while taken < most {
+            let (more, behind) = self.put_some(machine, now, most - taken, sink)?;
+            taken += more;
+            now = behind;
+            if more == 0 {
+                break;
+            }
         }
-        let mut lines = Lines {
-            names: self.names,
-            text: Line::new(),
-        };
-        let plain = machine.hear_few_turns(last, most.min(ROW), &mut lines);
-        if plain.turns == 0 {
-            return Ok((0, plain.last));
-        }
-        lines.put(sink)?;
-        Ok((plain.turns, plain.last))
+        Ok((taken, now))
     }
 }
 

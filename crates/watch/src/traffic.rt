@@ -45,6 +45,7 @@ impl Traffic {
     }
 
     /// Counts so many more, up to the greatest u64.
+    #[inline(always)]
     fn add(&mut self, sum: Sum, number: u64)
         ensures added { (s : SumValue) → sum_at self.new s ≡ capped (sum_at self.old s + number * one_if (is_same s sum)) }
         ensures rest { self.new ≡ record self.old { sums = self.new.sums } }
@@ -54,6 +55,7 @@ impl Traffic {
     }
 
     /// Counts the messages that were sent after so many had been, and answers how many are in flight.
+    #[inline(always)]
     fn add_sent<const SETS: usize, const WAYS: usize>(
         &mut self,
         sent: u64,
@@ -127,6 +129,7 @@ impl Traffic {
     }
 
     /// Counts what a step did, before which so many messages had been sent.
+    #[inline(always)]
     pub(crate) fn note<const SETS: usize, const WAYS: usize>(
         &mut self,
         sent: u64,
