@@ -223,7 +223,8 @@ impl<'n, 'f> Lines<'n, 'f> {
 impl Listener for Lines<'_, '_> {
     ghost hears = { AddsLine };
 
-    /// Adds the line of an entry, if there is room for it.
+    /// Adds the line of an entry, if there is room for it. It is inlined, so that the entry is read where it stands.
+    #[inline(always)]
     fn hear(&mut self, entry: &Option<Entry>) {
         if let Some(entry) = entry
             && self.text.as_bytes().len() <= ROW_BYTES - ENTRY_BYTES
