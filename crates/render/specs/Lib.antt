@@ -1,5 +1,6 @@
 pub mod Parts
 pub mod Entries
+pub mod Words
 pub mod Blocks
 pub mod Messages
 pub mod Registers

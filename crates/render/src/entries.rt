@@ -1,9 +1,6 @@
 ghost use Rattle.std.specs.Prelude.{◌≡◌, ◌≤◌, ◌+◌, ◌++◌, length, codes, decimal};
 ghost use Rattle.words.specs.declared.entry.Entry.TheVariants.{Retire, Abort, Trap, Refuse, Spill};
 ghost use Rattle.texts.specs.Puts.{Puts};
-ghost use Rattle.texts.specs.Numerals.{hexadecimal};
-ghost use Rattle.disassembler.specs.Canonical.{canonical};
-ghost use Rattle.disassembler.specs.Labels.{label};
 ghost use Rattle.disassembler.specs.Tables.{no_symbols};
 ghost use Rattle.render.specs.Entries as spec;
 ghost use Rattle.render.specs.Entries.{entry_line};
@@ -29,8 +26,8 @@ pub fn put_entry<S: Sink>(names: &Symbols<'_>, entry: &Entry, sink: &mut S) -> R
 }
 
 /// Adds the line of an entry, as [`put_entry`] puts it, where there is room for [`ENTRY_BYTES`].
-#[inline(always)]
-pub fn add_entry<const CAP: usize>(names: &Symbols<'_>, entry: &Entry, line: &mut Line<CAP>)
+#[inline(never)]
+pub(crate) fn add_entry<const CAP: usize>(names: &Symbols<'_>, entry: &Entry, line: &mut Line<CAP>)
     requires { length line.old + 240 ≤ CAP }
     ensures text { line.new ≡ line.old ++ entry_line names.now entry.now }
     ensures longer { length line.new ≤ length line.old + 240 }
@@ -55,7 +52,6 @@ pub fn add_entry<const CAP: usize>(names: &Symbols<'_>, entry: &Entry, line: &mu
     }
 }
 
-#[inline(always)]
 fn add_retired<const CAP: usize>(
     names: &Symbols<'_>,
     hart: HartId,
@@ -70,27 +66,23 @@ fn add_retired<const CAP: usize>(
     ensures text { line.new ≡ line.old ++ entry_line names.now (Retire hart pc word write load store) }
     ensures longer { length line.new ≤ length line.old + 240 }
 {
-    add_word(names, hart, pc, word, line);
-    add_write(write, line);
-    add_access("load", load, line);
-    add_access("store", store, line);
-    line.put("\n");
+    line.put_bytes(&hart_digit(hart));
+    add_word(names, pc, word, line);
+    add_effect(write, load, store, line);
 }
 
-/// Adds the hart, the pc with its name, and the word with its text.
+/// Adds the pc of a word, with its name, and the word with its text.
 #[inline(always)]
-fn add_word<const CAP: usize>(
+pub(crate) fn add_word<const CAP: usize>(
     names: &Symbols<'_>,
-    hart: HartId,
     pc: Addr,
     word: u32,
     line: &mut Line<CAP>,
 )
-    requires { length line.old + 142 ≤ CAP }
-    ensures text { line.new ≡ line.old ++ decimal hart ++ codes " 0x" ++ hexadecimal pc ++ label names.now pc ++ codes " " ++ hexadecimal word ++ codes " " ++ canonical word }
-    ensures longer { length line.new ≤ length line.old + 142 }
+    requires { length line.old + 139 ≤ CAP }
+    ensures text { line.new ≡ line.old ++ spec.word_part names.now pc word }
+    ensures longer { length line.new ≤ length line.old + 139 }
 {
-    line.put_bytes(&hart_digit(hart));
     line.put(" 0x");
     line.put_word(pc.value());
     names.add_label(pc, line);
@@ -98,6 +90,24 @@ fn add_word<const CAP: usize>(
     line.put_word(word);
     line.put(" ");
     add_text(word, line);
+}
+
+/// Adds what a word did, and ends the line.
+#[inline(always)]
+pub(crate) fn add_effect<const CAP: usize>(
+    write: Option<(Reg, u32)>,
+    load: Option<Access>,
+    store: Option<Access>,
+    line: &mut Line<CAP>,
+)
+    requires { length line.old + 83 ≤ CAP }
+    ensures text { line.new ≡ line.old ++ spec.effect_part write load store }
+    ensures longer { length line.new ≤ length line.old + 83 }
+{
+    add_write(write, line);
+    add_access("load", load, line);
+    add_access("store", store, line);
+    line.put("\n");
 }
 
 /// Adds the register that was written, if one was, and its value.

@@ -21,6 +21,7 @@
 
 mod blocks;
 mod entries;
+mod entry_lines;
 mod messages;
 mod parts;
 mod registers;
@@ -28,7 +29,8 @@ mod reporting;
 mod statuses;
 
 pub use blocks::{cached_text, directory_text, put_cached, put_directory, put_word};
-pub use entries::{ENTRY_BYTES, add_entry, put_entry};
+pub use entries::{ENTRY_BYTES, put_entry};
+pub use entry_lines::EntryLines;
 pub use messages::{message_text, put_message};
 pub use parts::{first_byte, hart_text, stamp_text};
 pub use registers::{put_registers, status_text};

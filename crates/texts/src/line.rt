@@ -1,5 +1,5 @@
 //! A line, written from left to right.
-ghost use Rattle.std.specs.Prelude.{◌≡◌, ◌≤◌, ◌<◌, ◌+◌, [], ◌++◌, length, decimal};
+ghost use Rattle.std.specs.Prelude.{◌≡◌, ◌≤◌, ◌<◌, ◌+◌, [], ◌++◌, length, decimal, take};
 ghost use Rattle.texts.specs.Numerals.{hexadecimal};
 
 use crate::copies::{copy, copy_ends};
@@ -42,6 +42,14 @@ impl<const CAP: usize> Line<CAP> {
     {
         let bytes = &self.bytes[..];
         &bytes[..self.len]
+    }
+
+    /// Leaves nothing on the line.
+    #[inline(always)]
+    pub fn clear(&mut self)
+        ensures { self.new ≡ [] }
+    {
+        self.len = 0;
     }
 
     /// Writes a text, which has room.
@@ -106,6 +114,19 @@ impl<const CAP: usize> Line<CAP> {
         let bytes = &mut self.bytes[..];
         copy_ends::<2>(name.as_bytes(), &mut bytes[self.len..end]);
         self.len = end;
+    }
+
+    /// Writes the first so many bytes of a block that has room as a whole: it is copied whole, without a call.
+    #[inline(always)]
+    pub fn put_front<const N: usize>(&mut self, block: &[u8; N], len: usize)
+        requires inside { len ≤ N }
+        requires room { length self.old + N ≤ CAP }
+        ensures { self.new ≡ self.old ++ take len block.now }
+    {
+        let end = self.len + N;
+        let bytes = &mut self.bytes[..];
+        bytes[self.len..end].copy_from_slice(block);
+        self.len += len;
     }
 
     /// Writes bytes, which have room.

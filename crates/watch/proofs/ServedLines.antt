@@ -23,18 +23,18 @@ module _ (names : Table) where
   abbrev lines_in : ℕ → ℕ → List (ℕ × ForwardAnswer) → List ℕ
   lines_in r b xs = flat_map (λ x. line_if names (refusal_of x.0 r b x.1)) xs
 
-  replies_names : (r b : ℕ) (xs : List (ℕ × ForwardAnswer)) (x y : Lines) → HearsReplies AddsLine r b x xs y → y.names ≡ x.names
-  replies_names r b [] x y same = ap (λ (l : Lines). l.names) (sym same)
+  replies_names : (r b : ℕ) (xs : List (ℕ × ForwardAnswer)) (x y : Lines) → HearsReplies AddsLine r b x xs y → y.entries ≡ x.entries
+  replies_names r b [] x y same = ap (λ (l : Lines). l.entries) (sym same)
   replies_names r b (reply ∷ xs) x y (z, first, rest) = replies_names r b xs z y rest ∙ first.names
 
   -- where there was room for the lines of all, all were added
-  heard_replies : (r b : ℕ) (xs : List (ℕ × ForwardAnswer)) (x y : Lines) → x.names.now ≡ names → HearsReplies AddsLine r b x xs y → length x.text + 240 * length xs ≤ 1920 → y.text ≡ x.text ++ lines_in r b xs
+  heard_replies : (r b : ℕ) (xs : List (ℕ × ForwardAnswer)) (x y : Lines) → x.entries ≡ names → HearsReplies AddsLine r b x xs y → length x.text + 240 * length xs ≤ 1920 → y.text ≡ x.text ++ lines_in r b xs
   heard_replies r b [] x y is same room = ap (λ (l : Lines). l.text) (sym same) ∙ sym (append-nil x.text)
   heard_replies r b (reply ∷ xs) x y is (z, first, rest) room =
       let line : List ℕ = line_if names (refusal_of reply.0 r b reply.1) in
       let fits : length x.text + 240 ≤ 1920 = omega (arith, room) in
       let one : z.text ≡ x.text ++ line = first.line fits ∙ ap (λ (t : Table). x.text ++ line_if t (refusal_of reply.0 r b reply.1)) is in
-      let kept : z.names.now ≡ names = ap (λ n. n.now) first.names ∙ is in
+      let kept : z.entries ≡ names = first.names ∙ is in
       let left : length z.text + 240 * length xs ≤ 1920 = omega (arith, room, first.longer) in
       heard_replies r b xs z y kept rest left ∙ ap (λ (l : List ℕ). l ++ lines_in r b xs) one ∙ append_assoc x.text line (lines_in r b xs)
 
@@ -70,7 +70,7 @@ module _ (names : Table) where
 
   module _ (g : Geometry) (v w : State) (s : Service) (xs : List (ℕ × ForwardAnswer)) (is : IsServed g v s xs w) where
     -- what is written of a request that is served is the trace of its turns
-    served_text : (x y : Lines) → x.names.now ≡ names → x.text ≡ [] → HearsReplies AddsLine s.requester s.block x xs y → y.text ≡ trace_of names (at g v w s xs is)
+    served_text : (x y : Lines) → x.entries ≡ names → x.text ≡ [] → HearsReplies AddsLine s.requester s.block x xs y → y.text ≡ trace_of names (at g v w s xs is)
     served_text x y of_names empty heard =
         let none : length x.text ≡ 0 = ap (λ (l : List ℕ). length l) empty in
         let room : length x.text + 240 * length xs ≤ 1920 = omega (arith, none, is.harts) in
@@ -78,7 +78,7 @@ module _ (names : Table) where
         ∙ (λ k. lines_in (is.requester k) (is.block k) xs) ∙ sym (traced g v (every g v w s xs is) w (gone g v w s xs is) ∙ all_written is.request is.granted xs is.settled)
 
     -- the turns of a request that is served, and their lines, where nothing was written before
-    pub served_added : (x y : Lines) (after : ℕ) → x.names.now ≡ names → x.text ≡ [] → HearsReplies AddsLine s.requester s.block x xs y → AddsTurns g v after (2 + 2 * s.answers + s.ended) w after x y
+    pub served_added : (x y : Lines) (after : ℕ) → x.entries ≡ names → x.text ≡ [] → HearsReplies AddsLine s.requester s.block x xs y → AddsTurns g v after (2 + 2 * s.answers + s.ended) w after x y
     served_added x y after of_names empty heard = record {
       moments = at g v w s xs is;
       took = served_took g v w s xs is after;
@@ -86,5 +86,5 @@ module _ (names : Table) where
       names = replies_names s.requester s.block xs x y heard;
       text =
           served_text x y of_names empty heard ∙ ap (λ (t : Table). trace_of t (at g v w s xs is)) (sym of_names)
-          ∙ ap (λ (l : List ℕ). l ++ trace_of x.names.now (at g v w s xs is)) (sym empty);
+          ∙ ap (λ (l : List ℕ). l ++ trace_of x.entries (at g v w s xs is)) (sym empty);
     }

@@ -12,8 +12,8 @@ use Rattle.watch.specs.Traces.{line_if, trace_of}
 
 -- the line of what a step gave was added, where there was room for 240 bytes
 pub record AddsLine (before : Lines) (e : Option Entry) (after : Lines) : Type 0 where
-  pub names : after.names ≡ before.names
-  pub line : length before.text + 240 ≤ 1920 → after.text ≡ before.text ++ line_if before.names.now e
+  pub names : after.entries ≡ before.entries
+  pub line : length before.text + 240 ≤ 1920 → after.text ≡ before.text ++ line_if before.entries e
   pub longer : length after.text ≤ length before.text + 240
 
 -- so many turns were taken, the first after a hart's, and the lines of what they gave were added. The last of a hart was then this hart's
@@ -21,8 +21,8 @@ pub record AddsTurns (g : Geometry) (v : State) (after number : ℕ) (w : State)
   pub moments : List Moment
   pub took : TookTurns g v after moments w last
   pub turns : number ≡ length moments
-  pub names : now.names ≡ before.names
-  pub text : now.text ≡ before.text ++ trace_of before.names.now moments
+  pub names : now.entries ≡ before.entries
+  pub text : now.text ≡ before.text ++ trace_of before.entries moments
 
 -- so many turns were taken, and the sink took the lines of what they gave
 pub record PutsTurns (g : Geometry) (names : Table) (v : State) (after number : ℕ) (w : State) (last : ℕ) (a b : SinkState) : Type 0 where

@@ -9,7 +9,7 @@ ghost use Rattle.watch.specs.Traces.{line_if, trace_of, IsTraced, IsCut};
 use disassembler::Symbols;
 use machine::{Listener, Machine, Progress, TRACED, Turned, hart_after};
 use network::Flight;
-use render::{ENTRY_BYTES, add_entry, put_entry};
+use render::{ENTRY_BYTES, EntryLines, put_entry};
 use schedule::{Choice, Chooser, Halt, Observer, Unseen, run};
 use texts::{Line, put_all};
 use words::{Entry, HartId, Sink, SinkFault, Step};
@@ -20,18 +20,17 @@ const ROW_BYTES: usize = 8 * ENTRY_BYTES;
 /// The lines of turns that were taken in a row.
 #[derive(Drop)]
 struct Lines<'n, 'f> {
-    names: &'n Symbols<'f>,
+    entries: EntryLines<'n, 'f>,
     text: Line<ROW_BYTES>,
 }
 
 impl<'n, 'f> Lines<'n, 'f> {
-    /// None so far.
-    #[inline(always)]
+    /// None so far, with these names.
     fn new(names: &'n Symbols<'f>) -> Self
-        ensures { result ≡ record { names = names.entry; text = [] } }
+        ensures { result ≡ record { entries = names.now; text = [] } }
     {
         Lines {
-            names,
+            entries: EntryLines::new(names),
             text: Line::new(),
         }
     }
@@ -186,11 +185,16 @@ impl<'n, 'f> Lines<'n, 'f> {
         if room == 0 {
             return (0, last);
         }
-        if last.quiescent {
-            self.add_words(machine, last, most.min(room))
-        } else {
-            self.add_others(machine, last.hart, most)
+        let Turned { hart, quiescent } = last;
+        if !quiescent {
+            return self.add_others(machine, hart, most);
         }
+        let (turns, behind) = self.add_words(machine, Turned { hart, quiescent }, most.min(room));
+        if turns > 0 {
+            return (turns, behind);
+        }
+        // The hart declined its word.
+        self.add_turn(machine, hart)
     }
 
     /// Adds those of turns, so many at most, one behind another, while they have room. It may stop at any turn, which costs time alone.
@@ -218,6 +222,31 @@ impl<'n, 'f> Lines<'n, 'f> {
         }
         (taken, now)
     }
+
+    /// Takes some turns, so many at most, puts their lines at once, and leaves none. It may take none, which costs time alone.
+    fn put_turns<const SETS: usize, const WAYS: usize, S: Sink>(
+        &mut self,
+        machine: &mut Machine<SETS, WAYS>,
+        last: Turned,
+        most: u32,
+        sink: &mut S,
+    ) -> Result<(u32, Turned), Unseen>
+        requires quiescent { IsTrue last.quiescent → IsQuiescent SETS machine.old }
+        requires none { self.old.text ≡ [] }
+        ensures turns { IfOk result (λ taken. PutsTurns (geometry SETS WAYS) self.old.entries machine.old last.hart taken.0 machine.new taken.1.hart (S.state sink.old) (S.state sink.new)) }
+        ensures most { IfOk result (λ taken. taken.0 ≤ most) }
+        ensures quiescent { IfOk result (λ taken. IsTrue taken.1.quiescent → IsQuiescent SETS machine.new) }
+        ensures none { IfOk result (λ _. self.new ≡ self.old) }
+        ensures missed { OnErr result (CutsTurns (geometry SETS WAYS) self.old.entries machine.old last.hart most machine.new (S.state sink.old) (S.state sink.new)) }
+    {
+        let (turns, behind) = self.add_turns(machine, last, most);
+        if turns == 0 {
+            return Ok((0, behind));
+        }
+        self.put(sink)?;
+        self.text.clear();
+        Ok((turns, behind))
+    }
 }
 
 impl Listener for Lines<'_, '_> {
@@ -229,7 +258,7 @@ impl Listener for Lines<'_, '_> {
         if let Some(entry) = entry
             && self.text.as_bytes().len() <= ROW_BYTES - ENTRY_BYTES
         {
-            add_entry(self.names, entry, &mut self.text);
+            self.entries.add(entry, &mut self.text);
         }
     }
 }
@@ -254,29 +283,6 @@ impl<'n, 'f> Recorder<'n, 'f> {
             Ok(()) => Ok(()),
             Err(_) => Err(Unseen),
         }
-    }
-
-    /// Takes some turns, so many at most, and puts their lines at once. It may take none, which costs time alone.
-    fn put_some<const SETS: usize, const WAYS: usize, S: Sink>(
-        &self,
-        machine: &mut Machine<SETS, WAYS>,
-        last: Turned,
-        most: u32,
-        sink: &mut S,
-    ) -> Result<(u32, Turned), Unseen>
-        requires { IsTrue last.quiescent → IsQuiescent SETS machine.old }
-        ensures turns { IfOk result (λ taken. PutsTurns (geometry SETS WAYS) self.now.names.now machine.old last.hart taken.0 machine.new taken.1.hart (S.state sink.old) (S.state sink.new)) }
-        ensures most { IfOk result (λ taken. taken.0 ≤ most) }
-        ensures quiescent { IfOk result (λ taken. IsTrue taken.1.quiescent → IsQuiescent SETS machine.new) }
-        ensures missed { OnErr result (CutsTurns (geometry SETS WAYS) self.now.names.now machine.old last.hart most machine.new (S.state sink.old) (S.state sink.new)) }
-    {
-        let mut lines = Lines::new(self.names);
-        let (turns, behind) = lines.add_turns(machine, last, most);
-        if turns == 0 {
-            return Ok((0, behind));
-        }
-        lines.put(sink)?;
-        Ok((turns, behind))
     }
 }
 
@@ -317,10 +323,11 @@ impl<'n, 'f, const SETS: usize, const WAYS: usize, S: Sink> Observer<SETS, WAYS,
         most: u32,
         sink: &mut S,
     ) -> Result<(u32, Turned), Unseen> {
+        let mut lines = Lines::new(self.names);
         let mut taken = 0;
         let mut now = last;
         while taken < most {
-            let (more, behind) = self.put_some(machine, now, most - taken, sink)?;
+            let (more, behind) = lines.put_turns(machine, now, most - taken, sink)?;
             taken += more;
             now = behind;
             if more == 0 {

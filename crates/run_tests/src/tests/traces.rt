@@ -59,11 +59,11 @@ fn each_put_that_is_refused_is_told(rt: HostRuntime) {
     for left in 0..10 {
         let mut sink = Refusing { left, failed: 0 };
         let put = traced(&rt, 0, &mut sink);
-        // The first turn is one put, and so are the two words before the store, what follows from it up to the call, and the call.
-        let want = if left < 4 { Err(Halt::Untold) } else { Ok(()) };
+        // The first turn is one put, and so are the two words before the store, and all that follows from it.
+        let want = if left < 3 { Err(Halt::Untold) } else { Ok(()) };
         if put != Err(Halt::NoMemory) {
             equal_at(&rt, &put, &want, &left);
-            equal(&rt, &sink.failed, &u64::from(left < 4));
+            equal(&rt, &sink.failed, &u64::from(left < 3));
         }
     }
 }

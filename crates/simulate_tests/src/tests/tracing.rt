@@ -43,9 +43,9 @@ static BEFORE: [&str; 7] = [
     "0x2000",
 ];
 
-/// The trace takes four puts: its second and third line are one, and the four before its last.
+/// The trace takes three puts: its second and third line are one, and so are all behind them.
 const WHOLE: Viewed = Viewed {
-    puts: 4,
+    puts: 3,
     view: TRACE,
     status: 0,
     report: REPORT,
@@ -84,12 +84,12 @@ fn each_put_of_both_is_refused(rt: HostRuntime) -> Result<(), Fail> {
     Ok(())
 }
 
-// Four puts are those of the trace, and the next is the report's first: of "hart " half is taken.
+// Three puts are those of the trace, and the next is the report's first: of "hart " half is taken.
 #[test]
 fn a_report_is_cut_behind_its_trace(rt: HostRuntime) -> Result<(), Fail> {
     let file = file_of(rt.alloc(), &COMMITS)?;
     let request = request_of(rt.alloc(), BEFORE.as_slice()).expect(&rt, "a request");
-    let mut sheets = Sheets::cut(rt.alloc(), 4);
+    let mut sheets = Sheets::cut(rt.alloc(), 3);
     sheets.page = Paper::stuck(rt.alloc());
     let told = carried(&rt, &request, &file, &[], sheets);
     equal(

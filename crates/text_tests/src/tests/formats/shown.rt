@@ -5,12 +5,13 @@ use directory::{Busy, DirEntry, Owner};
 use disassembler::Symbols;
 use reference::Breaking;
 use render::{
-    cached_text, directory_text, message_text, put_cached, put_directory, put_entry, put_message,
-    put_registers, put_word, status_text,
+    ENTRY_BYTES, EntryLines, cached_text, directory_text, message_text, put_cached, put_directory,
+    put_entry, put_message, put_registers, put_word, status_text,
 };
 use std::alloc::Global;
 use std::process::Abort;
 use std::test::Fail;
+use texts::Line;
 use words::{
     AbortCause, Access, Addr, BlockNo, Cause, Entry, HartId, HartSet, Kind, LineState, Marks,
     Message, Reg, Regs, Stamp, Status, Taken, Width,
@@ -41,6 +42,17 @@ fn check_entry(rt: &(impl Abort + AllocGlobal), entry: Entry, want: &str) {
         put_entry(&Symbols::none(rt.alloc()), &entry, &mut sink).is_ok(),
     );
     equal_items(rt, &sink.bytes, want.as_bytes());
+    let names = Symbols::none(rt.alloc());
+    let mut lines = EntryLines::new(&names);
+    check_line(rt, &mut lines, &entry, want);
+    check_line(rt, &mut lines, &entry, want);
+}
+
+/// Asserts the line of an entry behind others.
+fn check_line(rt: &impl Abort, lines: &mut EntryLines<'_, '_>, entry: &Entry, want: &str) {
+    let mut line = Line::<ENTRY_BYTES>::new();
+    lines.add(entry, &mut line);
+    equal_items(rt, line.as_bytes(), want.as_bytes());
 }
 
 fn retired(pc: u32, word: u32, write: Option<(Reg, u32)>) -> Entry {
@@ -98,6 +110,21 @@ fn a_retired_word_has_its_parts(rt: HostRuntime) -> Result<(), Fail> {
         },
         "1 0x00001000 00b2a52f amoadd.w a0, a1, (t0) | a0=0x00000002 | load 4 0x00002000=0x00000002 | store 4 0x00002000=0x00000003\n",
     );
+    Ok(())
+}
+
+/// 1,024 bytes apart their texts are kept in one place.
+#[test]
+fn words_far_apart_and_new_words_have_their_own_texts(rt: HostRuntime) -> Result<(), Fail> {
+    let names = Symbols::none(rt.alloc());
+    let mut lines = EntryLines::new(&names);
+    let begin = retired(0x1000, 0x0000_0a0b, None);
+    check_line(&rt, &mut lines, &begin, "0 0x00001000 00000a0b tbegin 20\n");
+    let far = retired(0x1400, 0x0000_0a0b, None);
+    check_line(&rt, &mut lines, &far, "0 0x00001400 00000a0b tbegin 20\n");
+    check_line(&rt, &mut lines, &begin, "0 0x00001000 00000a0b tbegin 20\n");
+    let new = retired(0x1000, 0x0000_100b, None);
+    check_line(&rt, &mut lines, &new, "0 0x00001000 0000100b tcommit\n");
     Ok(())
 }
 

@@ -15,4 +15,4 @@ returns-in-Some-clause-turns g c =
     let served = c.in-Some.ensures.served in
     let empty = c.is_empty.ensures.0 c.if-not-is_empty.false in
     subst (λ (n : ℕ). AddsTurns G v c.args.after n w c.args.after x y) (sym c.turns.ensures)
-    (served_added x.names.now G v w c.in-Some.service served.0 served.1 x y c.args.after refl empty served.2)
+    (served_added x.entries G v w c.in-Some.service served.0 served.1 x y c.args.after refl empty served.2)
