@@ -1,6 +1,6 @@
 -- Requests that are counted.
 use Rattle.std.proofs.Common.{◌≡◌, ◌≤◌, ◌+◌, ◌-◌, ◌++◌, ◌==◌, ◌&&◌, not, ℕ, zero, suc, Bool, true, false, List, [], ◌∷◌, length, Option, Some, None, refl, sym, ap, ◌∙◌, add-one, append-nil, arith, subst, true≢false}
-use Rattle.std.proofs.lemmas.Option.{none-some, slice_get_past}
+use Rattle.std.proofs.lemmas.Option.{none-some, same_Some, slice_get_past}
 use Rattle.std.specs.Prelude.{if◌then◌else◌, is_some, slice_get}
 use Rattle.std.specs.Option.{option_and_then, option_map, option_map_or}
 use Rattle.words.specs.Limits.{most_harts}
@@ -10,13 +10,15 @@ use Rattle.conflict.specs.Requests.{shown_request}
 use Rattle.hart.specs.Shown.{shown_hart}
 use Rattle.conflict.specs.declared.request.Request.{Request as CodedRequest}
 use Rattle.protocol.specs.Directory.{Busy}
+use Rattle.protocol.specs.Hart.{Request as Waiting}
+use Rattle.hart.specs.declared.reply.Asked.{Asked}
 use Rattle.protocol.specs.Machine.{Machine}
 use Rattle.protocol.specs.Start.{first_hart}
 use Rattle.machine.specs.Lent.{hart_if}
 use Rattle.machine.specs.States.{Seat, State, hart_at, shown}
 use Rattle.watch.specs.declared.kinds.Kind.{Kind}
 use Rattle.watch.specs.declared.kinds.Kind.TheVariants.{Held}
-use Rattle.watch.specs.Kinds.{Grows, counts_request, held_behind, held_by, is_count, kind_asked, number_in, one_if, waits_behind}
+use Rattle.watch.specs.Kinds.{Grows, asked_in, counts_request, held_behind, held_by, is_count, kind_asked, number_in, one_if, waits_behind}
 use Rattle.watch.proofs.Tallying.{grown, no_more, number_both}
 
 -- a hart's request, as the code has it
@@ -47,6 +49,17 @@ held_not i (Some busy) is = absurd (true≢false is)
 pub some_mapped : {A B : Type 0} (f : A → B) (o : Option A) → is_some (option_map f o) ≡ is_some o
 some_mapped f None = refl
 some_mapped f (Some x) = refl
+
+-- what is asked for, where something is
+pub wanted : (o : Option Waiting) (a : Asked) → Some a ≡ option_map asked_in o → (r : Waiting) × (o ≡ Some r) × (r.kind ≡ a.kind) × (r.block ≡ a.block)
+wanted None a is = absurd (none-some a (sym is))
+wanted (Some r) a is =
+    let same = same_Some a (asked_in r) is in
+    (r, refl, ap (λ (x : Asked). x.kind) (sym same), ap (λ (x : Asked). x.block) (sym same))
+
+pub none_mapped : {A B : Type 0} (f : A → B) (o : Option A) → is_some (option_map f o) ≡ false → o ≡ None
+none_mapped f None is = refl
+none_mapped f (Some x) is = absurd (true≢false is)
 
 -- one count more, and two
 pub one_more : (h : ℕ) (k : Kind) (x : ℕ × Kind) (old new : ℕ) → Grows old (one_if (is_count h k x)) new → Grows old (number_in h k (x ∷ [])) new

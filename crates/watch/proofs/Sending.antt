@@ -58,7 +58,7 @@ module _ {T : Type 0} (p : Option T → Bool) (not_none : p None ≡ false) wher
 taken_first : {T : Type 0} (x : Option T) (xs : List (Option T)) → count_by is_some (x ∷ xs) ≡ cond (is_some x) 1 0 + count_by is_some xs
 taken_first x xs = sum_by-cons (λ o. cond (is_some o) 1 0) x xs
 
-none_in : {T : Type 0} (slots : List (Option T)) → count_by is_some slots ≡ 0 → (key : ℕ) → slice_index_or slots key None ≡ None
+pub none_in : {T : Type 0} (slots : List (Option T)) → count_by is_some slots ≡ 0 → (key : ℕ) → slice_index_or slots key None ≡ None
 none_in [] none key = refl
 none_in (None ∷ xs) none zero = refl
 none_in (Some x ∷ xs) none zero =

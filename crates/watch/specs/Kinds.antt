@@ -15,6 +15,7 @@ use Rattle.protocol.specs.Messages.{Message, Get, receiver_of, shown as shown_me
 use Rattle.words.specs.declared.message.Kind.{Kind as Want}
 use Rattle.words.specs.declared.message.Kind.TheVariants.{Read, Write}
 use Rattle.protocol.specs.Directory.{Busy}
+use Rattle.hart.specs.declared.reply.Asked.{Asked as AskedBlock}
 use Rattle.protocol.specs.Hart.{Request}
 use Rattle.protocol.specs.Machine.{Machine}
 use Rattle.machine.specs.States.{shown}
@@ -100,6 +101,10 @@ abbrev pub kind_asked : Want → Bool → Kind
 kind_asked Read has_line = LoadMissed
 kind_asked Write false = StoreMissed
 kind_asked Write true = Upgraded
+
+-- what a request is for
+abbrev pub asked_in : Request → AskedBlock
+asked_in r = record { kind = r.kind; block = r.block }
 
 -- a request for a block with which the directory is busy is held there
 abbrev pub held_by : ℕ → Option Busy → List (ℕ × Kind)

@@ -13,6 +13,7 @@ use Rattle.watch.specs.declared.figures.Sum.{Sum}
 use Rattle.watch.specs.declared.figures.Figure.{Figure}
 use Rattle.watch.specs.declared.figures.Sum.TheVariants.{Cores, Evictions, Deliveries, Sent}
 use Rattle.watch.specs.declared.figures.Figure.TheVariants as figure
+use Rattle.watch.specs.declared.traffic.Noted.{Noted}
 use Rattle.watch.specs.declared.traffic.Traffic.{Traffic}
 
 -- the place of a sum
@@ -80,9 +81,27 @@ figure_of ms (figure.Sum s) = capped (total s ms)
 figure_of ms figure.MostInFlight = most in_flight ms
 figure_of ms figure.MostInUse = most in_use ms
 
--- a sum, of those that stand by their places; and what is told in all
+-- a sum, of those that stand by their places
+abbrev pub sum_in : List ℕ → Sum → ℕ
+sum_in sums s = get_or sums (place_of s) 0
+
+-- nothing was noted
+abbrev pub nothing : Noted
+nothing = record { cores = 0; requests = 0; served = 0; answers = 0; refusals = 0; ended = 0 }
+
+-- how often what was noted counts as this: the requests that were served and all that was sent to serve them arrived
+abbrev pub told : Sum → Noted → ℕ
+told s n =
+    (n.cores + n.requests) * one_if (is_same s Cores) + n.requests * one_if (is_same s (Sent Get))
+    + (2 * n.served + 2 * n.answers + n.ended) * one_if (is_same s Deliveries) + n.served * one_if (is_same s (Sent Grant)) + n.answers * one_if (is_same s (Sent Forward))
+    + (n.answers - n.refusals) * one_if (is_same s (Sent Ack)) + n.refusals * one_if (is_same s (Sent Nack)) + n.ended * one_if (is_same s (Sent Done))
+
+-- a sum with what was noted and isn't in it yet; that of a run; and what is told in all
+abbrev pub sum_with : Noted → List ℕ → Sum → ℕ
+sum_with n sums s = capped (sum_in sums s + told s n)
+
 abbrev pub sum_at : Traffic → Sum → ℕ
-sum_at t s = get_or t.sums (place_of s) 0
+sum_at t s = sum_with t.pending t.sums s
 
 abbrev pub figure_at : Traffic → Figure → ℕ
 figure_at t (figure.Sum s) = sum_at t s

@@ -1,14 +1,17 @@
 //! Requests that are counted: misses and upgrades, and those that are held.
-ghost use Rattle.std.specs.Prelude.{◌≡◌, ◌≤◌, ◌+◌, ℕ, is_some};
+ghost use Rattle.std.specs.Prelude.{◌≡◌, ◌≤◌, ◌+◌, ◌↔◌, ℕ, is_some, IsTrue};
+ghost use Rattle.std.specs.Option.{option_map};
 ghost use Rattle.words.specs.Limits.{most_harts};
 ghost use Rattle.machine.specs.States.{shown};
 ghost use Rattle.protocol.specs.Messages.{shown as shown_message};
 ghost use Rattle.schedule.specs.Moments.{arrival_of};
-ghost use Rattle.watch.specs.Kinds.{Grows, asked_by, asks_if, count_at, counts_asked, counts_request, goes_to, held_behind, kind_asked, number_in, waits_behind};
+ghost use Rattle.watch.specs.Kinds.{Grows, asked_by, asked_in, asks_if, count_at, counts_asked, counts_request, goes_to, held_behind, held_by, kind_asked, number_in, waits_behind};
+ghost use Rattle.watch.specs.Runs.{AreFree};
 ghost use Rattle.watch.specs.declared.kinds.Kind.{Kind as KindValue};
 
 use crate::cells::Counts;
 use crate::kinds::Kind;
+use hart::Asked;
 use machine::{Machine, receiver};
 use network::Flight;
 use words::{BlockNo, HartId, Kind as Want, Message, Step};
@@ -79,9 +82,42 @@ fn waits_behind<const SETS: usize, const WAYS: usize>(
     }
 }
 
+/// What a hart has asked for, while its request is out.
+#[inline(always)]
+pub(crate) fn request_of<const SETS: usize, const WAYS: usize>(
+    machine: &Machine<SETS, WAYS>,
+    id: HartId,
+) -> Option<Asked>
+    ensures { result ≡ option_map asked_in ((shown SETS machine.now).harts id).request }
+{
+    machine.keeps();
+    let request = machine.hart(id)?.request()?;
+    Some(Asked {
+        kind: request.kind,
+        block: request.block,
+    })
+}
+
+/// Whether all harts are free: none waits for a block, and none is fresh.
+#[inline(always)]
+pub(crate) fn all_free<const SETS: usize, const WAYS: usize>(machine: &Machine<SETS, WAYS>) -> bool
+    ensures { IsTrue result ↔ AreFree (shown SETS machine.now) }
+{
+    for i in 0..machine.harts() {
+        let id = HartId::new(i as u8);
+        if machine.waits_for(id).is_some() {
+            return false;
+        }
+        if machine.fresh(id) {
+            return false;
+        }
+    }
+    true
+}
+
 /// What a hart's request for a block counts as. Whether it has a line is looked up only where that tells.
 #[inline(always)]
-fn kind_asked<const SETS: usize, const WAYS: usize>(
+pub(crate) fn kind_asked<const SETS: usize, const WAYS: usize>(
     machine: &Machine<SETS, WAYS>,
     id: HartId,
     want: Want,
@@ -129,15 +165,23 @@ impl Counts {
     )
         ensures { (h : ℕ) (k : KindValue) → Grows (count_at self.old h k) (number_in h k (counts_request (shown SETS machine.now) id ((shown SETS machine.now).harts id).request)) (count_at self.new h k) }
     {
-        machine.keeps();
-        let Some(hart) = machine.hart(id) else {
+        let Some(asked) = request_of(machine, id) else {
             return;
         };
-        let Some(request) = hart.request() else {
-            return;
-        };
-        self.add(id, kind_asked(machine, id, request.kind, request.block));
-        if machine.entry(request.block).busy.is_some() {
+        self.add(id, kind_asked(machine, id, asked.kind, asked.block));
+        self.note_busy(id, asked.block, machine);
+    }
+
+    /// Counts a hart's request for a block as held, if the directory is busy with that block.
+    pub(crate) fn note_busy<const SETS: usize, const WAYS: usize>(
+        &mut self,
+        id: HartId,
+        block: BlockNo,
+        machine: &Machine<SETS, WAYS>,
+    )
+        ensures { (h : ℕ) (k : KindValue) → Grows (count_at self.old h k) (number_in h k (held_by id ((shown SETS machine.now).entries block).busy)) (count_at self.new h k) }
+    {
+        if machine.entry(block).busy.is_some() {
             self.add(id, Kind::Held);
         }
     }

@@ -11,7 +11,9 @@ mod kinds;
 mod machine_text;
 mod names;
 mod recording;
+mod rows;
 mod served;
+mod skim;
 mod table_text;
 mod traffic;
 

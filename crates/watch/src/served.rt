@@ -1,15 +1,18 @@
 //! Requests that are served at once, and counted.
-ghost use Rattle.std.specs.Prelude.{◌≡◌, ◌≤◌, ◌||◌, ◌==◌, ℕ, length, max, if◌then◌else◌};
+ghost use Rattle.std.specs.Prelude.{◌≡◌, ◌≤◌, ◌+◌, ◌*◌, ◌||◌, ◌==◌, ℕ, List, length, max, if◌then◌else◌, IfSome, IfNone};
 ghost use Rattle.words.specs.Harts.{names};
 ghost use Rattle.words.specs.Limits.{most_harts};
-ghost use Rattle.machine.specs.States.{geometry, shown};
+ghost use Rattle.hart.specs.declared.reply.ForwardAnswer.{ForwardAnswer as AnswerValue};
+ghost use Rattle.machine.specs.Serving.{HearsReplies, IsServed};
+ghost use Rattle.machine.specs.States.{State, geometry, shown};
 ghost use Rattle.watch.specs.Kinds.{Grows, count_at, held_behind, number_in};
-ghost use Rattle.watch.specs.Runs.{NotesServed, TakesCounted};
+ghost use Rattle.watch.specs.Runs.{CountsEntry, HasAsked, HasStepped, NotesServed, TakesCounted};
 ghost use Rattle.watch.specs.declared.kinds.Kind.{Kind};
 
+use crate::asking::{kind_asked, request_of};
 use crate::counting::{Tally, set_fresh};
 use machine::{Machine, Service};
-use words::HartSet;
+use words::{HartId, HartSet, Step};
 
 /// Notes which harts are fresh behind a request that was served: those that heard a message of it, as the machine has them.
 #[inline(always)]
@@ -45,9 +48,23 @@ fn note_served<const SETS: usize, const WAYS: usize>(
     note_all_fresh(&mut tally.fresh, service, machine);
 }
 
+/// Serves the request that is alone in flight, as [`Machine::serve`] does, and counts its refusals.
+#[inline(never)]
+fn serve<const SETS: usize, const WAYS: usize>(
+    machine: &mut Machine<SETS, WAYS>,
+    most: u32,
+    tally: &mut Tally,
+) -> Option<Service>
+    ensures served { IfSome result (λ s. (replies : List (ℕ × AnswerValue)) × IsServed (geometry SETS WAYS) machine.old s replies machine.new
+        × HearsReplies CountsEntry s.requester s.block tally.old replies tally.new) }
+    ensures most { IfSome result (λ s. 2 + 2 * s.answers + s.ended ≤ most) }
+    ensures none { IfNone result ((machine.new ≡ machine.old) × (tally.new ≡ tally.old)) }
+{
+    machine.serve(most, tally)
+}
+
 /// Takes the turns in which a request that is alone in flight arrives, and after it each message that it brings about, so many at most, and counts them: how
 /// many they were. It may take none, which costs time alone.
-#[inline(never)]
 pub(crate) fn serve_counted<const SETS: usize, const WAYS: usize>(
     machine: &mut Machine<SETS, WAYS>,
     most: u32,
@@ -58,11 +75,63 @@ pub(crate) fn serve_counted<const SETS: usize, const WAYS: usize>(
 {
     // So those that are sent have higher numbers.
     machine.are_numbered();
-    match machine.serve(most, tally) {
+    match serve(machine, most, tally) {
         Some(service) => {
             note_served(&service, machine, tally);
             service.turns()
         }
         None => 0,
     }
+}
+
+/// Counts a step of a hart's core whose entry is counted, whatever it sent. So many messages had been sent before it.
+#[inline(never)]
+fn note_step<const SETS: usize, const WAYS: usize>(
+    machine: &Machine<SETS, WAYS>,
+    hart: HartId,
+    sent: u64,
+    tally: &mut Tally,
+)
+    ensures { (v : State) (after : ℕ) (before : Tally) → HasStepped (geometry SETS WAYS) v after hart machine.now before tally.old → sent ≡ v.sent
+        → HasAsked (geometry SETS WAYS) v after hart 1 machine.now before tally.new }
+{
+    let step = Step::Core(hart);
+    tally.harts.note_asked(sent, None, &step, machine);
+    tally.machine.note(sent, &step, machine);
+}
+
+/// Counts a step of a hart's core whose entry is counted, and in which it mostly has asked for a block. What it asked for is served at once, if it can be, in so many
+/// turns more, and counted too. So many messages had been sent before the step. All other harts are free behind these turns.
+#[inline(always)]
+pub(crate) fn ask<const SETS: usize, const WAYS: usize>(
+    machine: &mut Machine<SETS, WAYS>,
+    hart: HartId,
+    sent: u64,
+    most: u32,
+    tally: &mut Tally,
+) -> u32
+    ensures asked { (v : State) (after : ℕ) (before : Tally) → HasStepped (geometry SETS WAYS) v after hart machine.old before tally.old → sent ≡ v.sent
+        → HasAsked (geometry SETS WAYS) v after hart (1 + result) machine.new before tally.new }
+    ensures most { result ≤ most }
+{
+    // Behind the greatest u64 numbers don't tell what was sent.
+    if sent >= machine.sent() {
+        note_step(machine, hart, sent, tally);
+        return 0;
+    }
+    let Some(asked) = request_of(machine, hart) else {
+        note_step(machine, hart, sent, tally);
+        return 0;
+    };
+    let kind = kind_asked(machine, hart, asked.kind, asked.block);
+    tally.harts.add(hart, kind);
+    tally.machine.note_request(machine.used());
+    machine.are_numbered();
+    let Some(service) = serve(machine, most, tally) else {
+        tally.harts.note_busy(hart, asked.block, machine);
+        return 0;
+    };
+    tally.machine.note_served(&service, machine);
+    set_fresh(&mut tally.fresh, hart, machine.fresh(hart));
+    service.turns()
 }

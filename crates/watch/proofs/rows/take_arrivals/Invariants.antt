@@ -1,7 +1,7 @@
 use Rattle.std.proofs.Common.{◌≤◌, ◌-◌, ℕ}
 use Rattle.machine.specs.States.{geometry}
 use Rattle.watch.specs.Runs.{TakesCounted}
-use Rattle.watch.proofs.counting.take_arrivals.Given as goal
+use Rattle.watch.proofs.rows.take_arrivals.Given as goal
 
 -- the arrivals so far
 abbrev pub invariant-loop-taken : goal.invariant-loop-taken

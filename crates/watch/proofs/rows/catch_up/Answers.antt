@@ -1,7 +1,7 @@
 use Rattle.machine.specs.States.{geometry}
 use Rattle.words.specs.declared.entry.Step.TheVariants.{Core}
 use Rattle.watch.proofs.Counted.{none_counted, turn_counted, both_counted}
-use Rattle.watch.proofs.counting.catch_up.Goals as goal
+use Rattle.watch.proofs.rows.catch_up.Goals as goal
 
 pub returns-then-last-clause-turns : goal.returns-then-last-clause-turns
 returns-then-last-clause-turns g c = none_counted (geometry g.row.SETS g.row.WAYS) c.args.machine.now c.args.last.hart c.args.tally.now

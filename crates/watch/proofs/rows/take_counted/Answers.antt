@@ -1,7 +1,7 @@
 use Rattle.std.proofs.Common.{arith}
 use Rattle.machine.specs.States.{geometry}
 use Rattle.watch.proofs.Counted.{both_counted, none_counted}
-use Rattle.watch.proofs.counting.take_counted.Goals as goal
+use Rattle.watch.proofs.rows.take_counted.Goals as goal
 
 pub loop-taken-init : goal.loop-taken-init
 loop-taken-init g c = (omega arith, none_counted (geometry g.row.SETS g.row.WAYS) c.args.machine.now c.args.last.hart c.args.tally.now, c.requires)

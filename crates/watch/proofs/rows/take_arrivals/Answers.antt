@@ -1,7 +1,7 @@
 use Rattle.std.proofs.Common.{arith}
 use Rattle.machine.specs.States.{geometry}
 use Rattle.watch.proofs.Counted.{arrived_counted}
-use Rattle.watch.proofs.counting.take_arrivals.Goals as goal
+use Rattle.watch.proofs.rows.take_arrivals.Goals as goal
 
 pub loop-taken-init : goal.loop-taken-init
 loop-taken-init g c = (c.serve_counted-taken.ensures.most, c.serve_counted-taken.ensures.turns)

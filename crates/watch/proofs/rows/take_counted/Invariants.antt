@@ -3,7 +3,7 @@ use Rattle.std.specs.Prelude.{IsTrue}
 use Rattle.machine.specs.States.{geometry}
 use Rattle.machine.specs.Turns.{IsQuiescent}
 use Rattle.watch.specs.Runs.{TakesCounted}
-use Rattle.watch.proofs.counting.take_counted.Given as goal
+use Rattle.watch.proofs.rows.take_counted.Given as goal
 
 -- the turns so far
 abbrev pub invariant-loop-taken : goal.invariant-loop-taken
