@@ -1,6 +1,6 @@
 -- What a hart's core asks for. A step in which it asks sends a Get for the block, and gives no entry; any other leaves it without a request. So where nothing was in flight, and
 -- the hart has a request out behind its core's step, just its Get was sent in it.
-use Rattle.std.proofs.Common.{◌≡◌, ◌≢◌, ◌≤◌, ◌<◌, ◌+◌, ◌/◌, ◌∙◌, ℕ, Bool, true, false, cond, List, [], ◌∷◌, Option, Some, None, Result, Ok, Err, inl, inr, arith, refl, sym, ap, subst}
+use Rattle.std.proofs.Common.{◌≡◌, ◌≢◌, ◌<◌, ◌/◌, ◌∙◌, ℕ, Bool, true, false, cond, List, [], ◌∷◌, Option, Some, None, Result, Ok, Err, inl, inr, arith, refl, sym, ap, subst}
 use Rattle.std.specs.Prelude.{◌==◌, ◌&&◌, ◌⊎◌, IfSome, count_by, is_none, is_some, length, nat_le, nat_lt, option_to_list}
 use Rattle.std.specs.List.{slice_index_or}
 use Rattle.std.specs.Option.{option_map}
@@ -37,7 +37,7 @@ use Rattle.protocol.specs.Hart.{Hart, HartResult, LogRecord, PutOut, Request, Tr
 use Rattle.protocol.specs.Evict.{evict_row, evict_line, evict_by, write_back_row_if_none_out}
 use Rattle.protocol.specs.Core.{Move, Rests, Makes, Lacks, undo_row, undo_move, abort_move, trap_row, retire_row, no_memory, begin_row, commit_row, tabort_row, kind_of, is_log_due, access_row, access_move, reserved_with, conditional_move, effect_move, word_of, instruction_move, transaction_move, tx_move, no_longer_fresh, ask_with_room, victim_for, fetch_row, move_row, core_row}
 use Rattle.protocol.specs.Machine.{Machine, hart_change, hart_change_if, no_change}
-use Rattle.machine.specs.Mail.{Mail, SendsOn, in_flight, mail_of, number_after}
+use Rattle.machine.specs.Mail.{Mail, SendsOn, in_flight, mail_of}
 use Rattle.machine.specs.Making.{BringsAbout, MakesStep, victims}
 use Rattle.machine.specs.States.{State, hart_at, setting_of, shown}
 use Rattle.schedule.specs.declared.choices.Sort.TheVariants as sort
@@ -305,10 +305,6 @@ module _ (old : Mail) (empty : (key : ℕ) → old key ≡ None) (flights : List
   message_now : SendsOn old n (m ∷ []) (mail_of flights) next → (other : ℕ) (a : Message) → in_flight flights other ≡ Some a → a ≡ m
   message_now (key, f, lowest, is, number, (new, last)) other a at = sym (only key f new other a at) ∙ is
 
-  -- the next message has the next number
-  number_now : SendsOn old n (m ∷ []) (mail_of flights) next → next ≡ number_after n
-  number_now (key, f, lowest, is, number, (new, last)) = last
-
 -- ---- a step of a hart's core
 
 -- it isn't enabled, and nothing changes
@@ -328,14 +324,10 @@ record MakesRow (sets : ℕ) (v : State) (i : ℕ) (e : Option Entry) (w : State
   stays : (key : ℕ) (f : Flight) → left key ≡ Some f → mail_of v.flights key ≡ Some f
   sends : SendsOn left v.sent (option_to_list result.sent) (mail_of w.flights) w.sent
 
--- what a hart asked for in a step of its core: there is no entry, and just its Get was sent, with the next number. It is all that is in flight
-pub record GetIsSent (sets : ℕ) (v : State) (i : ℕ) (r : Request) (e : Option Entry) (w : State) : Type 0 where
-  pub none : e ≡ None
-  pub fresh : (hart_at sets w.seats i).fresh ≡ false
+-- what a hart asked for in a step of its core: just its Get was sent, and is all that is in flight
+pub record GetIsSent (sets : ℕ) (v : State) (i : ℕ) (r : Request) (w : State) : Type 0 where
   pub sums : (s : Sum) → count_by (was_sent v.sent s) w.flights ≡ one_if (is_same s (Sent sort.Get))
   pub flying : count_by is_some w.flights ≡ 1
-  pub later : v.sent + 1 ≤ 18446744073709551615 → w.sent ≡ v.sent + 1
-  pub capped : w.sent ≡ number_after v.sent
   pub message : (key : ℕ) (m : Message) → in_flight w.flights key ≡ Some m → (stamp : Option Stamp) × (m ≡ Get i r.block r.kind stamp)
 
 module _ (g : Geometry) (v w : State) (i : ℕ) (e : Option Entry) (step : MakesStep g v (Core i) e w) where
@@ -428,38 +420,33 @@ module _ (g : Geometry) (v w : State) (i : ℕ) (e : Option Entry) (step : Makes
           (subst (λ (o : Option Message). SendsOn made.left v.sent (option_to_list o) (mail_of w.flights) w.sent) none made.sends).1
 
   -- where nothing was in flight, and it has a request behind the step but had none before, it has asked
-  pub asked : IsQuiet v → (hart_at g.sets v.seats i).request ≡ None → (r : Request) → (hart_at g.sets w.seats i).request ≡ Some r → GetIsSent g.sets v i r e w
+  pub asked : IsQuiet v → (hart_at g.sets v.seats i).request ≡ None → (r : Request) → (hart_at g.sets w.seats i).request ≡ Some r → GetIsSent g.sets v i r w
   asked quiet free r out = by does
     where
       nothing : (made : MakesRow g.sets v i e w) (key : ℕ) → made.left key ≡ None
       nothing made key = nothing_in (made.left key) (λ f at. none-some f (sym (quiet key) ∙ made.stays key f at))
 
-      gets : (made : MakesRow g.sets v i e w) (stamp : Option Stamp) → made.result.sent ≡ Some (Get i r.block r.kind stamp) → made.result.entry ≡ None → made.result.hart.fresh ≡ false → GetIsSent g.sets v i r e w
-      gets made stamp sent entry fresh =
+      gets : (made : MakesRow g.sets v i e w) (stamp : Option Stamp) → made.result.sent ≡ Some (Get i r.block r.kind stamp) → GetIsSent g.sets v i r w
+      gets made stamp sent =
           let get : Message = Get i r.block r.kind stamp in
           let sends : SendsOn made.left v.sent (get ∷ []) (mail_of w.flights) w.sent =
           subst (λ (o : Option Message). SendsOn made.left v.sent (option_to_list o) (mail_of w.flights) w.sent) sent made.sends in
-          let number : w.sent ≡ number_after v.sent = number_now made.left (nothing made) w.flights v.sent w.sent get sends in
           record {
-            none = made.entry ∙ entry;
-            fresh = ap (λ (h : Hart). h.fresh) (hart_now made) ∙ fresh;
             sums = sums_now made.left (nothing made) w.flights v.sent w.sent get sends;
             flying = flying_now made.left (nothing made) w.flights v.sent w.sent get sends;
-            later = λ few. omega (arith, few, number);
-            capped = number;
             message = λ key m at. (stamp, message_now made.left (nothing made) w.flights v.sent w.sent get sends key m at);
           }
 
       request_now : (made : MakesRow g.sets v i e w) → made.result.hart.request ≡ Some r
       request_now made = sym (ap (λ (h : Hart). h.request) (hart_now made)) ∙ out
 
-      by_row : (made : MakesRow g.sets v i e w) → LeavesFree (hart_at g.sets v.seats i) made.result ⊎ AsksFor i made.result → GetIsSent g.sets v i r e w
+      by_row : (made : MakesRow g.sets v i e w) → LeavesFree (hart_at g.sets v.seats i) made.result ⊎ AsksFor i made.result → GetIsSent g.sets v i r w
       by_row made (inl left) = absurd (none-some r (sym left.0 ∙ request_now made))
       by_row made (inr (q, is, (stamp, sent), entry, fresh)) =
           let same : q ≡ r = same_Some q r (sym is ∙ request_now made) in
-          gets made stamp (sent ∙ ap (λ (x : Request). Some (Get i x.block x.kind stamp)) same) entry fresh
+          gets made stamp (sent ∙ ap (λ (x : Request). Some (Get i x.block x.kind stamp)) same)
 
-      by : Idles g.sets v e w ⊎ MakesRow g.sets v i e w → GetIsSent g.sets v i r e w
+      by : Idles g.sets v e w ⊎ MakesRow g.sets v i e w → GetIsSent g.sets v i r w
       by (inl idle) = absurd (none-some r (sym (ap (λ (h : Hart). h.request) (same_hart idle) ∙ free) ∙ out))
       by (inr made) = by_row made (asks_or_free made)
 

@@ -23,6 +23,9 @@ use Rattle.schedule.specs.Moments.{Moment}
 use Rattle.table.specs.declared.instr.Instr.{Instr}
 use Rattle.table.specs.declared.instr.Instr.TheVariants.{TBegin, TCommit}
 use Rattle.table.specs.Table.{decoded}
+use Rattle.watch.specs.declared.cells.Counts.{Counts}
+use Rattle.watch.specs.declared.cells.Use.{Use}
+use Rattle.watch.specs.declared.cells.Use.TheVariants.{Neither, Loaded, Stored}
 use Rattle.watch.specs.declared.kinds.Kind.{Kind}
 use Rattle.watch.specs.declared.kinds.Kind.TheVariants.{Retired, Begun, Committed, Asked, Conflicted, LogFull, Trapped, Refused, WasRefused, Spilled, LoadHit, LoadMissed, StoreHit, StoreMissed, Upgraded, Held}
 
@@ -191,9 +194,34 @@ number_of sets h k ms = number_from sets h k none_fresh ms
 abbrev pub place_of : ℕ → Kind → ℕ
 place_of h k = 8 * index_of k + h % 8 + 128 * (h / 8)
 
--- a count, of those that stand by their places
-abbrev pub count_at : List ℕ → ℕ → Kind → ℕ
-count_at counts h k = get_or counts (place_of h k) 0
+-- what a plain word of hart i counts as, by what it did to memory, where the hart isn't fresh
+abbrev pub counts_by_use : ℕ → Use → List (ℕ × Kind)
+counts_by_use i Neither = (i, Retired) ∷ []
+counts_by_use i Loaded = (i, Retired) ∷ (i, LoadHit) ∷ []
+counts_by_use i Stored = (i, Retired) ∷ (i, StoreHit) ∷ []
+
+-- the number of a use, and the place of how many words of a hart were of it, likewise
+abbrev pub number_of_use : Use → ℕ
+number_of_use Neither = 0
+number_of_use Loaded = 1
+number_of_use Stored = 2
+
+abbrev pub place_of_use : ℕ → Use → ℕ
+place_of_use h did = 8 * number_of_use did + h % 8 + 24 * (h / 8)
+
+abbrev pub words_at : Counts → ℕ → Use → ℕ
+words_at c h did = get_or c.words (place_of_use h did) 0
+
+-- what these words add to a count: all of them were retired
+abbrev pub of_words : Counts → ℕ → Kind → ℕ
+of_words c h Retired = words_at c h Neither + words_at c h Loaded + words_at c h Stored
+of_words c h LoadHit = words_at c h Loaded
+of_words c h StoreHit = words_at c h Stored
+of_words c h other = 0
+
+-- a count: what stands at its place, and what those words add to it. Behind the greatest u64 it goes on from 0
+abbrev pub count_at : Counts → ℕ → Kind → ℕ
+count_at c h k = (get_or c.counts (place_of h k) 0 + of_words c h k) % 18446744073709551616
 
 -- a count grew by so many; behind the greatest u64 it goes on from 0
 abbrev pub Grows : ℕ → ℕ → ℕ → Type 0

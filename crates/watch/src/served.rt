@@ -6,7 +6,7 @@ ghost use Rattle.hart.specs.declared.reply.ForwardAnswer.{ForwardAnswer as Answe
 ghost use Rattle.machine.specs.Serving.{HearsReplies, IsServed};
 ghost use Rattle.machine.specs.States.{State, geometry, shown};
 ghost use Rattle.watch.specs.Kinds.{Grows, count_at, held_behind, number_in};
-ghost use Rattle.watch.specs.Runs.{CountsEntry, HasAsked, HasStepped, NotesServed, TakesCounted};
+ghost use Rattle.watch.specs.Runs.{CountsEntry, HasAsked, HasStepped, NotesServed, ServesCounted, TakesCounted};
 ghost use Rattle.watch.specs.declared.kinds.Kind.{Kind};
 
 use crate::asking::{kind_asked, request_of};
@@ -84,6 +84,24 @@ pub(crate) fn serve_counted<const SETS: usize, const WAYS: usize>(
     }
 }
 
+/// Serves the request that is alone in flight, as [`Machine::serve`] does, and counts its refusals and its messages: how many turns they took.
+#[inline(never)]
+fn serve_asked<const SETS: usize, const WAYS: usize>(
+    machine: &mut Machine<SETS, WAYS>,
+    most: u32,
+    tally: &mut Tally,
+) -> Option<u32>
+    ensures served { IfSome result (λ turns. ServesCounted (geometry SETS WAYS) machine.old machine.new turns tally.old tally.new) }
+    ensures most { IfSome result (λ turns. turns ≤ most) }
+    ensures none { IfNone result ((machine.new ≡ machine.old) × (tally.new ≡ tally.old)) }
+{
+    let Some(service) = machine.serve(most, tally) else {
+        return None;
+    };
+    tally.machine.note_served(&service, machine);
+    Some(service.turns())
+}
+
 /// Counts a step of a hart's core whose entry is counted, whatever it sent. So many messages had been sent before it.
 #[inline(never)]
 fn note_step<const SETS: usize, const WAYS: usize>(
@@ -101,7 +119,7 @@ fn note_step<const SETS: usize, const WAYS: usize>(
 }
 
 /// Counts a step of a hart's core whose entry is counted, and in which it mostly has asked for a block. What it asked for is served at once, if it can be, in so many
-/// turns more, and counted too. So many messages had been sent before the step. All other harts are free behind these turns.
+/// turns more, and counted too, but that the hart isn't put into the tally's set of fresh ones. So many messages had been sent before the step.
 #[inline(always)]
 pub(crate) fn ask<const SETS: usize, const WAYS: usize>(
     machine: &mut Machine<SETS, WAYS>,
@@ -127,11 +145,9 @@ pub(crate) fn ask<const SETS: usize, const WAYS: usize>(
     tally.harts.add(hart, kind);
     tally.machine.note_request(machine.used());
     machine.are_numbered();
-    let Some(service) = serve(machine, most, tally) else {
+    let Some(turns) = serve_asked(machine, most, tally) else {
         tally.harts.note_busy(hart, asked.block, machine);
         return 0;
     };
-    tally.machine.note_served(&service, machine);
-    set_fresh(&mut tally.fresh, hart, machine.fresh(hart));
-    service.turns()
+    turns
 }
