@@ -84,6 +84,9 @@ pub(crate) fn no_other_runs<const SETS: usize, const WAYS: usize>(
     ensures { IsTrue result ↔ NoOtherRuns (hart_at SETS seats.now) (length seats.now) id }
 {
     let i = id.index();
+    if count == 1 {
+        return i == 0;
+    }
     i < count
         && lowest_running(seats, 0, i).is_none()
         && lowest_running(seats, i + 1, count).is_none()

@@ -5,19 +5,18 @@ use Rattle.machine.specs.States.{State, geometry}
 use Rattle.watch.specs.Runs.{HasAsked, HasStepped, TakesCounted}
 use Rattle.watch.specs.declared.counting.Tally.{Tally}
 use Rattle.watch.proofs.AskedTurns.{all_free_behind, all_free_quietly, goes_on, quiet_counted, quiet_free, stale_now}
-use Rattle.watch.proofs.rows.take_common.Goals as goal
+use Rattle.watch.proofs.rows.take_step.Goals as goal
 
 -- nothing was asked for
 pub returns-then-in_flight-eq0-clause-turns : goal.returns-then-in_flight-eq0-clause-turns
 returns-then-in_flight-eq0-clause-turns g c =
     let G = geometry g.row.SETS g.row.WAYS in
-    let heard = c.in-Some.ensures.turn in
     let v = c.args.machine.now in
-    let w = c.hear_common_turn.new.self in
+    let w = c.hear_turn.new.machine in
     let i = c.in-Some.hart in
     let t : Tally = c.args.tally.now in
-    let stepped : HasStepped G v c.args.after i w t c.hear_common_turn.new.listener = record { entry = heard.0; quiescent = c.requires.quiescent; free = c.requires.free; stale = c.requires.stale; turn = heard.1; heard = heard.2 } in
-    let mid : Tally = c.hear_common_turn.new.listener in
+    let stepped : HasStepped G v c.args.after i w t c.hear_turn.new.tally = c.in-Some.ensures.turn in
+    let mid : Tally = c.hear_turn.new.tally in
     let quiet = sym c.in_flight.ensures ∙ c.if-in_flight-eq0.true in
     let quiescent = quiet_free g.row.SETS w quiet (all_free_quietly G v w c.args.after i t mid stepped quiet) in
     quiet_counted G v w c.args.after i t mid stepped (record mid { machine = c.note_plain.new.self }) quiescent refl refl c.note_plain.ensures.sums c.note_plain.ensures.most_in_flight
@@ -26,26 +25,24 @@ returns-then-in_flight-eq0-clause-turns g c =
 pub returns-then-in_flight-eq0-clause-quiescent : goal.returns-then-in_flight-eq0-clause-quiescent
 returns-then-in_flight-eq0-clause-quiescent g c = λ _.
     let G = geometry g.row.SETS g.row.WAYS in
-    let heard = c.in-Some.ensures.turn in
     let v = c.args.machine.now in
-    let w = c.hear_common_turn.new.self in
+    let w = c.hear_turn.new.machine in
     let i = c.in-Some.hart in
     let t : Tally = c.args.tally.now in
-    let stepped : HasStepped G v c.args.after i w t c.hear_common_turn.new.listener = record { entry = heard.0; quiescent = c.requires.quiescent; free = c.requires.free; stale = c.requires.stale; turn = heard.1; heard = heard.2 } in
-    let mid : Tally = c.hear_common_turn.new.listener in
+    let stepped : HasStepped G v c.args.after i w t c.hear_turn.new.tally = c.in-Some.ensures.turn in
+    let mid : Tally = c.hear_turn.new.tally in
     let quiet = sym c.in_flight.ensures ∙ c.if-in_flight-eq0.true in
     quiet_free g.row.SETS w quiet (all_free_quietly G v w c.args.after i t mid stepped quiet)
 
 pub returns-then-in_flight-eq0-clause-again : goal.returns-then-in_flight-eq0-clause-again
 returns-then-in_flight-eq0-clause-again g c = λ _.
     let G = geometry g.row.SETS g.row.WAYS in
-    let heard = c.in-Some.ensures.turn in
     let v = c.args.machine.now in
-    let w = c.hear_common_turn.new.self in
+    let w = c.hear_turn.new.machine in
     let i = c.in-Some.hart in
     let t : Tally = c.args.tally.now in
-    let stepped : HasStepped G v c.args.after i w t c.hear_common_turn.new.listener = record { entry = heard.0; quiescent = c.requires.quiescent; free = c.requires.free; stale = c.requires.stale; turn = heard.1; heard = heard.2 } in
-    let mid : Tally = c.hear_common_turn.new.listener in
+    let stepped : HasStepped G v c.args.after i w t c.hear_turn.new.tally = c.in-Some.ensures.turn in
+    let mid : Tally = c.hear_turn.new.tally in
     let quiet = sym c.in_flight.ensures ∙ c.if-in_flight-eq0.true in
     let free = all_free_quietly G v w c.args.after i t mid stepped quiet in
     (quiet_free g.row.SETS w quiet free, stale_now G v w c.args.after i t mid stepped, free)
@@ -54,14 +51,13 @@ returns-then-in_flight-eq0-clause-again g c = λ _.
 pub go_on-requires : goal.go_on-requires
 go_on-requires g c =
     let G = geometry g.row.SETS g.row.WAYS in
-    let heard = c.in-Some.ensures.turn in
     let v = c.args.machine.now in
-    let w = c.hear_common_turn.new.self in
+    let w = c.hear_turn.new.machine in
     let i = c.in-Some.hart in
     let t : Tally = c.args.tally.now in
     let z = c.ask-turns.new.machine in
     let y : Tally = c.ask-turns.new.tally in
-    let stepped : HasStepped G v c.args.after i w t c.hear_common_turn.new.listener = record { entry = heard.0; quiescent = c.requires.quiescent; free = c.requires.free; stale = c.requires.stale; turn = heard.1; heard = heard.2 } in
+    let stepped : HasStepped G v c.args.after i w t c.hear_turn.new.tally = c.in-Some.ensures.turn in
     let has : HasAsked G v c.args.after i (1 + c.ask-turns.result) z t y = c.ask-turns.ensures.asked v c.args.after t stepped c.sent-sent.ensures in
     (omega arith, has.stale)
 
@@ -69,14 +65,13 @@ go_on-requires g c =
 pub returns-then-go_on-clause-turns : goal.returns-then-go_on-clause-turns
 returns-then-go_on-clause-turns g c =
     let G = geometry g.row.SETS g.row.WAYS in
-    let heard = c.in-Some.ensures.turn in
     let v = c.args.machine.now in
-    let w = c.hear_common_turn.new.self in
+    let w = c.hear_turn.new.machine in
     let i = c.in-Some.hart in
     let t : Tally = c.args.tally.now in
     let z = c.ask-turns.new.machine in
     let y : Tally = c.ask-turns.new.tally in
-    let stepped : HasStepped G v c.args.after i w t c.hear_common_turn.new.listener = record { entry = heard.0; quiescent = c.requires.quiescent; free = c.requires.free; stale = c.requires.stale; turn = heard.1; heard = heard.2 } in
+    let stepped : HasStepped G v c.args.after i w t c.hear_turn.new.tally = c.in-Some.ensures.turn in
     let has : HasAsked G v c.args.after i (1 + c.ask-turns.result) z t y = c.ask-turns.ensures.asked v c.args.after t stepped c.sent-sent.ensures in
     let step = c.if-go_on.ensures.some refl in
     let due = c.if-go_on.ensures.due refl in
@@ -85,14 +80,13 @@ returns-then-go_on-clause-turns g c =
 pub returns-then-go_on-clause-quiescent : goal.returns-then-go_on-clause-quiescent
 returns-then-go_on-clause-quiescent g c = λ _.
     let G = geometry g.row.SETS g.row.WAYS in
-    let heard = c.in-Some.ensures.turn in
     let v = c.args.machine.now in
-    let w = c.hear_common_turn.new.self in
+    let w = c.hear_turn.new.machine in
     let i = c.in-Some.hart in
     let t : Tally = c.args.tally.now in
     let z = c.ask-turns.new.machine in
     let y : Tally = c.ask-turns.new.tally in
-    let stepped : HasStepped G v c.args.after i w t c.hear_common_turn.new.listener = record { entry = heard.0; quiescent = c.requires.quiescent; free = c.requires.free; stale = c.requires.stale; turn = heard.1; heard = heard.2 } in
+    let stepped : HasStepped G v c.args.after i w t c.hear_turn.new.tally = c.in-Some.ensures.turn in
     let has : HasAsked G v c.args.after i (1 + c.ask-turns.result) z t y = c.ask-turns.ensures.asked v c.args.after t stepped c.sent-sent.ensures in
     let step = c.if-go_on.ensures.some refl in
     let quiet = ap (λ (flights : List (Option Flight)). count_by is_some flights) c.go_on.ensures.flights ∙ (c.if-go_on.ensures.due refl).1 in
@@ -101,14 +95,13 @@ returns-then-go_on-clause-quiescent g c = λ _.
 pub returns-then-go_on-clause-again : goal.returns-then-go_on-clause-again
 returns-then-go_on-clause-again g c = λ _.
     let G = geometry g.row.SETS g.row.WAYS in
-    let heard = c.in-Some.ensures.turn in
     let v = c.args.machine.now in
-    let w = c.hear_common_turn.new.self in
+    let w = c.hear_turn.new.machine in
     let i = c.in-Some.hart in
     let t : Tally = c.args.tally.now in
     let z = c.ask-turns.new.machine in
     let y : Tally = c.ask-turns.new.tally in
-    let stepped : HasStepped G v c.args.after i w t c.hear_common_turn.new.listener = record { entry = heard.0; quiescent = c.requires.quiescent; free = c.requires.free; stale = c.requires.stale; turn = heard.1; heard = heard.2 } in
+    let stepped : HasStepped G v c.args.after i w t c.hear_turn.new.tally = c.in-Some.ensures.turn in
     let has : HasAsked G v c.args.after i (1 + c.ask-turns.result) z t y = c.ask-turns.ensures.asked v c.args.after t stepped c.sent-sent.ensures in
     let step = c.if-go_on.ensures.some refl in
     let quiet = ap (λ (flights : List (Option Flight)). count_by is_some flights) c.go_on.ensures.flights ∙ (c.if-go_on.ensures.due refl).1 in
@@ -119,14 +112,13 @@ returns-then-go_on-clause-again g c = λ _.
 pub behind_request-requires : goal.behind_request-requires
 behind_request-requires g c =
     let G = geometry g.row.SETS g.row.WAYS in
-    let heard = c.in-Some.ensures.turn in
     let v = c.args.machine.now in
-    let w = c.hear_common_turn.new.self in
+    let w = c.hear_turn.new.machine in
     let i = c.in-Some.hart in
     let t : Tally = c.args.tally.now in
     let z = c.ask-turns.new.machine in
     let y : Tally = c.ask-turns.new.tally in
-    let stepped : HasStepped G v c.args.after i w t c.hear_common_turn.new.listener = record { entry = heard.0; quiescent = c.requires.quiescent; free = c.requires.free; stale = c.requires.stale; turn = heard.1; heard = heard.2 } in
+    let stepped : HasStepped G v c.args.after i w t c.hear_turn.new.tally = c.in-Some.ensures.turn in
     let has : HasAsked G v c.args.after i (1 + c.ask-turns.result) z t y = c.ask-turns.ensures.asked v c.args.after t stepped c.sent-sent.ensures in
     let none = c.if-go_on.ensures.none refl in
     let still : HasAsked G v c.args.after i (1 + c.ask-turns.result) c.go_on.new.machine t c.go_on.new.tally =
@@ -136,14 +128,13 @@ behind_request-requires g c =
 pub returns-clause-turns : goal.returns-clause-turns
 returns-clause-turns g c =
     let G = geometry g.row.SETS g.row.WAYS in
-    let heard = c.in-Some.ensures.turn in
     let v = c.args.machine.now in
-    let w = c.hear_common_turn.new.self in
+    let w = c.hear_turn.new.machine in
     let i = c.in-Some.hart in
     let t : Tally = c.args.tally.now in
     let z = c.ask-turns.new.machine in
     let y : Tally = c.ask-turns.new.tally in
-    let stepped : HasStepped G v c.args.after i w t c.hear_common_turn.new.listener = record { entry = heard.0; quiescent = c.requires.quiescent; free = c.requires.free; stale = c.requires.stale; turn = heard.1; heard = heard.2 } in
+    let stepped : HasStepped G v c.args.after i w t c.hear_turn.new.tally = c.in-Some.ensures.turn in
     let has : HasAsked G v c.args.after i (1 + c.ask-turns.result) z t y = c.ask-turns.ensures.asked v c.args.after t stepped c.sent-sent.ensures in
     let none = c.if-go_on.ensures.none refl in
     let still : HasAsked G v c.args.after i (1 + c.ask-turns.result) c.go_on.new.machine t c.go_on.new.tally =
