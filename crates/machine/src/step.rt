@@ -2,8 +2,10 @@ ghost use Rattle.std.specs.Prelude.{◌≡◌, ◌<◌, ℕ, length, IfOk, IfSom
 ghost use Rattle.words.specs.declared.cause.Status.TheVariants.{Running};
 ghost use Rattle.std.specs.Option.{option_map};
 ghost use Rattle.words.specs.declared.entry.Step.TheVariants.{Core, Evict, Deliver};
+ghost use Rattle.protocol.specs.Hart.{stamp_of};
 ghost use Rattle.protocol.specs.Machine.{Steps, stamps_after};
 ghost use Rattle.protocol.specs.Messages.{shown as shown_message};
+ghost use Rattle.hart.specs.Shown.{shown_tx};
 ghost use Rattle.machine.specs.Rows.{asking};
 ghost use Rattle.isolation.specs.Reasons.{LeadOn};
 ghost use Rattle.machine.specs.Mail.{SendsOn, mail_of};
@@ -14,20 +16,18 @@ use crate::listener::{Caller, Listener};
 use crate::machine::Machine;
 use crate::mail::send;
 use crate::play::{ELSEWHERE, TOLD_STEP};
-use hart::{Asked, CoreStep};
+use hart::{Asked, CoreStep, Hart};
 use network::Net;
 use std::alloc::AllocError;
-use words::{BlockNo, Entry, HartId, Message, Stamp, Step};
+use words::{BlockNo, Entry, HartId, Message, Step};
 
-/// How many new stamps were taken, up to the greatest u64.
+/// Counts a new stamp, if one was taken, up to the greatest u64. Most steps take none, and write nothing.
 #[inline(always)]
-fn stamps_after(taken: u64, stamped: bool) -> u64
-    ensures { result ≡ stamps_after stamped taken }
+fn take_stamp(stamps: &mut u64, stamped: bool)
+    ensures { stamps.new ≡ stamps_after stamped stamps.old }
 {
     if stamped {
-        taken.saturating_add(1)
-    } else {
-        taken
+        *stamps = stamps.saturating_add(1);
     }
 }
 
@@ -38,22 +38,27 @@ fn note(stamps: &mut u64, net: &mut Net, made: &CoreStep)
     ensures stamps { stamps.new ≡ stamps_after made.now.stamped stamps.old }
     ensures sent { SendsOn (mail_of net.old.slots) net.old.next (option_to_list (option_map shown_message made.now.message)) (mail_of net.new.slots) net.new.next }
 {
-    *stamps = stamps_after(*stamps, made.stamped);
+    take_stamp(stamps, made.stamped);
     send(net, made.message);
 }
 
-/// Sends a hart's request for a block, if it asks for one.
+/// Sends a hart's request for a block, if it asks for one. Its stamp is read only then.
 #[inline(always)]
-fn ask(net: &mut Net, from: HartId, stamp: Option<Stamp>, asked: &Option<Asked>)
+fn ask<const SETS: usize, const WAYS: usize>(
+    net: &mut Net,
+    from: HartId,
+    hart: &Hart<SETS, WAYS>,
+    asked: &Option<Asked>,
+)
     requires { 0 < net.old.room }
-    ensures { SendsOn (mail_of net.old.slots) net.old.next (option_to_list (option_map (asking from stamp) asked.now)) (mail_of net.new.slots) net.new.next }
+    ensures { SendsOn (mail_of net.old.slots) net.old.next (option_to_list (option_map (asking from (stamp_of (shown_tx hart.now.tx))) asked.now)) (mail_of net.new.slots) net.new.next }
 {
     if let Some(asked) = asked {
         net.send(Message::Get {
             from,
             block: asked.block,
             kind: asked.kind,
-            stamp,
+            stamp: hart.stamp(),
         });
     }
 }
@@ -111,8 +116,8 @@ impl<const SETS: usize, const WAYS: usize> Machine<SETS, WAYS> {
         let Some(made) = seat.common_step::<PLACE>(&self.program.text(), self.stamps) else {
             return Ok(None);
         };
-        ask(&mut self.net, id, seat.hart.stamp(), &made.asked);
-        self.stamps = stamps_after(self.stamps, made.stamped);
+        ask(&mut self.net, id, &seat.hart, &made.asked);
+        take_stamp(&mut self.stamps, made.stamped);
         Ok(Some(made.entry))
     }
 

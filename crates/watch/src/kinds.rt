@@ -1,6 +1,5 @@
 ghost use Rattle.std.specs.Prelude.{◌≡◌, ◌<◌, ℕ, option_to_list};
 ghost use Rattle.std.specs.Option.{option_map};
-ghost use Rattle.operands.specs.Fields.{opcode_of};
 ghost use Rattle.table.specs.Table.{decoded};
 ghost use Rattle.watch.specs.Kinds.{counts_by, index_of, kind_asked, kind_of};
 
@@ -71,32 +70,22 @@ impl Kind {
         }
     }
 
-    /// What a retired word counts as besides. Where its opcode is that of transactions, no more of it is looked at than tells.
+    /// What a retired word counts as besides. That one begins a transaction is told by its bits but those of its offset: the opcode is among them, and the compiler
+    /// makes one test of both.
     #[inline(always)]
+    #[tactic(auto, unfolding(table::specs::Table::decoded))]
     pub(crate) fn of_word(word: u32) -> Option<Kind>
         ensures { (hart : ℕ) → option_to_list (option_map (λ kind. (hart, kind)) result) ≡ counts_by hart (decoded word) }
     {
-        if opcode(word) == 0x0b {
-            return Kind::of_transaction(word);
+        if (opcode(word) == 0x0b) & (word & 0x01ff_f17f == 0x0000_000b) {
+            return Some(Kind::Begun);
+        }
+        if word == 0x0000_100b {
+            return Some(Kind::Committed);
         }
         match decode(word) {
             Some(Instr::TBegin { .. }) => Some(Kind::Begun),
             Some(Instr::TCommit) => Some(Kind::Committed),
-            _ => None,
-        }
-    }
-
-    /// The same of a word with the opcode of transactions.
-    #[inline(always)]
-    #[tactic(auto, unfolding(table::specs::Table::decoded))]
-    fn of_transaction(word: u32) -> Option<Kind>
-        requires { opcode_of word ≡ 0x0b }
-        ensures { (hart : ℕ) → option_to_list (option_map (λ kind. (hart, kind)) result) ≡ counts_by hart (decoded word) }
-    {
-        match word {
-            0x0000_100b => Some(Kind::Committed),
-            0x0000_200b => None,
-            _ if word & 0x01ff_f17f == 0x0000_000b => Some(Kind::Begun),
             _ => None,
         }
     }

@@ -18,13 +18,13 @@ use Rattle.machine.proofs.machine.Machine.common_seated.Goals as goal
 -- The core made a step
 
 -- the machine before and after
-abbrev before : (g : Over) (c : goal.After-self-3-1 g) → State
+abbrev before : (g : Over) (c : goal.After-take_stamp g) → State
 before g c = record { program = c.self.inside.program; seats = c.self.inside.seats.items; directory = c.self.inside.directory; flights = c.self.inside.net.slots; sent = c.self.inside.net.next; stamps = c.self.inside.stamps }
 
-abbrev after : (g : Over) (c : goal.After-self-3-1 g) → State
-after g c = record (before g c) { seats = slice_set (before g c).seats c.index-i.result c.common_step.new.self; flights = c.ask.new.net.slots; sent = c.ask.new.net.next; stamps = c.stamps_after-self-inside.result }
+abbrev after : (g : Over) (c : goal.After-take_stamp g) → State
+after g c = record (before g c) { seats = slice_set (before g c).seats c.index-i.result c.common_step.new.self; flights = c.ask.new.net.slots; sent = c.ask.new.net.next; stamps = c.take_stamp.new.stamps }
 
-makes : (g : Over) (c : goal.After-self-3-1 g)
+makes : (g : Over) (c : goal.After-take_stamp g)
     → MakesStep (geometry g.row.SETS g.row.WAYS) (before g c) (Core c.index-i.result) c.in-Some.made.entry (after g c) × IsSound g.row.SETS g.row.WAYS (after g c)
 makes g c =
     let S = g.row.SETS in
@@ -41,8 +41,8 @@ makes g c =
     } in
     let row = subst (λ o. IfSome o (λ m. core_row (hart_setting (before g c).program.segments old.hart) old.hart.index (before g c).stamps (victim_of S old.hart.cache) (shown_hart S old.output old.hart) ≡ Some (advanced S new.output new.hart m))) c.in-Some.is
     (subst (λ segments. IfSome c.common_step.result (λ m. core_row (hart_setting segments old.hart) old.hart.index (before g c).stamps (victim_of S old.hart.cache) (shown_hart S old.output old.hart) ≡ Some (advanced S new.output new.hart m))) c.text.ensures c.common_step.ensures.row) in
-    let stamp = c.stamp.ensures ∙ ap (λ (s : Seat). stamp_of (shown_tx s.hart.tx)) c.seat.view_is in
-    common_makes S g.row.WAYS c.index-i.result (before g c) (after g c) old new c.self.invariant acts made c.common_step.ensures.victim c.common_step.ensures.ways row c.stamps_after-self-inside.ensures
+    let stamp = ap (λ (s : Seat). stamp_of (shown_tx s.hart.tx)) c.seat.view_is in
+    common_makes S g.row.WAYS c.index-i.result (before g c) (after g c) old new c.self.invariant acts made c.common_step.ensures.victim c.common_step.ensures.ways row c.take_stamp.ensures
     (subst₂ (λ f n. SendsOn (mail_of f) n (option_to_list (option_map (asking c.index-i.result (stamp_of (shown_tx new.hart.tx))) made.asked)) (mail_of (after g c).flights) (after g c).sent) c.reserve.ensures.same c.reserve.ensures.number
     (subst₂ (λ i s. SendsOn (mail_of c.reserve.new.self.slots) c.reserve.new.self.next (option_to_list (option_map (asking i s) made.asked)) (mail_of (after g c).flights) (after g c).sent) (sym c.index-i.ensures.value) stamp c.ask.ensures))
 
