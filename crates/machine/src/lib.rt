@@ -30,10 +30,11 @@ mod watch;
 
 pub use info::TxInfo;
 pub use laws::{a_step_has_one_outcome, a_turn_is_one_step, steps_that_are_made_are_steps};
-pub use listener::{Listener, Nobody};
+pub use listener::{Listener, Meter, Nobody};
 pub use machine::Machine;
 pub use mail::receiver;
 pub use play::{COUNTED, COUNTED_APART, PlainTurns, TRACED, Turned, hart_after};
 pub use progress::{PROGRESS_INTERVAL, Progress, Silent};
+pub use rows::LONG_ROW;
 pub use serving::Service;
 pub use watch::Turn;

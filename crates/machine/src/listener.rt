@@ -1,4 +1,4 @@
-ghost use Rattle.std.specs.Prelude.{◌≡◌, Option};
+ghost use Rattle.std.specs.Prelude.{◌≡◌, ◌<◌, ◌+◌, ℕ, Option, IsTrue};
 ghost use Rattle.words.specs.declared.entry.Entry.{Entry as EntryValue};
 
 use words::Entry;
@@ -11,6 +11,48 @@ pub trait Listener {
     /// A step gave this entry, or none.
     fn hear(&mut self, entry: &Option<Entry>)
         ensures { hears self.old entry.now self.new };
+}
+
+/// Who hears the words of a hart's row, and has room for so many of them: the row goes on as long as there is. It is handed over by value, so that the compiler keeps
+/// it in a register.
+pub trait Meter: Copy {
+    /// How much room there is. It falls with each word.
+    ghost room: { Self → ℕ };
+
+    /// What comes of hearing the entry of a word.
+    ghost meters: { Self → EntryValue → Self → Type 0 };
+
+    /// Whether there is room for one more word.
+    fn has_room(&self) -> bool
+        ensures { IsTrue result → 0 < room self.now };
+
+    /// A word gave this entry.
+    fn hear(&mut self, entry: &Entry)
+        requires { 0 < room self.old }
+        ensures meters { meters self.old entry.now self.new }
+        ensures room { room self.new < room self.old };
+}
+
+/// So many words, of which nobody hears.
+#[derive(Clone, Copy)]
+pub(crate) struct Left {
+    pub(crate) words: u32,
+}
+
+impl Meter for Left {
+    ghost room = { λ left. left.words };
+
+    ghost meters = { λ before _ after. before.words ≡ after.words + 1 };
+
+    #[inline(always)]
+    fn has_room(&self) -> bool {
+        self.words > 0
+    }
+
+    #[inline(always)]
+    fn hear(&mut self, _entry: &Entry) {
+        self.words -= 1;
+    }
 }
 
 /// Nobody asks for entries.

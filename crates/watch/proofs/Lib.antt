@@ -1,5 +1,5 @@
 mod Requests
-mod Alone
+mod Batches
 mod Tracing
 mod RowLines
 mod Counted

@@ -223,6 +223,10 @@ of_words c h other = 0
 abbrev pub count_at : Counts → ℕ → Kind → ℕ
 count_at c h k = (get_or c.counts (place_of h k) 0 + of_words c h k) % 18446744073709551616
 
+-- how often so many plain words of hart i count for hart h as this kind, of which so many loaded alone, and so many stored, where the hart isn't fresh
+abbrev pub shares : ℕ → Kind → ℕ → ℕ → ℕ → ℕ → ℕ
+shares h k i words loads stores = words * one_if (is_count h k (i, Retired)) + (loads * one_if (is_count h k (i, LoadHit)) + stores * one_if (is_count h k (i, StoreHit)))
+
 -- a count grew by so many; behind the greatest u64 it goes on from 0
 abbrev pub Grows : ℕ → ℕ → ℕ → Type 0
 Grows before more after = before < 18446744073709551616 → after ≡ (before + more) % 18446744073709551616

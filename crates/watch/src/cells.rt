@@ -1,7 +1,9 @@
 ghost use Rattle.std.specs.Prelude.{◌≡◌, ◌<◌, ◌≤◌, ◌+◌, ◌*◌, ◌%◌, ℕ, get_or};
-ghost use Rattle.watch.specs.Kinds.{Grows, place_of, count_at, is_count, number_in, number_of_use, of_words, one_if, counts_by_use, place_of_use, words_at};
+ghost use Rattle.watch.specs.Kinds.{Grows, place_of, count_at, is_count, number_in, number_of_use, of_words, one_if, counts_by_use, place_of_use, shares, words_at};
+ghost use Rattle.watch.specs.Runs.{batch_shares};
 ghost use Rattle.watch.specs.declared.kinds.Kind.{Kind};
 
+use crate::batch::Batches;
 use crate::kinds::Kind;
 use words::{HARTS, HartId};
 
@@ -130,6 +132,29 @@ impl Counts {
     {
         let place = place(hart, kind);
         self.counts[place] = self.counts[place].wrapping_add(number);
+    }
+
+    /// Counts so many plain words of a hart, which isn't fresh, as retired, and as hits those of them that loaded alone, and those that stored.
+    #[inline(always)]
+    pub(crate) fn add_words(&mut self, hart: HartId, words: u32, loads: u32, stores: u32)
+        ensures { (h : ℕ) (k : Kind) → Grows (count_at self.old h k) (shares h k hart words loads stores) (count_at self.new h k) }
+    {
+        self.add_some(hart, Kind::Retired, u64::from(words));
+        self.add_some(hart, Kind::LoadHit, u64::from(loads));
+        self.add_some(hart, Kind::StoreHit, u64::from(stores));
+    }
+
+    /// The same of each hart's batch.
+    #[inline(never)]
+    pub(crate) fn add_batches(&mut self, batches: &Batches)
+        ensures { (h : ℕ) (k : Kind) → Grows (count_at self.old h k) (batch_shares h k (get_or batches.now.bits h 0)) (count_at self.new h k) }
+    {
+        batches.are_complete();
+        for i in 0..HARTS {
+            let hart = HartId::new(i as u8);
+            let batch = batches.of(hart);
+            self.add_words(hart, batch.words(), batch.loads(), batch.stores());
+        }
     }
 
     /// Counts a plain word of a hart, which isn't fresh, by what it did to memory, with one addition. Behind the greatest u64 it goes on from 0, likewise.

@@ -3,6 +3,7 @@
 #![tactic(auto)]
 
 mod asking;
+mod batch;
 mod cells;
 mod counting;
 mod csv_text;

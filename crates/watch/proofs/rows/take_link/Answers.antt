@@ -7,5 +7,5 @@ pub returns-clause-turns : goal.returns-clause-turns
 returns-clause-turns g c =
     let words = c.take_words-words in
     let step = c.take_step-more in
-    both_counted (geometry g.row.SETS g.row.WAYS) c.args.machine.now words.new.machine step.new.machine c.args.after words.result.1.hart step.result.1.hart words.result.0 step.result.0
+    both_counted (geometry g.row.SETS g.row.WAYS) c.args.machine.now words.new.machine step.new.machine c.args.after words.result.1 step.result.1.hart words.result.0 step.result.0
     c.args.tally.now words.new.tally step.new.tally words.ensures.turns step.ensures.turns
