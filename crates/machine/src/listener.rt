@@ -1,4 +1,4 @@
-ghost use Rattle.std.specs.Prelude.{◌≡◌, ◌<◌, ◌+◌, ℕ, Option, IsTrue};
+ghost use Rattle.std.specs.Prelude.{◌≡◌, ◌<◌, ◌↔◌, ◌+◌, ℕ, Option, IsTrue};
 ghost use Rattle.words.specs.declared.entry.Entry.{Entry as EntryValue};
 
 use words::Entry;
@@ -13,10 +13,13 @@ pub trait Listener {
         ensures { hears self.old entry.now self.new };
 }
 
-/// Who hears the words of a hart's row, and has room for so many of them: the row goes on as long as there is. It is handed over by value, so that the compiler keeps
-/// it in a register.
+/// Who hears the words of a row, and has room for so many of them: the row goes on as long as there is. It is handed over by value, so that the compiler keeps it in
+/// registers, or in the row's frame.
 pub trait Meter: Copy {
-    /// How much room there is. It falls with each word.
+    /// There is room for one more word, of any hart.
+    ghost fits: { Self → Type 0 };
+
+    /// How much room there is. It falls with each word, so that a row ends.
     ghost room: { Self → ℕ };
 
     /// What comes of hearing the entry of a word.
@@ -24,13 +27,14 @@ pub trait Meter: Copy {
 
     /// Whether there is room for one more word.
     fn has_room(&self) -> bool
-        ensures { IsTrue result → 0 < room self.now };
+        ensures { IsTrue result ↔ fits self.now };
 
-    /// A word gave this entry.
-    fn hear(&mut self, entry: &Entry)
-        requires { 0 < room self.old }
+    /// A word gave this entry. The answer is whether there is room for one more.
+    fn hear(&mut self, entry: &Entry) -> bool
+        requires { fits self.old }
         ensures meters { meters self.old entry.now self.new }
-        ensures room { room self.new < room self.old };
+        ensures room { room self.new < room self.old }
+        ensures fits { IsTrue result ↔ fits self.new };
 }
 
 /// So many words, of which nobody hears.
@@ -40,6 +44,8 @@ pub(crate) struct Left {
 }
 
 impl Meter for Left {
+    ghost fits = { λ left. 0 < left.words };
+
     ghost room = { λ left. left.words };
 
     ghost meters = { λ before _ after. before.words ≡ after.words + 1 };
@@ -50,8 +56,9 @@ impl Meter for Left {
     }
 
     #[inline(always)]
-    fn hear(&mut self, _entry: &Entry) {
+    fn hear(&mut self, _entry: &Entry) -> bool {
         self.words -= 1;
+        self.has_room()
     }
 }
 

@@ -1,8 +1,8 @@
 //! Plain words that are counted in one number.
-ghost use Rattle.std.specs.Prelude.{◌≡◌, ◌<◌, ◌≤◌, ◌+◌, ◌-◌, ◌*◌, ◌==◌, ℕ, get_or, length, if◌then◌else◌};
-ghost use Rattle.watch.specs.Runs.{CountsTogether, loads_of, stores_of, unit_of, words_of};
+ghost use Rattle.std.specs.Prelude.{◌≡◌, ◌<◌, ◌≤◌, ◌+◌, ◌-◌, ◌*◌, ℕ, get_or, length, nat_lt, if◌then◌else◌};
+ghost use Rattle.watch.specs.Runs.{CountsTogether, hart_in, loads_of, room_in, stores_of, unit_of, words_together, words_of};
 
-use machine::{Listener, Meter};
+use machine::Meter;
 use words::{Entry, HARTS, HartId};
 
 /// How many words a batch may have.
@@ -14,6 +14,9 @@ const NEITHER: u32 = 1048576;
 const LOADED: u32 = NEITHER + 1024;
 
 const STORED: u32 = NEITHER + 1;
+
+/// A batch with this number, or a greater one, has no room.
+const FULL: u32 = 2147483648;
 
 /// Plain words of a hart in one number: from bit 20 on how many they are, from bit 10 on how many of them loaded and didn't store, and below how many stored. A row keeps
 /// it in a register, and one addition counts a word, by what it did to memory, and tells too whether another may follow: the number of words begins so that the
@@ -79,35 +82,40 @@ fn unit(entry: &Entry) -> u32
 
 /// Words are counted where it is known that they are plain, all of one hart, and that hart isn't fresh.
 impl Meter for Batch {
+    ghost fits = { λ batch. batch.bits < 2147483648 };
+
     ghost room = { λ batch. 2147483648 - batch.bits };
 
     ghost meters = { λ before e after. after.bits ≡ before.bits + unit_of e };
 
     #[inline(always)]
     fn has_room(&self) -> bool {
-        self.bits < 2147483648
+        self.bits < FULL
     }
 
     /// Counts a plain word.
     #[inline(always)]
-    fn hear(&mut self, entry: &Entry) {
+    fn hear(&mut self, entry: &Entry) -> bool {
         self.bits += unit(entry);
+        self.has_room()
     }
 }
 
-/// A batch of each hart, all without an end of their own.
+/// A batch of each hart.
 #[derive(Clone, Copy)]
 pub(crate) struct Batches {
     bits: [u32; HARTS],
 }
 
 impl Batches {
-    /// No word.
+    /// One like this of each hart.
     #[inline(always)]
-    pub(crate) fn none() -> Self
-        ensures { (h : ℕ) → get_or result.bits h 0 ≡ 0 }
+    pub(crate) fn of_each(batch: Batch) -> Self
+        ensures { (h : ℕ) → get_or result.bits h 0 ≡ if nat_lt h 8 then batch.bits else 0 }
     {
-        Batches { bits: [0; HARTS] }
+        Batches {
+            bits: [batch.bits; HARTS],
+        }
     }
 
     /// There is one for each hart.
@@ -115,15 +123,6 @@ impl Batches {
     pub(crate) fn are_complete(&self)
         ensures { length self.now.bits ≡ 8 }
     {}
-
-    /// Adds to a hart's.
-    #[inline(always)]
-    fn add(&mut self, hart: HartId, number: u32)
-        ensures { (h : ℕ) → let more = if hart == h then number else 0 in get_or self.old.bits h 0 + more < 4294967296 → get_or self.new.bits h 0 ≡ get_or self.old.bits h 0 + more }
-    {
-        let place = hart.index();
-        self.bits[place] = self.bits[place].wrapping_add(number);
-    }
 
     /// A hart's.
     #[inline(always)]
@@ -134,37 +133,58 @@ impl Batches {
             bits: self.bits[hart.index()],
         }
     }
-}
 
-/// Words are counted where it is known that they are plain, that their harts aren't fresh, and that they are no more than a batch may have.
-impl Listener for Batches {
-    ghost hears = { λ before e after. CountsTogether before e after };
-
-    /// Counts a plain word.
-    #[inline(always)]
-    fn hear(&mut self, entry: &Option<Entry>) {
-        if let Some(entry) = entry {
-            count_together(entry, self);
+    /// How many words there were together, where each began with so many.
+    pub(crate) fn words_together(&self, begun: u32) -> u32
+        ensures { result ≡ words_together begun self.now }
+    {
+        let mut words = 0;
+        for i in 0..HARTS {
+            let batch = self.of(HartId::new(i as u8));
+            words += batch.words().saturating_sub(begun);
         }
+        words
     }
 }
 
-/// Counts a plain word in its hart's batch.
+/// Whose entry it is.
 #[inline(always)]
-fn count_together(entry: &Entry, batches: &mut Batches)
-    ensures { CountsTogether batches.old (Some entry.now) batches.new }
+fn hart_of(entry: &Entry) -> HartId
+    ensures { result ≡ hart_in entry.now }
 {
     match entry {
-        Entry::Retire {
-            hart,
-            load,
-            store,
-            ..
-        } => match (store, load) {
-            (Some(_), _) => batches.add(*hart, STORED),
-            (None, Some(_)) => batches.add(*hart, LOADED),
-            (None, None) => batches.add(*hart, NEITHER),
-        },
-        Entry::Abort { .. } | Entry::Trap { .. } | Entry::Refuse { .. } | Entry::Spill { .. } => {}
+        Entry::Retire { hart, .. }
+        | Entry::Abort { hart, .. }
+        | Entry::Trap { hart, .. }
+        | Entry::Refuse { hart, .. }
+        | Entry::Spill { hart, .. } => *hart,
+    }
+}
+
+/// Words are counted where it is known that they are plain, and their harts aren't fresh.
+impl Meter for Batches {
+    ghost fits = { λ batches. (h : ℕ) → get_or batches.bits h 0 < 2147483648 };
+
+    ghost room = { λ batches. room_in batches.bits };
+
+    ghost meters = { λ before e after. CountsTogether before e after };
+
+    #[inline(always)]
+    fn has_room(&self) -> bool {
+        for i in 0..HARTS {
+            if self.bits[i] >= FULL {
+                return false;
+            }
+        }
+        true
+    }
+
+    /// Counts a plain word in its hart's batch.
+    #[inline(always)]
+    fn hear(&mut self, entry: &Entry) -> bool {
+        self.are_complete();
+        let place = hart_of(entry).index();
+        self.bits[place] += unit(entry);
+        self.bits[place] < FULL
     }
 }

@@ -144,16 +144,17 @@ impl Counts {
         self.add_some(hart, Kind::StoreHit, u64::from(stores));
     }
 
-    /// The same of each hart's batch.
+    /// The same of each hart's batch, where each began with so many words.
     #[inline(never)]
-    pub(crate) fn add_batches(&mut self, batches: &Batches)
-        ensures { (h : ℕ) (k : Kind) → Grows (count_at self.old h k) (batch_shares h k (get_or batches.now.bits h 0)) (count_at self.new h k) }
+    pub(crate) fn add_batches(&mut self, batches: &Batches, begun: u32)
+        ensures { (h : ℕ) (k : Kind) → Grows (count_at self.old h k) (batch_shares h k begun (get_or batches.now.bits h 0)) (count_at self.new h k) }
     {
         batches.are_complete();
         for i in 0..HARTS {
             let hart = HartId::new(i as u8);
             let batch = batches.of(hart);
-            self.add_words(hart, batch.words(), batch.loads(), batch.stores());
+            let words = batch.words().saturating_sub(begun);
+            self.add_words(hart, words, batch.loads(), batch.stores());
         }
     }
 

@@ -7,4 +7,4 @@ use Rattle.watch.proofs.cells.Counts.add_batches.Given as goal
 
 -- the batches of the first harts are counted
 abbrev pub invariant-loop-i : goal.invariant-loop-i
-invariant-loop-i l = (h : ℕ) (k : Kind) → Grows (count_at l.fn.self h k) (below l.i h (batch_shares h k (get_or l.batches.bits h 0))) (count_at l.self h k)
+invariant-loop-i l = (h : ℕ) (k : Kind) → Grows (count_at l.fn.self h k) (below l.i h (batch_shares h k l.begun (get_or l.batches.bits h 0))) (count_at l.self h k)
