@@ -121,8 +121,8 @@ const TARGET: Texts = Texts {
 // What help calls the values of `--witness`.
 const WITNESS_VALUES: &[&str] = &["K", "LIST"];
 
-// What stands behind the program's name for `--version`.
-const VERSION: &str = "1.0.0\nProved in the logic dac8208d650f15bf";
+// What stands after the program's name for `--version`. Whether a program is proved isn't for its sources to say: whoever built it does.
+const VERSION: &str = "1.0.0";
 
 /// What the words of a command line ask for. The first word is the program's name, as in what the
 /// environment gives, and is not read.

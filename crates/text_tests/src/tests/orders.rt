@@ -203,10 +203,7 @@ fn refusal(alloc: Global, words: &'static [&'static str]) -> Option<String> {
 }
 
 static REFUSALS: [(&[&str], &str); 37] = [
-    (
-        &["logtm", "--version"],
-        "logtm 1.0.0\nProved in the logic dac8208d650f15bf\n",
-    ),
+    (&["logtm", "--version"], "logtm 1.0.0\n"),
     (
         &["logtm", "run", "f", "--version"],
         "unexpected argument '--version'",
