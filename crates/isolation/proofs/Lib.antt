@@ -22,3 +22,4 @@ pub mod Reached
 pub mod Leading
 pub mod Reserving
 pub mod Reserved
+pub mod Sparing

@@ -5,3 +5,4 @@ pub mod Memory
 pub mod Moves
 pub mod Walks
 pub mod Reasons
+pub mod Earliest

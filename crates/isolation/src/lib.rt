@@ -7,11 +7,13 @@
 #![tactic(auto)]
 
 mod bounds;
+mod earliest;
 mod endings;
 mod facts;
 mod laws;
 
 pub use bounds::{accesses_lie_in_memory, blocks_are_in_memory};
+pub use earliest::{conflicts_spare_the_earliest, conflicts_spare_the_first};
 pub use endings::{
     coherent_runs_have_reasons, conflicts_come_beside_others, ended_states_are_last,
     ends_are_reached, local_words_need_no_interleaving, settings_stay_along_walks, walks_are_runs,

@@ -1,6 +1,6 @@
 # Two harts, each of which stores to a word of its own in a transaction, and then wants the other's, as in conflict.s; but after an abort a hart
 # gives up. Each exits with 0 if its transaction was committed, and with 1 if it was aborted. The last outcome, in which both are aborted, is
-# one that no run shows: of two transactions the earlier one isn't aborted for a conflict, but the search keeps no stamps.
+# one that no run shows: the transaction that begins first isn't aborted for a conflict, but the search keeps no stamps.
 #
 #   ./logtm outcomes examples/both-abort.s --harts 2 0x2000 0x2020
         lui     s1, 2
