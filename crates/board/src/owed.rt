@@ -24,7 +24,7 @@ pub(crate) fn owed<const SETS: usize, const WAYS: usize>(
             let _few = hart.index();
             Choice::Core(hart)
         }
-        Step::Deliver(key) => Choice::Deliver(named(machine, key)?),
+        Step::Deliver(number) => Choice::Deliver(named(machine, number as u64)?),
         Step::Evict(..) => return None,
     };
     Some(Chosen { step, choice })

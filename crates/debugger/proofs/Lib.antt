@@ -7,9 +7,10 @@ mod Exchanging
 mod Words
 mod Lists
 mod Readable
-mod Sent
+mod Held
 mod Showing
 mod OneTurns
+mod Told
 mod OneTold
 mod OneDeed
 mod OneLook

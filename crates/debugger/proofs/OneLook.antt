@@ -1,23 +1,22 @@
 -- What a look shows is the same on machines that no step tells apart.
-use Rattle.std.proofs.Common.{◌≡◌, ◌<◌, ◌/◌, ◌%◌, ◌==◌, ◌&&◌, ◌++◌, ◌∙◌, ℕ, Bool, true, false, cond, Option, Some, None, List, [], ◌∷◌, length, codes, inl, inr, arith, refl, sym, ap, subst}
+use Rattle.std.proofs.Common.{◌≡◌, ◌/◌, ◌%◌, ◌==◌, ◌&&◌, ◌++◌, ◌∙◌, ℕ, Bool, true, false, cond, Option, Some, None, List, codes, refl, sym, ap, subst}
 use Rattle.std.specs.Prelude.{IfSome, is_some}
-use Rattle.std.specs.Option.{option_map, option_map_or, option_or}
-use Rattle.std.specs.List.{flat_map, range_with_len, slice_index_or}
-use Rattle.std.proofs.Math.Path.{fun_ext}
+use Rattle.std.specs.Option.{option_map, option_or}
+use Rattle.std.specs.List.{flat_map, range_with_len}
 use Rattle.std.proofs.lemmas.Option.{none-some}
 use Rattle.words.specs.Limits.{block_bytes}
 use Rattle.table.specs.Program.{word_at}
 use Rattle.network.specs.declared.net.Flight.{Flight}
-use Rattle.network.specs.Flights.{IsSentBefore, IsNext, NoneAfter, ComesAfter}
+use Rattle.network.proofs.OneOrder.{past}
 use Rattle.protocol.specs.Caches.{Geometry}
 use Rattle.protocol.specs.Machine.{Machine}
+use Rattle.protocol.specs.Messages.{shown as shown_message}
 use Rattle.disassembler.specs.Tables.{Table}
 use Rattle.disassembler.specs.Listing.{line}
 use Rattle.render.specs.Blocks.{directory_text, word_line}
 use Rattle.render.specs.Registers.{registers_lines}
-use Rattle.machine.specs.Mail.{Mail}
 use Rattle.machine.specs.Reads.{info_of, log_word}
-use Rattle.machine.specs.States.{State, setting_of, shown}
+use Rattle.machine.specs.States.{State, setting_of}
 use Rattle.machine.specs.Turns.{is_held}
 use Rattle.machine.specs.Twins.{AreTwins}
 use Rattle.machine.proofs.TwinReads.{each_kept, log_word_is, raw_is, peek_is, view_is}
@@ -27,15 +26,8 @@ use Rattle.debugger.specs.declared.commands.fault.DebugFault.{DebugFault}
 use Rattle.debugger.specs.declared.commands.fault.DebugFault.TheVariants.{Address}
 use Rattle.debugger.specs.Refusals.{hart_fault, word_fault, text_fault}
 use Rattle.debugger.specs.LookTexts.{cached_line, tx_line, entry_line, message_line}
-use Rattle.debugger.specs.Looks.{refusal, AreSentAfter, flight_line, line_of_hart, word_text, IsTextOf}
+use Rattle.debugger.specs.Looks.{refusal, line_of_hart, word_text, IsTextOf}
 use Rattle.debugger.proofs.Readable.{lies_below}
-
--- a message is before another, or the other before it
-one_order : (f h : Flight) (i j : ℕ) → IsSentBefore f i h j → IsSentBefore h j f i → i ≡ j
-one_order f h i j (inl lower) (inl higher) = absurd (omega (arith, lower, higher))
-one_order f h i j (inl lower) (inr same) = absurd (omega (arith, lower, same.0))
-one_order f h i j (inr same) (inl higher) = absurd (omega (arith, higher, same.0))
-one_order f h i j (inr same) (inr also) = omega (arith, same.1, also.1)
 
 -- no word of text is there
 not_there : (b : Bool) → ◌≡◌ {A = Option DebugFault} (cond (b && false) None (Some Address)) None → ⊥
@@ -65,39 +57,6 @@ module _ (names : Table) (g : Geometry) (v w : State) (twins : AreTwins g v w) w
   refusal_is Harts = refl
   refusal_is Help = refl
 
-  -- The messages in flight, by age
-
-  there : (key : ℕ) (f : Flight) → slice_index_or w.flights key None ≡ Some f → slice_index_or v.flights key None ≡ Some f
-  there key f at = ap (λ (mail : Mail). mail key) twins.mail ∙ at
-
-  back : (key : ℕ) (f : Flight) → slice_index_or v.flights key None ≡ Some f → slice_index_or w.flights key None ≡ Some f
-  back key f at = sym (ap (λ (mail : Mail). mail key) twins.mail) ∙ at
-
-  comes_there : (last : Option ℕ) (key : ℕ) (f : Flight) → ComesAfter w.flights last key f → ComesAfter v.flights last key f
-  comes_there None key f comes = tt
-  comes_there (Some last) key f comes = λ h at. comes h (back last h at)
-
-  comes_back : (last : Option ℕ) (key : ℕ) (f : Flight) → ComesAfter v.flights last key f → ComesAfter w.flights last key f
-  comes_back None key f comes = tt
-  comes_back (Some last) key f comes = λ h at. comes h (there last h at)
-
-  next_once : (last : Option ℕ) (i j : ℕ) → IsNext v.flights last i → IsNext w.flights last j → i ≡ j
-  next_once last i j one other = one_order one.flight other.flight i j
-      (one.first j other.flight (there j other.flight other.here) (comes_there last j other.flight other.after))
-      (other.first i one.flight (back i one.flight one.here) (comes_back last i one.flight one.after))
-
-  keys_once : (last : Option ℕ) (xs ys : List ℕ) → AreSentAfter v.flights last xs → AreSentAfter w.flights last ys → xs ≡ ys
-  keys_once last [] [] one other = refl
-  keys_once last [] (y ∷ ys) one (next, rest) = absurd (one y next.flight (there y next.flight next.here) (comes_there last y next.flight next.after))
-  keys_once last (x ∷ xs) [] (next, rest) other = absurd (other x next.flight (back x next.flight next.here) (comes_back last x next.flight next.after))
-  keys_once last (x ∷ xs) (y ∷ ys) (next, rest) (next_too, rest_too) =
-      let same : x ≡ y = next_once last x y next next_too in
-      let others : xs ≡ ys = keys_once (Some x) xs ys rest (subst (λ (k : ℕ). AreSentAfter w.flights (Some k) ys) (sym same) rest_too) in
-      λ k. same k ∷ others k
-
-  flight_is : (key : ℕ) → flight_line g.sets v key ≡ flight_line g.sets w key
-  flight_is key = λ k. message_line (option_map (λ f. f.message) (twins.mail k key)) (option_map_or (is_held (twins.machine k)) ((twins.machine k).net key) false)
-
   -- A word of text
 
   text_once : (b : ℕ) (o : Option ℕ) (one other : List ℕ) → word_at (setting_of v).segments b ≡ o → text_fault (setting_of v) b ≡ None
@@ -110,11 +69,11 @@ module _ (names : Table) (g : Geometry) (v w : State) (twins : AreTwins g v w) w
   look_once (Regs h) one other fine is also =
       is ∙ (ap (λ (m : Machine). registers_lines names (m.harts h).regs (m.harts h).pc (m.harts h).status) twins.machine ∙ sym also)
   look_once (Word a) one other fine is also =
-      is (length v.flights) (lies_below v.flights) ∙ (ap (word_text a) (peek_is g v w twins) ∙ sym (also (length w.flights) (lies_below w.flights)))
+      is (past v.flights) (lies_below v.flights) ∙ (ap (word_text a) (peek_is g v w twins) ∙ sym (also (past w.flights) (lies_below w.flights)))
   look_once (Raw a) one other fine is also =
-      is (length v.flights) (lies_below v.flights) ∙ (ap (word_text a) (raw_is g v w twins) ∙ sym (also (length w.flights) (lies_below w.flights)))
+      is (past v.flights) (lies_below v.flights) ∙ (ap (word_text a) (raw_is g v w twins) ∙ sym (also (past w.flights) (lies_below w.flights)))
   look_once (View h a) one other fine is also =
-      is (length v.flights) (lies_below v.flights) ∙ (ap (word_text a) (view_is g v w twins h) ∙ sym (also (length w.flights) (lies_below w.flights)))
+      is (past v.flights) (lies_below v.flights) ∙ (ap (word_text a) (view_is g v w twins h) ∙ sym (also (past w.flights) (lies_below w.flights)))
   look_once (Line h a) one other fine is also = is ∙ (ap (λ (m : Machine). cached_line ((m.harts h).lines (a / block_bytes))) twins.machine ∙ sym also)
   look_once (Dir a) one other fine is also = is ∙ (ap (λ (m : Machine). directory_text (m.entries (a / block_bytes)) ++ codes "\n") twins.machine ∙ sym also)
   look_once Dirs one other fine is also = is ∙ (each_kept g v w twins (λ e. entry_line e.0 e.1) ∙ sym also)
@@ -123,8 +82,7 @@ module _ (names : Table) (g : Geometry) (v w : State) (twins : AreTwins g v w) w
       (subst (λ (o : Option ℕ). IfSome o (λ x. other ≡ word_line a x)) (sym (log_word_is g v w twins a)) also)
   look_once (Dis b) one other fine is also = text_once b (word_at (setting_of v).segments b) one other refl fine is
       (subst (λ (m : Machine). IfSome (word_at m.setting.segments b) (λ x. other ≡ line names b x)) (sym twins.machine) also)
-  look_once Messages one other fine (xs, ordered, is) (ys, ordered_too, also) =
-      is ∙ (ap (flat_map (flight_line g.sets v)) (keys_once None xs ys ordered ordered_too)
-      ∙ (ap (λ (item : ℕ → List ℕ). flat_map item ys) (fun_ext flight_is) ∙ sym also))
+  look_once Messages one other fine is also =
+      is ∙ ((λ k. flat_map (λ (f : Flight). message_line f.message (is_held (twins.machine k) (shown_message f.message))) (twins.flights k)) ∙ sym also)
   look_once Harts one other fine is also = is ∙ (ap (λ (m : Machine). flat_map (line_of_hart names m) (range_with_len 0 m.setting.count)) twins.machine ∙ sym also)
   look_once Help one other fine is also = is ∙ sym also

@@ -1,15 +1,17 @@
 -- What is read of a machine, once its hart and its address are tested.
-use Rattle.std.proofs.Common.{◌≡◌, ℕ, ◌<◌, Bool, true, false, cond, nat_lt, List, Option, Some, None, Result, Ok, Err, length, arith, refl, sym, subst, ◌∙◌}
+use Rattle.std.proofs.Common.{◌≡◌, ℕ, ◌<◌, Bool, true, false, cond, nat_lt, List, Option, Some, None, Result, Ok, Err, arith, refl, sym, ap, subst, ◌∙◌}
 use Rattle.std.specs.Prelude.{IsSome, is_some}
+use Rattle.std.specs.Option.{option_map}
 use Rattle.std.proofs.lemmas.Bool.Decides.{nat_tests}
-use Rattle.std.proofs.lemmas.List.{get_or_past}
 use Rattle.std.proofs.lemmas.Option.{same_Some}
 use Rattle.words.specs.Bytes.{number_at}
 use Rattle.words.specs.declared.entry.Width.TheVariants.{Word}
 use Rattle.flat.specs.State.{Setting}
 use Rattle.flat.specs.Reads.{is_readable, word_if}
 use Rattle.network.specs.declared.net.Flight.{Flight}
+use Rattle.network.proofs.OneOrder.{past, past_all}
 use Rattle.protocol.specs.Machine.{Machine}
+use Rattle.protocol.specs.Messages.{shown}
 use Rattle.protocol.specs.Network.{LiesBelow}
 use Rattle.protocol.specs.Values.{view}
 use Rattle.machine.specs.Mail.{in_flight}
@@ -19,9 +21,9 @@ use Rattle.debugger.specs.declared.commands.fault.DebugFault.{DebugFault}
 use Rattle.debugger.specs.declared.commands.fault.DebugFault.TheVariants.{NoHart, Address}
 use Rattle.debugger.specs.Refusals.{unless, hart_fault, word_fault, log_fault}
 
--- messages lie below the end of the slots
-pub lies_below : (slots : List (Option Flight)) → LiesBelow (length slots) (in_flight slots)
-lies_below slots key past = rw (get_or_past slots key None past) refl
+-- messages lie below a number above all of theirs
+pub lies_below : (flights : List Flight) → LiesBelow (past flights) (in_flight flights)
+lies_below flights number above = ap (λ o. option_map shown (option_map (λ f. f.message) o)) (past_all flights number above)
 
 -- a word that can be read is the number of its bytes
 pub read : (s : Setting) (m : ℕ → ℕ) (a : ℕ) → is_readable s a ≡ true → word_if s m a ≡ Some (number_at m a Word)
@@ -31,8 +33,8 @@ pub read-same : (s : Setting) (m : ℕ → ℕ) (a v : ℕ) (o : Option ℕ) →
 read-same s m a v o readable is some = same_Some v (number_at m a Word) (sym some ∙ is ∙ read s m a readable)
 
 -- a hart sees a word where it is one
-pub seen : (keys : ℕ) (w : Machine) (i a : ℕ) → i < w.setting.count → view_if keys w i a ≡ word_if w.setting (view keys w i) a
-seen keys w i a hart = let t : nat_lt i w.setting.count ≡ true = grind (arith, nat_tests) in rw t refl
+pub seen : (bound : ℕ) (w : Machine) (i a : ℕ) → i < w.setting.count → view_if bound w i a ≡ word_if w.setting (view bound w i) a
+seen bound w i a hart = let t : nat_lt i w.setting.count ≡ true = grind (arith, nat_tests) in rw t refl
 
 pub regs_of : (w : Machine) (i : ℕ) → i < w.setting.count → regs_if w i ≡ Some ((w.harts i).regs, (w.harts i).pc, (w.harts i).status)
 regs_of w i hart = let t : nat_lt i w.setting.count ≡ true = grind (arith, nat_tests) in rw t refl

@@ -1,9 +1,10 @@
 -- What a look shows, where its numbers passed their tests.
-use Rattle.std.proofs.Common.{◌≡◌, ℕ, true, List, Option, Some, None, Result, Ok, length, refl, sym, ap, subst, ◌∙◌}
+use Rattle.std.proofs.Common.{◌≡◌, ℕ, true, List, Option, Some, None, Result, Ok, refl, sym, ap, subst, ◌∙◌}
 use Rattle.std.specs.Prelude.{IsSome, IfSome}
 use Rattle.words.specs.declared.sink.SinkFault.{SinkFault}
 use Rattle.words.specs.Sinks.{SinkState}
 use Rattle.flat.specs.Reads.{is_readable, word_if}
+use Rattle.network.proofs.OneOrder.{past}
 use Rattle.protocol.specs.Network.{LiesBelow}
 use Rattle.disassembler.specs.Tables.{Table}
 use Rattle.texts.specs.Puts.{Puts}
@@ -37,20 +38,20 @@ not_none there = cc
 module _ (names : Table) (sets : ℕ) (m : State) (bytes : ℕ → ℕ → ℕ) (at : ℕ) (readable : is_readable (setting_of m) at ≡ true) where
   -- what was found at an address is the number of these bytes there
   abbrev IsFound : Option ℕ → Type 0
-  IsFound found = (keys : ℕ) → LiesBelow keys (shown sets m).net → found ≡ word_if (setting_of m) (bytes keys) at
+  IsFound found = (bound : ℕ) → LiesBelow bound (shown sets m).net → found ≡ word_if (setting_of m) (bytes bound) at
 
   -- there is a word
   pub found_there : (found : Option ℕ) → IsFound found → IsSome found
-  found_there found is = rw (is (length m.flights) (lies_below m.flights), read (setting_of m) (bytes (length m.flights)) at readable) refl
+  found_there found is = rw (is (past m.flights) (lies_below m.flights), read (setting_of m) (bytes (past m.flights)) at readable) refl
 
   -- a look at it
   pub shows_found : {look : Look} {a b : SinkState} {put : Result Unit SinkFault} (found : Option ℕ) → IsFound found
-      → ((t : List ℕ) → ((keys : ℕ) → LiesBelow keys (shown sets m).net → t ≡ word_text at (bytes keys)) → IsTextOf names sets m look t)
+      → ((t : List ℕ) → ((bound : ℕ) → LiesBelow bound (shown sets m).net → t ≡ word_text at (bytes bound)) → IsTextOf names sets m look t)
       → IfSome found (λ v. Puts a b (word_line at v) put) → Shows names sets m look a b put
   shows_found None is text puts = absurd (not_none (found_there None is))
   shows_found (Some v) is text puts = record {
     text = word_line at v;
-    is = text (word_line at v) (λ keys below. ap (word_line at) (read-same (setting_of m) (bytes keys) at v (Some v) readable (is keys below) refl));
+    is = text (word_line at v) (λ bound below. ap (word_line at) (read-same (setting_of m) (bytes bound) at v (Some v) readable (is bound below) refl));
     puts = puts;
   }
 

@@ -31,10 +31,9 @@ tx_line (Some t) = concat (codes "depth " ∷ decimal t.depth ∷ codes " record
 abbrev pub entry_line : ℕ → DirEntry → List ℕ
 entry_line b e = concat (block_text b ∷ codes " " ∷ directory_text e ∷ codes "\n" ∷ [])
 
--- a message, and whether the directory holds it; nothing for no message
-abbrev pub message_line : Option Message → Bool → List ℕ
-message_line None held = []
-message_line (Some m) held = concat (message_text m ∷ if_so held (codes " held") ∷ codes "\n" ∷ [])
+-- a message, and whether the directory holds it
+abbrev pub message_line : Message → Bool → List ℕ
+message_line m held = concat (message_text m ∷ if_so held (codes " held") ∷ codes "\n" ∷ [])
 
 -- how deep the transaction is nested, if one runs
 abbrev pub depth_part : Option TxInfo → List ℕ

@@ -1,7 +1,7 @@
 -- What each look at a machine shows.
-use Rattle.std.specs.Prelude.{ℕ, ◌≡◌, ◌/◌, ◌++◌, List, [], ◌∷◌, Option, Some, None, IfSome, Result, Ok, Err, false, codes}
-use Rattle.std.specs.Option.{option_map, option_map_or, option_or}
-use Rattle.std.specs.List.{flat_map, range_with_len, slice_index_or}
+use Rattle.std.specs.Prelude.{ℕ, ◌≡◌, ◌/◌, ◌++◌, List, Option, None, IfSome, Result, Ok, Err, codes}
+use Rattle.std.specs.Option.{option_map, option_or}
+use Rattle.std.specs.List.{flat_map, range_with_len}
 use Rattle.words.specs.Limits.{block_bytes}
 use Rattle.words.specs.Bytes.{number_at}
 use Rattle.words.specs.declared.entry.Width.TheVariants.{Word as word_wide}
@@ -9,10 +9,10 @@ use Rattle.words.specs.declared.sink.SinkFault.{SinkFault}
 use Rattle.words.specs.Sinks.{SinkState}
 use Rattle.table.specs.Program.{word_at}
 use Rattle.network.specs.declared.net.Flight.{Flight}
-use Rattle.network.specs.Flights.{IsNext, NoneAfter}
 use Rattle.directory.specs.declared.entry.DirEntry.{DirEntry}
 use Rattle.directory.specs.Entries.{shown_entry}
 use Rattle.protocol.specs.Machine.{Machine}
+use Rattle.protocol.specs.Messages.{shown as shown_message}
 use Rattle.protocol.specs.Network.{LiesBelow}
 use Rattle.protocol.specs.Values.{peek, raw, view}
 use Rattle.texts.specs.Puts.{Puts}
@@ -47,19 +47,13 @@ refusal m Messages = None
 refusal m Harts = None
 refusal m Help = None
 
--- these are the keys of the messages in flight that were sent after one, the oldest first: each was sent next after the one before
-abbrev pub AreSentAfter : List (Option Flight) → Option ℕ → List ℕ → Type 0
-AreSentAfter flights last [] = NoneAfter flights last
-AreSentAfter flights last (key ∷ keys) = IsNext flights last key × AreSentAfter flights (Some key) keys
-
 -- the line of an entry that the directory keeps. It keeps just those that aren't the first one, by rising block (see `Machine::kept` and `used`)
 abbrev pub kept_line : ℕ × DirEntry → List ℕ
 kept_line e = entry_line e.0 (shown_entry e.1)
 
--- the line of the message under a key
-abbrev pub flight_line : ℕ → State → ℕ → List ℕ
-flight_line sets m key = message_line (option_map (λ f. f.message) (slice_index_or m.flights key None))
-    (option_map_or (is_held (shown sets m)) ((shown sets m).net key) false)
+-- the line of a message in flight
+abbrev pub flight_line : ℕ → State → Flight → List ℕ
+flight_line sets m f = message_line f.message (is_held (shown sets m) (shown_message f.message))
 
 -- the line of hart i
 abbrev pub line_of_hart : Table → Machine → ℕ → List ℕ
@@ -69,19 +63,19 @@ line_of_hart names w i = hart_line names i (w.harts i).pc (status_text (w.harts 
 abbrev pub word_text : ℕ → (ℕ → ℕ) → List ℕ
 word_text a bytes = word_line a (number_at bytes a word_wide)
 
--- the text that a look shows, with names. The keys are any number below which all messages in flight lie
+-- the text that a look shows, with names. The bound is any number above those of all messages in flight
 abbrev pub IsTextOf : Table → ℕ → State → Look → List ℕ → Type 0
 IsTextOf names sets m (Regs h) t = t ≡ registers_lines names ((shown sets m).harts h).regs ((shown sets m).harts h).pc ((shown sets m).harts h).status
-IsTextOf names sets m (Word a) t = (keys : ℕ) → LiesBelow keys (shown sets m).net → t ≡ word_text a (peek keys (shown sets m))
-IsTextOf names sets m (Raw a) t = (keys : ℕ) → LiesBelow keys (shown sets m).net → t ≡ word_text a (raw keys (shown sets m))
-IsTextOf names sets m (View h a) t = (keys : ℕ) → LiesBelow keys (shown sets m).net → t ≡ word_text a (view keys (shown sets m) h)
+IsTextOf names sets m (Word a) t = (bound : ℕ) → LiesBelow bound (shown sets m).net → t ≡ word_text a (peek bound (shown sets m))
+IsTextOf names sets m (Raw a) t = (bound : ℕ) → LiesBelow bound (shown sets m).net → t ≡ word_text a (raw bound (shown sets m))
+IsTextOf names sets m (View h a) t = (bound : ℕ) → LiesBelow bound (shown sets m).net → t ≡ word_text a (view bound (shown sets m) h)
 IsTextOf names sets m (Line h a) t = t ≡ cached_line (((shown sets m).harts h).lines (a / block_bytes))
 IsTextOf names sets m (Dir a) t = t ≡ directory_text ((shown sets m).entries (a / block_bytes)) ++ codes "\n"
 IsTextOf names sets m Dirs t = t ≡ flat_map kept_line m.directory.kept
 IsTextOf names sets m (Tx h) t = t ≡ tx_line (option_map info_of ((shown sets m).harts h).tx)
 IsTextOf names sets m (Log a) t = IfSome (log_word m a) (λ v. t ≡ word_line a v)
 IsTextOf names sets m (Dis b) t = IfSome (word_at (setting_of m).segments b) (λ w. t ≡ line names b w)
-IsTextOf names sets m Messages t = (keys : List ℕ) × AreSentAfter m.flights None keys × (t ≡ flat_map (flight_line sets m) keys)
+IsTextOf names sets m Messages t = t ≡ flat_map (flight_line sets m) m.flights
 IsTextOf names sets m Harts t = t ≡ flat_map (line_of_hart names (shown sets m)) (range_with_len 0 (setting_of m).count)
 IsTextOf names sets m Help t = t ≡ help_text
 

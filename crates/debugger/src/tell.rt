@@ -1,5 +1,5 @@
-ghost use Rattle.std.specs.Prelude.{◌≡◌, ◌≤◌, ◌-◌, ◌+◌, ℕ, List, None, decimal};
-ghost use Rattle.std.specs.List.{slice_index_or, flat_map, range_with_len};
+ghost use Rattle.std.specs.Prelude.{◌≡◌, ℕ, List, decimal};
+ghost use Rattle.std.specs.List.{flat_map};
 ghost use Rattle.texts.specs.Puts.{Puts};
 ghost use Rattle.debugger.specs.Texts as spec;
 ghost use Rattle.debugger.specs.Texts.{IsTextOf};
@@ -11,16 +11,6 @@ use network::Flight;
 use render::{hart_text, message_text, put_entry};
 use texts::{hexadecimal, put_all};
 use words::{Addr, HartId, Sink, SinkFault};
-
-/// Puts the line of a message, if there is one and it got this number when it was sent.
-fn put_if<S: Sink>(flight: Option<Flight>, number: u64, sink: &mut S) -> Result<(), SinkFault>
-    ensures { Puts (S.state sink.old) (S.state sink.new) (spec.line_if number flight) result }
-{
-    match flight {
-        Some(flight) if flight.number == number => put_sent(&flight, sink),
-        _ => Ok(()),
-    }
-}
 
 /// Puts the line of a message that was sent.
 fn put_sent<S: Sink>(flight: &Flight, sink: &mut S) -> Result<(), SinkFault>
@@ -36,33 +26,20 @@ fn put_sent<S: Sink>(flight: &Flight, sink: &mut S) -> Result<(), SinkFault>
     )
 }
 
-/// Puts the lines of the messages that got a number, of those under the first so many keys.
-fn put_numbered<const SETS: usize, const WAYS: usize, S: Sink>(
-    machine: &Machine<SETS, WAYS>,
-    keys: usize,
-    number: u64,
-    sink: &mut S,
-) -> Result<(), SinkFault>
-    ensures { Puts (S.state sink.old) (S.state sink.new) (spec.numbered machine.now.flights keys number) result }
-{
-    for key in 0..keys {
-        put_if(machine.flight(key), number, sink)?;
-    }
-    Ok(())
-}
-
-/// Puts the lines of the messages that got the numbers from one on, so many, the oldest first.
+/// Puts the lines of the messages that got the numbers from one on, the oldest first.
 fn put_sent_from<const SETS: usize, const WAYS: usize, S: Sink>(
     machine: &Machine<SETS, WAYS>,
-    keys: usize,
     from: u64,
     sink: &mut S,
 ) -> Result<(), SinkFault>
-    ensures { Puts (S.state sink.old) (S.state sink.new) (spec.sent_lines machine.now.flights keys from machine.now.sent) result }
+    ensures { Puts (S.state sink.old) (S.state sink.new) (flat_map (spec.line_from from) machine.now.flights) result }
 {
-    let count = machine.sent().saturating_sub(from);
-    for sent in 0..count {
-        put_numbered(machine, keys, from + sent, sink)?;
+    machine.are_in_order();
+    let _next = machine.sent();
+    let mut number = from;
+    while let Some(flight) = machine.next_from(number) {
+        put_sent(flight, sink)?;
+        number = flight.number + 1;
     }
     Ok(())
 }
@@ -70,16 +47,15 @@ fn put_sent_from<const SETS: usize, const WAYS: usize, S: Sink>(
 /// Puts what is told of a step without an entry, whose messages got the numbers from one on.
 fn put_made<const SETS: usize, const WAYS: usize, S: Sink>(
     machine: &Machine<SETS, WAYS>,
-    keys: usize,
     from: u64,
     sink: &mut S,
 ) -> Result<(), SinkFault>
-    ensures { Puts (S.state sink.old) (S.state sink.new) (spec.made_text machine.now keys from) result }
+    ensures { Puts (S.state sink.old) (S.state sink.new) (spec.made_text machine.now from) result }
 {
     if machine.sent() == from {
         sink.put(b"done\n")
     } else {
-        put_sent_from(machine, keys, from, sink)
+        put_sent_from(machine, from, sink)
     }
 }
 
@@ -141,7 +117,7 @@ pub(crate) fn put_report<const SETS: usize, const WAYS: usize, S: Sink>(
         Report::Set(place) => put_place(names, b"break set 0x", place, sink),
         Report::Cleared(place) => put_place(names, b"break cleared 0x", place, sink),
         Report::Nothing => sink.put(b"nothing\n"),
-        Report::Made(number) => put_made(machine, machine.keys(), number, sink),
+        Report::Made(number) => put_made(machine, number, sink),
         Report::Silence => Ok(()),
     }
 }

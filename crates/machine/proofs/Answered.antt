@@ -7,6 +7,7 @@ use Rattle.std.proofs.lemmas.Bool.Decides.{nat_tests}
 use Rattle.words.specs.declared.entry.Width.TheVariants.{Word}
 use Rattle.words.specs.Bytes.{number_at}
 use Rattle.network.specs.declared.net.Flight.{Flight}
+use Rattle.network.proofs.OneOrder.{past, past_all}
 use Rattle.flat.specs.State.{Setting, Flat, flat_view, has_written}
 use Rattle.flat.specs.Reads.{is_readable, word_if, word_seen, IsInPlace}
 use Rattle.protocol.specs.Messages.{Block, shown}
@@ -21,12 +22,11 @@ use Rattle.isolation.specs.Answers.{AnswersAs}
 use Rattle.isolation.proofs.Belongs.Belonging.{answers_after}
 use Rattle.machine.specs.Mail.{in_flight}
 use Rattle.machine.specs.Reads.{view_if}
-use Rattle.machine.proofs.Places.{beyond}
 use Rattle.machine.proofs.Reading.{same_setting}
 
--- all messages lie below the number of slots
-pub all_below : (flights : List (Option Flight)) → LiesBelow (length flights) (in_flight flights)
-all_below flights = λ key le. ap (λ o. option_map shown (option_map (λ f. f.message) o)) (beyond flights key None le)
+-- all messages lie below a number above theirs
+pub all_below : (flights : List Flight) → LiesBelow (past flights) (in_flight flights)
+all_below flights = λ number le. ap (λ o. option_map shown (option_map (λ f. f.message) o)) (past_all flights number le)
 
 -- four bytes make a word
 word_same : (p q : ℕ → ℕ) (a : ℕ) → p a ≡ q a → p (a + 1) ≡ q (a + 1) → p (a + 2) ≡ q (a + 2) → p (a + 3) ≡ q (a + 3) → number_at p a Word ≡ number_at q a Word

@@ -34,7 +34,7 @@ module _ (g : Geometry) where
   arrive_turns v w (a ∷ ds) (u, first, rest) after =
       let one : 1 + length ds ≡ length (a ∷ ds) = omega arith in
       subst (λ n. TakesMany g v after n w after) one
-      (both_taken g v u w after after after 1 (length ds) (one_taken g v u after (Deliver first.key) a.entry (first.turn after)) (arrive_turns u w ds rest after))
+      (both_taken g v u w after after after 1 (length ds) (one_taken g v u after (Deliver first.number) a.entry (first.turn after)) (arrive_turns u w ds rest after))
 
 -- how many arrive
 module _ (q : Request) where

@@ -21,7 +21,8 @@ use Rattle.isolation.proofs.Consequences.RequestLaws.{one_request}
 use Rattle.isolation.proofs.Belongs.Belonging.{world, inv_of}
 use Rattle.flat.proofs.Maps.{two_numbers}
 use Rattle.network.specs.declared.net.Flight.{Flight}
-use Rattle.network.specs.Flights.{IsAlone}
+use Rattle.network.specs.Flights.{AreInOrder, IsAlone, IsNextNumber, flight_at, number_after}
+use Rattle.network.proofs.OneOrder.{at_first, at_others, number_is}
 use Rattle.protocol.specs.Messages.{Block, Granted, Message, Get, Grant, Forward, Done, shown as shown_message, block_of, receiver_of}
 use Rattle.protocol.specs.Hart.{Hart, HartResult, Request as Waiting, overflow_of, quiet, stamp_of}
 use Rattle.words.specs.Stamps.{earlier}
@@ -40,7 +41,7 @@ use Rattle.hart.specs.declared.reply.Settled.{Settled}
 use Rattle.hart.specs.declared.reply.Settled.TheVariants as request
 use Rattle.hart.specs.Rows.{done_of, answer_of, refusal_of}
 use Rattle.hart.specs.Shown.{shown_hart}
-use Rattle.machine.specs.Mail.{Mail, SendsOn, in_flight, mail_of, number_after}
+use Rattle.machine.specs.Mail.{Mail, SendsOn, in_flight, mail_of}
 use Rattle.machine.specs.Making.{MakesStep}
 use Rattle.machine.specs.Serving.{Hears, Settles, Replies, AnsweredBy, Answered, Ends, forward_of, forwards_to, Arrival, Arrives, ArriveAll, get_arrival, grant_arrival, forward_arrivals, answer_arrival, answer_arrivals, end_arrivals, end_of, arrivals_behind}
 use Rattle.machine.specs.States.{Seat, State, shown, geometry, hart_at, IsSound}
@@ -54,140 +55,117 @@ use Rattle.machine.proofs.Arriving.{arrive_both, seats_beside}
 -- Mail
 
 abbrev pub nothing : Mail
-nothing key = None
+nothing number = None
 
-abbrev pub alone : Flight → List (Option Flight)
-alone f = Some f ∷ []
+abbrev pub alone : Flight → List Flight
+alone f = f ∷ []
 
-pub alone_is : (f : Flight) → IsAlone (alone f) 0
-alone_is f = record { flight = f; here = refl; none = beside }
+-- messages with one number after another: the first has this number, and the next behind the last that one
+abbrev IsRow : ℕ → List Flight → ℕ → Type 0
+IsRow first [] next = first ≡ next
+IsRow first (f ∷ fs) next = (f.number ≡ first) × IsRow (suc first) fs next
+
+row_long : (first : ℕ) (fs : List Flight) (next : ℕ) → IsRow first fs next → first ≤ next
+row_long first [] next is = omega (arith, is)
+row_long first (f ∷ fs) next (is, rest) = let long : suc first ≤ next = row_long (suc first) fs next rest in omega (arith, long)
+
+row_both : (first : ℕ) (fs : List Flight) (mid : ℕ) (gs : List Flight) (next : ℕ) → IsRow first fs mid → IsRow mid gs next → IsRow first (fs ++ gs) next
+row_both first [] mid gs next is later = subst (λ n. IsRow n gs next) (sym is) later
+row_both first (f ∷ fs) mid gs next (is, rest) later = (is, row_both (suc first) fs mid gs next rest later)
+
+row_more : (first : ℕ) (fs : List Flight) (next : ℕ) (f : Flight) → IsRow first fs next → f.number ≡ next → IsRow first (fs ++ f ∷ []) (suc next)
+row_more first fs next f row is = row_both first fs next (f ∷ []) (suc next) row (is, refl)
+
+-- what is in flight with a number has one of theirs
+in_row : (first : ℕ) (fs : List Flight) (next : ℕ) → IsRow first fs next → (j : ℕ) (f : Flight) → flight_at fs j ≡ Some f → (first ≤ j) × (j < next)
+in_row first [] next is j f at = absurd (none-some f at)
+in_row first (g ∷ gs) next (is, rest) j f at = elim (cases_eq g.number j) [
+  | inl e ↦ let long : suc first ≤ next = row_long (suc first) gs next rest in (omega (arith, e, is), omega (arith, e, is, long))
+  | inr ne ↦ let more = in_row (suc first) gs next rest j f (sym (at_others g gs j ne) ∙ at) in (omega (arith, more.0), more.1)
+]
+
+outside : (first : ℕ) (fs : List Flight) (next : ℕ) → IsRow first fs next → (j : ℕ) → ((first ≤ j) → (j < next) → ⊥) → flight_at fs j ≡ None
+outside first fs next row j out = by (flight_at fs j) refl
   where
-    beside : (other : ℕ) → other ≢ 0 → slice_index_or (alone f) other None ≡ None
-    beside zero ne = absurd (ne refl)
-    beside (suc j) ne = refl
+    by : (o : Option Flight) → flight_at fs j ≡ o → o ≡ None
+    by None at = refl
+    by (Some f) at = let within = in_row first fs next row j f at in absurd (out within.0 within.1)
 
--- once the only message is taken, there is nothing
-pub emptied : (slots : List (Option Flight)) (key : ℕ) → IsAlone slots key → put_at key None (mail_of slots) ≡ nothing
-emptied slots key a = fun_ext (λ j. by (j == key) j refl)
-  where
-    by : (b : Bool) (j : ℕ) → j == key ≡ b → cond b None (mail_of slots j) ≡ None
-    by true j is = refl
-    by false j is = a.none j (two_numbers j key is)
+row_order : (first : ℕ) (fs : List Flight) (next : ℕ) → IsRow first fs next → AreInOrder fs
+row_order first [] next is = tt
+row_order first (f ∷ fs) next (is, rest) = (
+  λ j g at.
+      let within = in_row (suc first) fs next rest j g at in
+      let has : g.number ≡ j = number_is fs j g at in
+      omega (arith, is, has, within.0),
+  row_order (suc first) fs next rest,
+)
 
--- what stands behind some slots
-pub seam : (xs ys : List (Option Flight)) (o : Option Flight) → slice_index_or (xs ++ o ∷ ys) (length xs) None ≡ o
-seam [] ys o = refl
-seam (x ∷ xs) ys o = seam xs ys o
+-- one is added behind them
+found_last : (fs : List Flight) (f : Flight) (j : ℕ) → flight_at fs j ≡ None → f.number ≡ j → flight_at (fs ++ f ∷ []) j ≡ Some f
+found_last [] f j none is = at_first f [] j is
+found_last (g ∷ gs) f j none is = elim (cases_eq g.number j) [
+  | inl e ↦ absurd (none-some g (sym none ∙ at_first g gs j e))
+  | inr ne ↦ at_others g (gs ++ f ∷ []) j ne ∙ found_last gs f j (sym (at_others g gs j ne) ∙ none) is
+]
 
-elsewhere : (xs ys : List (Option Flight)) (o p : Option Flight) (j : ℕ) → j ≢ length xs → slice_index_or (xs ++ p ∷ ys) j None ≡ slice_index_or (xs ++ o ∷ ys) j None
-elsewhere [] ys o p zero ne = absurd (ne refl)
-elsewhere [] ys o p (suc j) ne = refl
-elsewhere (x ∷ xs) ys o p zero ne = refl
-elsewhere (x ∷ xs) ys o p (suc j) ne = elsewhere xs ys o p j (λ e. ne (ap suc e))
+found_before : (fs : List Flight) (f : Flight) (j : ℕ) → f.number ≢ j → flight_at (fs ++ f ∷ []) j ≡ flight_at fs j
+found_before [] f j ne = at_others f [] j ne
+found_before (g ∷ gs) f j ne = ap (λ o. cond (g.number == j) (Some g) o) (found_before gs f j ne)
 
--- one slot is changed
-place : (xs ys : List (Option Flight)) (o p : Option Flight) → mail_of (xs ++ p ∷ ys) ≡ put_at (length xs) p (mail_of (xs ++ o ∷ ys))
-place xs ys o p = changed_at (length xs) p (mail_of (xs ++ o ∷ ys)) (mail_of (xs ++ p ∷ ys)) (seam xs ys p) (λ j ne. elsewhere xs ys o p j ne)
+added : (first : ℕ) (fs : List Flight) (next : ℕ) (f : Flight) → IsRow first fs next → f.number ≡ next → mail_of (fs ++ f ∷ []) ≡ put_at next (Some f) (mail_of fs)
+added first fs next f row is = changed_at next (Some f) (mail_of fs) (mail_of (fs ++ f ∷ []))
+    (found_last fs f next (outside first fs next row next (λ from to. omega (arith, to))) is)
+    (λ j ne. found_before fs f j (λ e. ne (sym e ∙ is)))
 
--- or one is added
-added : (xs : List (Option Flight)) (o : Option Flight) → mail_of (xs ++ o ∷ []) ≡ put_at (length xs) o (mail_of xs)
-added xs o = changed_at (length xs) o (mail_of xs) (mail_of (xs ++ o ∷ [])) (seam xs [] o) (others xs)
-  where
-    others : (ys : List (Option Flight)) (j : ℕ) → j ≢ length ys → slice_index_or (ys ++ o ∷ []) j None ≡ slice_index_or ys j None
-    others [] zero ne = absurd (ne refl)
-    others [] (suc j) ne = refl
-    others (y ∷ ys) zero ne = refl
-    others (y ∷ ys) (suc j) ne = others ys j (λ e. ne (ap suc e))
+-- the first is taken
+taken_first : (f : Flight) (fs : List Flight) (next : ℕ) → IsRow (suc f.number) fs next → mail_of fs ≡ put_at f.number None (mail_of (f ∷ fs))
+taken_first f fs next row = changed_at f.number None (mail_of (f ∷ fs)) (mail_of fs)
+    (outside (suc f.number) fs next row f.number (λ from to. omega (arith, from)))
+    (λ j ne. sym (at_others f fs j (λ e. ne (sym e))))
 
--- slots that all have a message, or none
-abbrev IsFull : List (Option Flight) → Type 0
-IsFull xs = (j : ℕ) → j < length xs → IsSome (slice_index_or xs j None)
+-- the next number is the next behind them
+next_in : (first : ℕ) (fs : List Flight) (next : ℕ) → IsRow first fs next → next < 18446744073709551615 → IsNextNumber (mail_of fs) next next
+next_in first fs next row range = record {
+  below = omega (arith, range);
+  free = outside first fs next row next (λ from to. omega (arith, to));
+  greatest = λ other above below. absurd (omega (arith, above, below));
+}
 
-abbrev IsEmpty : List (Option Flight) → Type 0
-IsEmpty xs = (j : ℕ) → slice_index_or xs j None ≡ None
+-- and a message that is sent gets it
+send_behind : (first : ℕ) (fs : List Flight) (n : ℕ) (f : Flight) (m : Message) → IsRow first fs n → n < 18446744073709551615 → shown_message f.message ≡ m → f.number ≡ n
+    → SendsOn (mail_of fs) n (m ∷ []) (mail_of (fs ++ f ∷ [])) (number_after n)
+send_behind first fs n f m row range is number = (n, f, next_in first fs n row range, is, number, (added first fs n f row number, refl))
 
-full_still : (xs ys : List (Option Flight)) → IsFull xs → (j : ℕ) → j < length xs → IsSome (slice_index_or (xs ++ ys) j None)
-full_still [] ys full j below = absurd (omega (arith, below))
-full_still (x ∷ xs) ys full zero below = full zero below
-full_still (x ∷ xs) ys full (suc j) below = full_still xs ys (λ k lt. full (suc k) (omega (arith, lt))) j (omega (arith, below))
+send_one : (f : Flight) (m : Message) (n : ℕ) → n < 18446744073709551615 → shown_message f.message ≡ m → f.number ≡ n → SendsOn nothing n (m ∷ []) (mail_of (alone f)) (number_after n)
+send_one f m n range is number = send_behind n [] n f m refl range is number
 
-full_more : (xs : List (Option Flight)) (f : Flight) → IsFull xs → IsFull (xs ++ Some f ∷ [])
-full_more [] f full zero below = refl
-full_more [] f full (suc j) below = absurd (omega (arith, below))
-full_more (x ∷ xs) f full zero below = full zero (omega arith)
-full_more (x ∷ xs) f full (suc j) below = full_more xs f (λ k lt. full (suc k) (omega (arith, lt))) j (omega (arith, below))
+-- the only message
+alone_here : (flights : List Flight) (number : ℕ) (a : IsAlone flights number) → flight_at flights number ≡ Some a.0
+alone_here flights number (f, same, is) = ap (λ fs. flight_at fs number) same ∙ at_first f [] number is
 
-empty_more : (xs : List (Option Flight)) → IsEmpty xs → IsEmpty (xs ++ None ∷ [])
-empty_more [] empty zero = refl
-empty_more [] empty (suc j) = refl
-empty_more (x ∷ xs) empty zero = empty zero
-empty_more (x ∷ xs) empty (suc j) = empty_more xs (λ k. empty (suc k)) j
+-- once it is taken, there is nothing
+emptied : (flights : List Flight) (number : ℕ) → IsAlone flights number → put_at number None (mail_of flights) ≡ nothing
+emptied flights number (f, same, is) = (λ k. put_at (sym is k) None (mail_of (same k))) ∙ sym (taken_first f [] (suc f.number) refl)
 
-one_longer : (xs : List (Option Flight)) (o : Option Flight) → length (xs ++ o ∷ []) ≡ suc (length xs)
-one_longer xs o = let long : length (xs ++ o ∷ []) ≡ length xs + 1 = length-append xs (o ∷ []) in omega (arith, long)
-
--- a message is sent under the lowest key that is free
-pub send_at : (xs ys : List (Option Flight)) (f : Flight) (m : Message) (n : ℕ) → IsFull xs → shown_message f.message ≡ m → f.number ≡ n
-    → SendsOn (mail_of (xs ++ None ∷ ys)) n (m ∷ []) (mail_of (xs ++ Some f ∷ ys)) (number_after n)
-send_at xs ys f m n full is number =
-    (length xs, f, record { free = seam xs ys None; lowest = λ other below. full_still xs (None ∷ ys) full other below }, is, number, (place xs ys None (Some f), refl))
-
-first_sent : (f : Flight) → mail_of (alone f) ≡ put_at 0 (Some f) nothing
-first_sent f = changed_at 0 (Some f) nothing (mail_of (alone f)) refl (alone_is f).none
-
-pub send_one : (f : Flight) (m : Message) (n : ℕ) → shown_message f.message ≡ m → f.number ≡ n → SendsOn nothing n (m ∷ []) (mail_of (alone f)) (number_after n)
-send_one f m n is number = (0, f, record { free = refl; lowest = λ other below. absurd (omega (arith, below)) }, is, number, (first_sent f, refl))
+first_here : (f : Flight) (fs : List Flight) → in_flight (f ∷ fs) f.number ≡ Some (shown_message f.message)
+first_here f fs = ap (λ o. option_map shown_message (option_map (λ (g : Flight). g.message) o)) (at_first f fs f.number refl)
 
 -- The oldest
 
-pub oldest_alone : (w : Machine) (slots : List (Option Flight)) (key : ℕ) (a : IsAlone slots key) → is_held w (shown_message a.flight.message) ≡ false → IsOldestFree w slots key
-oldest_alone w slots key a free = record {
-  flight = a.flight;
-  here = a.here;
-  free = free;
-  first = λ other h at. elim (cases_eq other key) [
-    | inl e ↦
-        let same : a.flight ≡ h = same_Some a.flight h (sym a.here ∙ subst (λ n. slice_index_or slots n None ≡ Some h) e at) in
-        inr (inr (ap (λ (f : Flight). f.number) same, omega (arith, e)))
-    | inr ne ↦ absurd (none-some h (sym (a.none other ne) ∙ at))
-  ];
-}
-
--- all numbers are above one
-abbrev Above : ℕ → List (Option Flight) → Type 0
-Above n xs = (j : ℕ) (f : Flight) → slice_index_or xs j None ≡ Some f → n < f.number
-
-above_both : (n : ℕ) (xs ys : List (Option Flight)) → Above n xs → Above n ys → Above n (xs ++ ys)
-above_both n [] ys first later j f at = later j f at
-above_both n (x ∷ xs) ys first later zero f at = first zero f at
-above_both n (x ∷ xs) ys first later (suc j) f at = above_both n xs ys (λ k. first (suc k)) later j f at
-
-above_none : (n : ℕ) (ys : List (Option Flight)) → Above n ys → Above n (None ∷ ys)
-above_none n ys later zero f at = absurd (none-some f at)
-above_none n ys later (suc j) f at = later j f at
-
-above_some : (n : ℕ) (g : Flight) (ys : List (Option Flight)) → n < g.number → Above n ys → Above n (Some g ∷ ys)
-above_some n g ys lt later zero f at = subst (λ (x : Flight). n < x.number) (same_Some g f at) lt
-above_some n g ys lt later (suc j) f at = later j f at
-
-above_empty : (n : ℕ) (xs : List (Option Flight)) → IsEmpty xs → Above n xs
-above_empty n xs empty j f at = absurd (none-some f (sym (empty j) ∙ at))
-
-above_less : (m n : ℕ) (xs : List (Option Flight)) → m ≤ n → Above n xs → Above m xs
-above_less m n xs le above j f at = let lt = above j f at in omega (arith, le, lt)
-
-oldest_at : (w : Machine) (xs ys : List (Option Flight)) (f : Flight) → is_held w (shown_message f.message) ≡ false → Above f.number xs → Above f.number ys → IsOldestFree w (xs ++ Some f ∷ ys) (length xs)
-oldest_at w xs ys f free before behind = record {
+oldest_first : (w : Machine) (f : Flight) (fs : List Flight) (next : ℕ) → is_held w (shown_message f.message) ≡ false → IsRow (suc f.number) fs next → IsOldestFree w (f ∷ fs) f.number
+oldest_first w f fs next free row = record {
   flight = f;
-  here = seam xs ys (Some f);
+  here = at_first f fs f.number refl;
   free = free;
-  first = λ other h at. elim (cases_eq other (length xs)) [
-    | inl e ↦
-        let same : f ≡ h = same_Some f h (sym (seam xs ys (Some f)) ∙ subst (λ n. slice_index_or (xs ++ Some f ∷ ys) n None ≡ Some h) e at) in
-        inr (inr (ap (λ (x : Flight). x.number) same, omega (arith, e)))
-    | inr ne ↦ inr (inl (above_both f.number xs (None ∷ ys) before (above_none f.number ys behind) other h (elsewhere xs ys (Some f) None other ne ∙ at)))
-  ];
+  first = λ other h at. inr (elim (cases_eq f.number other) [
+    | inl e ↦ omega (arith, e)
+    | inr ne ↦ let within = in_row (suc f.number) fs next row other h (sym (at_others f fs other ne) ∙ at) in omega (arith, within.0)
+  ]);
 }
+
+oldest_alone : (w : Machine) (flights : List Flight) (number : ℕ) (a : IsAlone flights number) → is_held w (shown_message a.0.message) ≡ false → IsOldestFree w flights number
+oldest_alone w flights number (f, same, is) free = subst₂ (λ fs n. IsOldestFree w fs n) (sym same) is (oldest_first w f [] (suc f.number) free refl)
 
 -- A hart's request that has ended is out no longer
 
@@ -229,24 +207,24 @@ module _ (sets ways : ℕ) where
   hart_behind i m old new sent entry h =
       ap (λ o. option_map_or (λ (s : Seat). shown_hart sets s.output s.hart) o (first_hart idle)) (ap (λ l. slice_get l i) h.after ∙ got_there old i h.is h.number)
 
-  hears : (key i : ℕ) (v : State) (m : Message) (seats : List Seat) (flights : List (Option Flight)) (next : ℕ) (sent : ℕ → Option Message) (entry : ℕ → Option Entry)
-      → IsSound sets ways v → Hears sets i m v.seats seats sent entry → in_flight v.flights key ≡ Some m → receiver_of m ≡ Some i
-      → SendsOn (put_at key None (mail_of v.flights)) v.sent (option_to_list (sent i)) (mail_of flights) next
-      → MakesStep (geometry sets ways) v (Deliver key) (entry i) (record v { seats = seats; flights = flights; sent = next }) × IsSound sets ways (record v { seats = seats; flights = flights; sent = next })
-  hears key i v m seats flights next sent entry sound h here goes sends =
-      arrives_at_hart sets ways key i v (record v { seats = seats; flights = flights; sent = next }) h.was h.is m sent entry sound
-      (record { number = h.number; before = h.before; after = h.after; program = refl; directory = refl; stays = h.stays }) h.output refl here goes h.ways h.row sends
+  hears : (number i : ℕ) (v : State) (m : Message) (seats : List Seat) (flights : List Flight) (next : ℕ) (sent : ℕ → Option Message) (entry : ℕ → Option Entry)
+      → IsSound sets ways v → Hears sets i m v.seats seats sent entry → in_flight v.flights number ≡ Some m → receiver_of m ≡ Some i
+      → SendsOn (put_at number None (mail_of v.flights)) v.sent (option_to_list (sent i)) (mail_of flights) next → AreInOrder flights
+      → MakesStep (geometry sets ways) v (Deliver number) (entry i) (record v { seats = seats; flights = flights; sent = next }) × IsSound sets ways (record v { seats = seats; flights = flights; sent = next })
+  hears number i v m seats flights next sent entry sound h here goes sends order =
+      arrives_at_hart sets ways number i v (record v { seats = seats; flights = flights; sent = next }) h.was h.is m sent entry sound
+      (record { number = h.number; before = h.before; after = h.after; program = refl; directory = refl; stays = h.stays }) h.output refl here goes h.ways h.row sends order
 
   -- and it is its turn
-  heard : (key i : ℕ) (v : State) (m : Message) (seats : List Seat) (flights : List (Option Flight)) (next : ℕ) (sent : ℕ → Option Message) (entry : ℕ → Option Entry)
-      → IsSound sets ways v → Hears sets i m v.seats seats sent entry → in_flight v.flights key ≡ Some m → receiver_of m ≡ Some i
-      → SendsOn (put_at key None (mail_of v.flights)) v.sent (option_to_list (sent i)) (mail_of flights) next → IsOldestFree (shown sets v) v.flights key
+  heard : (number i : ℕ) (v : State) (m : Message) (seats : List Seat) (flights : List Flight) (next : ℕ) (sent : ℕ → Option Message) (entry : ℕ → Option Entry)
+      → IsSound sets ways v → Hears sets i m v.seats seats sent entry → in_flight v.flights number ≡ Some m → receiver_of m ≡ Some i
+      → SendsOn (put_at number None (mail_of v.flights)) v.sent (option_to_list (sent i)) (mail_of flights) next → AreInOrder flights → IsOldestFree (shown sets v) v.flights number
       → Goes v (record { message = m; sent = option_to_list (sent i); entry = entry i } ∷ []) (record v { seats = seats; flights = flights; sent = next })
-  heard key i v m seats flights next sent entry sound h here goes sends oldest =
+  heard number i v m seats flights next sent entry sound h here goes sends order oldest =
       let w : State = record v { seats = seats; flights = flights; sent = next } in
-      let made = hears key i v m seats flights next sent entry sound h here goes sends in
+      let made = hears number i v m seats flights next sent entry sound h here goes sends order in
       go_one v w (record { message = m; sent = option_to_list (sent i); entry = entry i }) (record {
-        key = key;
+        number = number;
         here = here;
         turn = λ after. record { next = oldest; made = made.0 };
         sends = sends;
@@ -255,11 +233,11 @@ module _ (sets ways : ℕ) where
       }) made.1
 
   -- and one that the directory hears
-  told_there : (key : ℕ) (v w : State) (m : Message) (sent : List Message) → in_flight v.flights key ≡ Some m → receiver_of m ≡ None → w.seats ≡ v.seats
-      → SendsOn (put_at key None (mail_of v.flights)) v.sent sent (mail_of w.flights) w.sent → IsOldestFree (shown sets v) v.flights key
-      → MakesStep (geometry sets ways) v (Deliver key) None w → Arrives (geometry sets ways) v (record { message = m; sent = sent; entry = None }) w
-  told_there key v w m sent here goes seats sends oldest made = record {
-    key = key;
+  told_there : (number : ℕ) (v w : State) (m : Message) (sent : List Message) → in_flight v.flights number ≡ Some m → receiver_of m ≡ None → w.seats ≡ v.seats
+      → SendsOn (put_at number None (mail_of v.flights)) v.sent sent (mail_of w.flights) w.sent → IsOldestFree (shown sets v) v.flights number
+      → MakesStep (geometry sets ways) v (Deliver number) None w → Arrives (geometry sets ways) v (record { message = m; sent = sent; entry = None }) w
+  told_there number v w m sent here goes seats sends oldest made = record {
+    number = number;
     here = here;
     turn = λ after. record { next = oldest; made = made };
     sends = sends;
@@ -269,39 +247,44 @@ module _ (sets ways : ℕ) where
 
   -- The end
 
-  abbrev pub ending : List (Option Flight) → ℕ → ℕ → Settled → List (Option Flight)
-  ending left from n request.Waiting = left
-  ending left from n (request.Refused b) = alone (record { message = coded.Done from b false None; number = n })
-  ending left from n (request.Granted b content) = alone (record { message = coded.Done from b true content; number = n })
+  abbrev pub ending : ℕ → ℕ → Settled → List Flight
+  ending from n request.Waiting = []
+  ending from n (request.Refused b) = alone (record { message = coded.Done from b false None; number = n })
+  ending from n (request.Granted b content) = alone (record { message = coded.Done from b true content; number = n })
 
   abbrev pub number_by : ℕ → Settled → ℕ
   number_by n request.Waiting = n
   number_by n (request.Refused b) = number_after n
   number_by n (request.Granted b content) = number_after n
 
-  sends_end : (left : List (Option Flight)) (from n : ℕ) (s : Settled) → mail_of left ≡ nothing → SendsOn nothing n (option_to_list (done_of from s)) (mail_of (ending left from n s)) (number_by n s)
-  sends_end left from n request.Waiting empty = (empty, refl)
-  sends_end left from n (request.Refused b) empty = send_one _ (Done from b false None) n refl refl
-  sends_end left from n (request.Granted b content) empty = send_one _ (Done from b true content) n refl refl
+  sends_end : (from n : ℕ) (s : Settled) → n < 18446744073709551615 → SendsOn nothing n (option_to_list (done_of from s)) (mail_of (ending from n s)) (number_by n s)
+  sends_end from n request.Waiting range = (refl, refl)
+  sends_end from n (request.Refused b) range = send_one _ (Done from b false None) n range refl refl
+  sends_end from n (request.Granted b content) range = send_one _ (Done from b true content) n range refl refl
 
-  module _ (u : State) (left : List (Option Flight)) (empty : mail_of left ≡ nothing) (from n : ℕ) (new : Blocks) where
+  end_order : (from n : ℕ) (s : Settled) → AreInOrder (ending from n s)
+  end_order from n request.Waiting = tt
+  end_order from n (request.Refused b) = row_order n (ending from n (request.Refused b)) (suc n) (refl, refl)
+  end_order from n (request.Granted b content) = row_order n (ending from n (request.Granted b content)) (suc n) (refl, refl)
+
+  module _ (u : State) (from n : ℕ) (new : Blocks) where
     end_told : (b : ℕ) (ok : Bool) (content : Option Block) (number : ℕ) → let f : Flight = record { message = coded.Done from b ok content; number = n } in
         IsSound sets ways (record u { flights = alone f }) → Ends (Some (Done from b ok content)) u.directory new number
-        → Goes (record u { flights = alone f }) (end_arrivals (Done from b ok content ∷ [])) (record u { directory = new; flights = left })
-    unfolding alone_is
+        → Goes (record u { flights = alone f }) (end_arrivals (Done from b ok content ∷ [])) (record u { directory = new; flights = [] })
     end_told b ok content number sound (is, used, (set, silent)) =
         let f : Flight = record { message = coded.Done from b ok content; number = n } in
         let v : State = record u { flights = alone f } in
-        let w : State = record u { directory = new; flights = left } in
-        let none : SendsOn (put_at 0 None (mail_of (alone f))) u.sent [] (mail_of left) u.sent = (empty ∙ sym (emptied (alone f) 0 (alone_is f)), refl) in
-        let made = serves sets ways 0 v w (coded.Done from b ok content) (done_by (entry_at u.directory b).busy from ok content (entry_at u.directory b) (memory_at u.directory b)) sound refl refl
-        (record { program = refl; seats = refl; stamps = refl; row = refl; block = set; used = used; sends = subst (λ ms. SendsOn (put_at 0 None (mail_of (alone f))) u.sent ms (mail_of left) u.sent) (sym silent) none }) in
-        go_one v w (record { message = Done from b ok content; sent = []; entry = None }) (told_there 0 v w (Done from b ok content) [] refl refl refl none (oldest_alone (shown sets v) (alone f) 0 (alone_is f) refl) made.0) made.1
+        let w : State = record u { directory = new; flights = [] } in
+        let here : in_flight (alone f) n ≡ Some (Done from b ok content) = first_here f [] in
+        let none : SendsOn (put_at n None (mail_of (alone f))) u.sent [] (mail_of []) u.sent = (taken_first f [] (suc n) refl, refl) in
+        let made = serves sets ways n v w (coded.Done from b ok content) (done_by (entry_at u.directory b).busy from ok content (entry_at u.directory b) (memory_at u.directory b)) sound here refl
+        (record { program = refl; seats = refl; stamps = refl; row = refl; block = set; used = used; order = tt; sends = subst (λ ms. SendsOn (put_at n None (mail_of (alone f))) u.sent ms (mail_of []) u.sent) (sym silent) none }) in
+        go_one v w (record { message = Done from b ok content; sent = []; entry = None }) (told_there n v w (Done from b ok content) [] here refl refl none (oldest_first (shown sets v) f [] (suc n) refl refl) made.0) made.1
 
-    pub ends : (s : Settled) (number : ℕ) → IsSound sets ways (record u { flights = ending left from n s }) → Ends (done_of from s) u.directory new number
-        → Goes (record u { flights = ending left from n s }) (end_arrivals (option_to_list (done_of from s))) (record u { directory = new; flights = left })
+    pub ends : (s : Settled) (number : ℕ) → IsSound sets ways (record u { flights = ending from n s }) → Ends (done_of from s) u.directory new number
+        → Goes (record u { flights = ending from n s }) (end_arrivals (option_to_list (done_of from s))) (record u { directory = new; flights = [] })
     ends request.Waiting number sound (same, none) =
-        let stays : record u { flights = left } ≡ record u { directory = new; flights = left } = λ k. record u { directory = sym same k; flights = left } in
+        let stays : record u { flights = [] } ≡ record u { directory = new; flights = [] } = λ k. record u { directory = sym same k; flights = [] } in
         (sym stays, subst (IsSound sets ways) stays sound)
     ends (request.Refused b) number sound told_so = end_told b false None number sound told_so
     ends (request.Granted b content) number sound told_so = end_told b true content number sound told_so
@@ -313,12 +296,12 @@ module _ (sets ways : ℕ) where
       let i = inv_of (geometry sets ways) sound.flat (shown sets v) sound.belongs in
       one_request (world (shown sets v) sound.flat sound.belongs.entries i.0) i.1
 
-  waits_forwarded : (key to b r : ℕ) (kind : Kind) (stamp : Option Stamp) (v : State) → IsSound sets ways v → in_flight v.flights key ≡ Some (Forward to b kind r stamp) → (hart_at sets v.seats r).request ≡ None → ⊥
-  waits_forwarded key to b r kind stamp v sound here none = let waiting = ((one v sound).forward to b r kind stamp (key, here)).0 in none-some waiting.0 (sym none ∙ waiting.1)
+  waits_forwarded : (number to b r : ℕ) (kind : Kind) (stamp : Option Stamp) (v : State) → IsSound sets ways v → in_flight v.flights number ≡ Some (Forward to b kind r stamp) → (hart_at sets v.seats r).request ≡ None → ⊥
+  waits_forwarded number to b r kind stamp v sound here none = let waiting = ((one v sound).forward to b r kind stamp (number, here)).0 in none-some waiting.0 (sym none ∙ waiting.1)
 
-  waits_answered : (key to b r : ℕ) (a : ForwardAnswer) (v : State) → IsSound sets ways v → in_flight v.flights key ≡ Some (answer_of to r b a) → (hart_at sets v.seats r).request ≡ None → ⊥
-  waits_answered key to b r (answer.Ack content) v sound here none = let waiting = ((one v sound).ack to r b content (key, here)).0 in none-some waiting.0 (sym none ∙ waiting.1)
-  waits_answered key to b r (answer.Nack stamp) v sound here none = let waiting = ((one v sound).nack to r b stamp (key, here)).0 in none-some waiting.0 (sym none ∙ waiting.1)
+  waits_answered : (number to b r : ℕ) (a : ForwardAnswer) (v : State) → IsSound sets ways v → in_flight v.flights number ≡ Some (answer_of to r b a) → (hart_at sets v.seats r).request ≡ None → ⊥
+  waits_answered number to b r (answer.Ack content) v sound here none = let waiting = ((one v sound).ack to r b content (number, here)).0 in none-some waiting.0 (sym none ∙ waiting.1)
+  waits_answered number to b r (answer.Nack stamp) v sound here none = let waiting = ((one v sound).nack to r b stamp (number, here)).0 in none-some waiting.0 (sym none ∙ waiting.1)
 
   -- what a hart that hears m does is what it does with an answer about a block
   record IsAnswer (m : Message) : Type 0 where
@@ -336,29 +319,30 @@ module _ (sets ways : ℕ) where
       ap (λ (x : Hart). x.request) (hart_behind r m old new (λ i. done_of i settled) (λ i. None) h) ∙ sym (ap (λ (t : HartResult). t.hart.request) row) ∙ out
 
   -- a machine with these seats and messages, of which so many were sent
-  abbrev pub at : State → List Seat → List (Option Flight) → ℕ → State
+  abbrev pub at : State → List Seat → List Flight → ℕ → State
   at u seats flights sent = record u { seats = seats; flights = flights; sent = sent }
 
   -- an answer arrives that isn't the last
-  module _ (xs ys left : List (Option Flight)) (f : Flight) (m : Message) (n r : ℕ) (u : State) (old new : List Seat) where
-    module _ (sound : IsSound sets ways (at u old (xs ++ Some f ∷ ys) n)) (first : xs ++ None ∷ ys ≡ None ∷ left) (told : shown_message f.message ≡ m) (goes : receiver_of m ≡ Some r) (is : IsAnswer m)
-        (awaits : (g : Flight) (k : ℕ) → IsSound sets ways (at u new (Some g ∷ left) k) → (hart_at sets new r).request ≡ None → ⊥) where
-      here : in_flight (xs ++ Some f ∷ ys) (length xs) ≡ Some m
-      here = ap (λ o. option_map shown_message (option_map (λ (g : Flight). g.message) o)) (seam xs ys (Some f)) ∙ ap Some told
+  module _ (fs : List Flight) (f : Flight) (m : Message) (n r : ℕ) (u : State) (old new : List Seat) where
+    module _ (sound : IsSound sets ways (at u old (f ∷ fs) n)) (row : IsRow (suc f.number) fs n) (range : n < 18446744073709551615) (told : shown_message f.message ≡ m) (goes : receiver_of m ≡ Some r) (is : IsAnswer m)
+        (awaits : (g : Flight) (k : ℕ) → IsSound sets ways (at u new (fs ++ g ∷ []) k) → (hart_at sets new r).request ≡ None → ⊥) where
+      here : in_flight (f ∷ fs) f.number ≡ Some m
+      here = first_here f fs ∙ ap Some told
 
       ends_not : (b : ℕ) (ok : Bool) (content : Option Block) (settled : Settled) → ((i : ℕ) → done_of i settled ≡ Some (Done i b ok content)) → Settles sets r m old new settled → ⊥
       ends_not b ok content settled ended h =
           let g : Flight = record { message = coded.Done r b ok content; number = n } in
-          let sends : SendsOn (put_at (length xs) None (mail_of (xs ++ Some f ∷ ys))) n (option_to_list (done_of r settled)) (mail_of (Some g ∷ left)) (number_after n) =
-          subst₂ (λ mail o. SendsOn mail n (option_to_list o) (mail_of (Some g ∷ left)) (number_after n)) (ap mail_of (sym first) ∙ place xs ys (Some f) None) (sym (ended r))
-          (send_at [] left g (Done r b ok content) n (λ j below. absurd (omega (arith, below))) refl refl) in
-          let made = hears (length xs) r (at u old (xs ++ Some f ∷ ys) n) m new (Some g ∷ left) (number_after n) (λ i. done_of i settled) (λ i. None) sound h here goes sends in
+          let sends : SendsOn (put_at f.number None (mail_of (f ∷ fs))) n (option_to_list (done_of r settled)) (mail_of (fs ++ g ∷ [])) (number_after n) =
+          subst₂ (λ mail o. SendsOn mail n (option_to_list o) (mail_of (fs ++ g ∷ [])) (number_after n)) (taken_first f fs n row) (sym (ended r))
+          (send_behind (suc f.number) fs n g (Done r b ok content) row range refl refl) in
+          let order : AreInOrder (fs ++ g ∷ []) = row_order (suc f.number) (fs ++ g ∷ []) (suc n) (row_more (suc f.number) fs n g row refl) in
+          let made = hears f.number r (at u old (f ∷ fs) n) m new (fs ++ g ∷ []) (number_after n) (λ i. done_of i settled) (λ i. None) sound h here goes sends order in
           awaits g (number_after n) made.1 (out_behind r b ok content m old new settled is ended h)
 
-      waits_on : (settled : Settled) → Settles sets r m old new settled → IsOldestFree (shown sets (at u old (xs ++ Some f ∷ ys) n)) (xs ++ Some f ∷ ys) (length xs)
-          → Goes (at u old (xs ++ Some f ∷ ys) n) (record { message = m; sent = []; entry = None } ∷ []) (at u new (xs ++ None ∷ ys) n)
+      waits_on : (settled : Settled) → Settles sets r m old new settled → IsOldestFree (shown sets (at u old (f ∷ fs) n)) (f ∷ fs) f.number
+          → Goes (at u old (f ∷ fs) n) (record { message = m; sent = []; entry = None } ∷ []) (at u new fs n)
       waits_on request.Waiting h oldest =
-          heard (length xs) r (at u old (xs ++ Some f ∷ ys) n) m new (xs ++ None ∷ ys) n (λ i. done_of i request.Waiting) (λ i. None) sound h here goes (place xs ys (Some f) None, refl) oldest
+          heard f.number r (at u old (f ∷ fs) n) m new fs n (λ i. done_of i request.Waiting) (λ i. None) sound h here goes (taken_first f fs n row, refl) (row_order (suc f.number) fs n row) oldest
       waits_on (request.Refused b) h oldest = absurd (ends_not b false None (request.Refused b) (λ i. refl) h)
       waits_on (request.Granted b content) h oldest = absurd (ends_not b true content (request.Granted b content) (λ i. refl) h)
 
@@ -501,135 +485,103 @@ module _ (sets ways : ℕ) where
     abbrev answer_flight : ℕ × ForwardAnswer → ℕ → Flight
     answer_flight x n = record { message = answer_message x.0 q.requester q.block x.1; number = n }
 
-    abbrev pub forwards_from : ℕ → List (ℕ × ForwardAnswer) → List (Option Flight)
+    abbrev pub forwards_from : ℕ → List (ℕ × ForwardAnswer) → List Flight
     forwards_from n [] = []
-    forwards_from n (x ∷ xs) = Some (forward_flight x.0 n) ∷ forwards_from (suc n) xs
+    forwards_from n (x ∷ xs) = forward_flight x.0 n ∷ forwards_from (suc n) xs
 
-    abbrev pub answers_from : ℕ → List (ℕ × ForwardAnswer) → List (Option Flight)
+    abbrev pub answers_from : ℕ → List (ℕ × ForwardAnswer) → List Flight
     answers_from n [] = []
-    answers_from n (x ∷ xs) = Some (answer_flight x n) ∷ answers_from (suc n) xs
+    answers_from n (x ∷ xs) = answer_flight x n ∷ answers_from (suc n) xs
 
-    above_forwards : (n k : ℕ) (xs : List (ℕ × ForwardAnswer)) → n < k → Above n (forwards_from k xs)
-    above_forwards n k [] lt = λ j f is. absurd (none-some f is)
-    above_forwards n k (x ∷ xs) lt = above_some n (forward_flight x.0 k) (forwards_from (suc k) xs) lt (above_forwards n (suc k) xs (omega (arith, lt)))
+    forwards_row : (n : ℕ) (xs : List (ℕ × ForwardAnswer)) (next : ℕ) → n + length xs ≡ next → IsRow n (forwards_from n xs) next
+    forwards_row n [] next is = omega (arith, is)
+    forwards_row n (x ∷ xs) next is = (refl, forwards_row (suc n) xs next (omega (arith, is)))
 
-    above_answers : (n k : ℕ) (xs : List (ℕ × ForwardAnswer)) → n < k → Above n (answers_from k xs)
-    above_answers n k [] lt = λ j f is. absurd (none-some f is)
-    above_answers n k (x ∷ xs) lt = above_some n (answer_flight x k) (answers_from (suc k) xs) lt (above_answers n (suc k) xs (omega (arith, lt)))
+    answers_row : (n : ℕ) (xs : List (ℕ × ForwardAnswer)) (next : ℕ) → n + length xs ≡ next → IsRow n (answers_from n xs) next
+    answers_row n [] next is = omega (arith, is)
+    answers_row n (x ∷ xs) next is = (refl, answers_row (suc n) xs next (omega (arith, is)))
 
     -- forwards are sent behind what is sent
-    sends_forwards : (xs : List (ℕ × ForwardAnswer)) (before : List (Option Flight)) (n : ℕ) → IsFull before → n + length xs ≤ 18446744073709551615
+    sends_forwards : (xs : List (ℕ × ForwardAnswer)) (first : ℕ) (before : List Flight) (n : ℕ) → IsRow first before n → n + length xs ≤ 18446744073709551615
         → SendsOn (mail_of before) n (forwards_to q xs) (mail_of (before ++ forwards_from n xs)) (n + length xs)
-    sends_forwards [] before n full range = (ap mail_of (append-nil before), omega arith)
-    sends_forwards (x ∷ xs) before n full range =
+    sends_forwards [] first before n row range = (ap mail_of (append-nil before), omega arith)
+    sends_forwards (x ∷ xs) first before n row range =
         let f : Flight = forward_flight x.0 n in
-        let more = sends_forwards xs (before ++ Some f ∷ []) (suc n) (full_more before f full) (omega (arith, range)) in
+        let more = sends_forwards xs first (before ++ f ∷ []) (suc n) (row_more first before n f row refl) (omega (arith, range)) in
         let next : suc n ≡ number_after n = omega (arith, range) in
-        let whole : (before ++ Some f ∷ []) ++ forwards_from (suc n) xs ≡ before ++ Some f ∷ forwards_from (suc n) xs = append_assoc before (Some f ∷ []) (forwards_from (suc n) xs) in
+        let whole : (before ++ f ∷ []) ++ forwards_from (suc n) xs ≡ before ++ f ∷ forwards_from (suc n) xs = append_assoc before (f ∷ []) (forwards_from (suc n) xs) in
         let count : suc n + length xs ≡ n + suc (length xs) = omega arith in (
-          length before,
+          n,
           f,
-          record { free = beyond before (length before) None (omega arith); lowest = full },
+          next_in first before n row (omega (arith, range)),
           refl,
           refl,
-          subst₂ (λ mail k. SendsOn mail k (forwards_to q xs) (mail_of (before ++ forwards_from n (x ∷ xs))) (n + suc (length xs))) (added before (Some f)) next
-              (subst₂ (λ slots k. SendsOn (mail_of (before ++ Some f ∷ [])) (suc n) (forwards_to q xs) (mail_of slots) k) whole count more),
+          subst₂ (λ mail k. SendsOn mail k (forwards_to q xs) (mail_of (before ++ forwards_from n (x ∷ xs))) (n + suc (length xs))) (added first before n f row refl) next
+              (subst₂ (λ flights k. SendsOn (mail_of (before ++ f ∷ [])) (suc n) (forwards_to q xs) (mail_of flights) k) whole count more),
         )
 
     -- one forward after another arrives, and is answered
-    forward_phase : (xs : List (ℕ × ForwardAnswer)) (done : List (Option Flight)) (b m n : ℕ) (u : State) (old new : List Seat) → IsFull done → Above b done → m + length xs ≤ suc b → b < n → n + length xs ≤ 18446744073709551615
-        → IsSound sets ways (at u old ((done ++ None ∷ []) ++ forwards_from m xs) n) → AllAsked xs old new
-        → Goes (at u old ((done ++ None ∷ []) ++ forwards_from m xs) n) (forward_arrivals q xs) (at u new ((done ++ answers_from n xs) ++ None ∷ []) (n + length xs))
-    forward_phase [] done b m n u old new full above low high range sound same =
-        let is : at u old ((done ++ None ∷ []) ++ []) n ≡ at u new ((done ++ []) ++ None ∷ []) (n + 0) =
-        λ k. at u (sym same k) ((append-nil (done ++ None ∷ []) ∙ ap (λ (l : List (Option Flight)). l ++ None ∷ []) (sym (append-nil done))) k) (let zero : n ≡ n + 0 = omega arith in zero k) in
-        subst (λ (w : State). Goes (at u old ((done ++ None ∷ []) ++ []) n) [] w) is (refl, sound)
-    forward_phase (x ∷ xs) done b m n u old new full above low high range sound (mid, (ne, h), rest) =
-        let D : List (Option Flight) = done ++ None ∷ [] in
-        let ys : List (Option Flight) = forwards_from (suc m) xs in
+    forward_phase : (xs : List (ℕ × ForwardAnswer)) (m k : ℕ) (done : List Flight) (n : ℕ) (u : State) (old new : List Seat) → m + length xs ≡ k → IsRow k done n → n + length xs ≤ 18446744073709551615
+        → IsSound sets ways (at u old (forwards_from m xs ++ done) n) → AllAsked xs old new
+        → Goes (at u old (forwards_from m xs ++ done) n) (forward_arrivals q xs) (at u new (done ++ answers_from n xs) (n + length xs))
+    forward_phase [] m k done n u old new long row range sound same =
+        let is : at u old done n ≡ at u new (done ++ []) (n + 0) = λ i. at u (sym same i) (sym (append-nil done) i) (let zero : n ≡ n + 0 = omega arith in zero i) in
+        subst (λ (w : State). Goes (at u old done n) [] w) is (refl, sound)
+    forward_phase (x ∷ xs) m k done n u old new long row range sound (mid, (ne, h), rest) =
         let f : Flight = forward_flight x.0 m in
         let a : Flight = answer_flight x n in
+        let ys : List Flight = forwards_from (suc m) xs in
         let arrived : Arrival = record { message = forward_of q x.0; sent = answer_of x.0 q.requester q.block x.1 ∷ []; entry = refusal_of x.0 q.requester q.block x.1 } in
-        let v : State = at u old (D ++ Some f ∷ ys) n in
-        let L : List (Option Flight) = ((done ++ Some a ∷ []) ++ None ∷ []) ++ ys in
-        let moved : done ++ Some a ∷ None ∷ ys ≡ L = sym (append_assoc (done ++ Some a ∷ []) (None ∷ []) ys ∙ append_assoc done (Some a ∷ []) (None ∷ ys)) in
-        let taken : mail_of (done ++ None ∷ None ∷ ys) ≡ put_at (length D) None (mail_of (D ++ Some f ∷ ys)) = ap mail_of (sym (append_assoc done (None ∷ []) (None ∷ ys))) ∙ place D ys (Some f) None in
-        let sends : SendsOn (put_at (length D) None (mail_of (D ++ Some f ∷ ys))) n (answer_of x.0 q.requester q.block x.1 ∷ []) (mail_of L) (number_after n) =
-        subst₂ (λ mail slots. SendsOn mail n (answer_of x.0 q.requester q.block x.1 ∷ []) (mail_of slots) (number_after n)) taken moved
-        (send_at done (None ∷ ys) a (answer_of x.0 q.requester q.block x.1) n full (answer_told x.0 q.requester q.block x.1) refl) in
+        let v : State = at u old (f ∷ (ys ++ done)) n in
+        let L : List Flight = ys ++ (done ++ a ∷ []) in
+        let on_long : suc m + length xs ≡ k = omega (arith, long) in
+        let forwards_are : IsRow (suc m) ys k = forwards_row (suc m) xs k on_long in
+        let behind_it : IsRow (suc m) (ys ++ done) n = row_both (suc m) ys k done n forwards_are row in
+        let answers_are : IsRow k (done ++ a ∷ []) (suc n) = row_more k done n a row refl in
+        let low : n < 18446744073709551615 = omega (arith, range) in
+        let sends : SendsOn (put_at m None (mail_of (f ∷ (ys ++ done)))) n (answer_of x.0 q.requester q.block x.1 ∷ []) (mail_of L) (number_after n) =
+        subst₂ (λ mail flights. SendsOn mail n (answer_of x.0 q.requester q.block x.1 ∷ []) (mail_of flights) (number_after n)) (taken_first f (ys ++ done) n behind_it) (append_assoc ys done (a ∷ []))
+        (send_behind (suc m) (ys ++ done) n a (answer_of x.0 q.requester q.block x.1) behind_it low (answer_told x.0 q.requester q.block x.1) refl) in
         let next : number_after n ≡ suc n = omega (arith, range) in
-        let first : Goes v (arrived ∷ []) (at u mid L (suc n)) = subst (λ k. Goes v (arrived ∷ []) (at u mid L k)) next
-        (heard (length D) x.0 v (forward_of q x.0) mid L (number_after n) (λ i. Some (answer_of i q.requester q.block x.1)) (λ i. refusal_of i q.requester q.block x.1) sound h
-        (ap (λ o. option_map shown_message (option_map (λ (g : Flight). g.message) o)) (seam D ys (Some f))) refl sends
-        (oldest_at (shown sets v) D ys f refl (above_both m done (None ∷ []) (above_less m b done (omega (arith, low)) above) (above_none m [] (λ j g is. absurd (none-some g is)))) (above_forwards m (suc m) xs (omega arith)))) in
-        let above_still : Above b (done ++ Some a ∷ []) = above_both b done (Some a ∷ []) above (above_some b a [] high (λ j g is. absurd (none-some g is))) in
-        let on = forward_phase xs (done ++ Some a ∷ []) b (suc m) (suc n) u mid new (full_more done a full) above_still (omega (arith, low)) (omega (arith, high)) (omega (arith, range)) first.1 rest in
-        let last : at u new (((done ++ Some a ∷ []) ++ answers_from (suc n) xs) ++ None ∷ []) (suc n + length xs) ≡ at u new ((done ++ answers_from n (x ∷ xs)) ++ None ∷ []) (n + suc (length xs)) =
-        λ k. at u new (append_assoc done (Some a ∷ []) (answers_from (suc n) xs) k ++ None ∷ []) (let count : suc n + length xs ≡ n + suc (length xs) = omega arith in count k) in
+        let first : Goes v (arrived ∷ []) (at u mid L (suc n)) = subst (λ i. Goes v (arrived ∷ []) (at u mid L i)) next
+        (heard m x.0 v (forward_of q x.0) mid L (number_after n) (λ i. Some (answer_of i q.requester q.block x.1)) (λ i. refusal_of i q.requester q.block x.1) sound h
+        (first_here f (ys ++ done)) refl sends (row_order (suc m) L (suc n) (row_both (suc m) ys k (done ++ a ∷ []) (suc n) forwards_are answers_are))
+        (oldest_first (shown sets v) f (ys ++ done) n refl behind_it)) in
+        let on = forward_phase xs (suc m) k (done ++ a ∷ []) (suc n) u mid new on_long answers_are (omega (arith, range)) first.1 rest in
+        let last : at u new ((done ++ a ∷ []) ++ answers_from (suc n) xs) (suc n + length xs) ≡ at u new (done ++ answers_from n (x ∷ xs)) (n + suc (length xs)) =
+        λ i. at u new (append_assoc done (a ∷ []) (answers_from (suc n) xs) i) (let count : suc n + length xs ≡ n + suc (length xs) = omega arith in count i) in
         subst (λ (w : State). Goes v (forward_arrivals q (x ∷ xs)) w) last
-        (go_on v (at u mid L (suc n)) (at u new (((done ++ Some a ∷ []) ++ answers_from (suc n) xs) ++ None ∷ []) (suc n + length xs)) (arrived ∷ []) (forward_arrivals q xs) first on)
-
-    -- the first slot is free
-    first_none : (gone zs : List (Option Flight)) → IsEmpty gone → (left : List (Option Flight)) × (gone ++ None ∷ zs ≡ None ∷ left)
-    first_none [] zs empty = (zs, refl)
-    first_none (None ∷ gs) zs empty = (gs ++ None ∷ zs, refl)
-    first_none (Some g ∷ gs) zs empty = absurd (none-some g (sym (empty 0)))
-
-    empty_both : (xs ys : List (Option Flight)) → IsEmpty xs → IsEmpty ys → IsEmpty (xs ++ ys)
-    empty_both [] ys first later j = later j
-    empty_both (x ∷ xs) ys first later zero = first zero
-    empty_both (x ∷ xs) ys first later (suc j) = empty_both xs ys (λ k. first (suc k)) later j
-
-    no_more : IsEmpty (None ∷ None ∷ [])
-    no_more zero = refl
-    no_more (suc zero) = refl
-    no_more (suc (suc j)) = refl
-
-    alone_in : (gone : List (Option Flight)) (a : Flight) → IsEmpty gone → IsAlone (gone ++ Some a ∷ None ∷ []) (length gone)
-    alone_in gone a empty = record {
-      flight = a;
-      here = seam gone (None ∷ []) (Some a);
-      none = λ other ne. sym (elsewhere gone (None ∷ []) (Some a) None other ne) ∙ empty_both gone (None ∷ None ∷ []) empty no_more other;
-    }
+        (go_on v (at u mid L (suc n)) (at u new ((done ++ a ∷ []) ++ answers_from (suc n) xs) (suc n + length xs)) (arrived ∷ []) (forward_arrivals q xs) first on)
 
     -- one answer after another arrives
-    answer_phase : (x : ℕ × ForwardAnswer) (xs : List (ℕ × ForwardAnswer)) (gone : List (Option Flight)) (m n : ℕ) (u : State) (old : List Seat) (before : Settled) (new : List Seat) (settled : Settled) (left : List (Option Flight))
-        → IsEmpty gone → mail_of left ≡ nothing → IsSound sets ways (at u old (gone ++ (answers_from m (x ∷ xs) ++ None ∷ [])) n) → AllTold (x ∷ xs) old before new settled
-        → Goes (at u old (gone ++ (answers_from m (x ∷ xs) ++ None ∷ [])) n) (answer_arrivals q (x ∷ xs) settled) (at u new (ending left q.requester n settled) (number_by n settled))
-    answer_phase x [] gone m n u old before new settled left empty none sound (mid, next, s, (same, is)) =
+    answer_phase : (x : ℕ × ForwardAnswer) (xs : List (ℕ × ForwardAnswer)) (m n : ℕ) (u : State) (old : List Seat) (before : Settled) (new : List Seat) (settled : Settled)
+        → m + suc (length xs) ≡ n → n < 18446744073709551615 → IsSound sets ways (at u old (answers_from m (x ∷ xs)) n) → AllTold (x ∷ xs) old before new settled
+        → Goes (at u old (answers_from m (x ∷ xs)) n) (answer_arrivals q (x ∷ xs) settled) (at u new (ending q.requester n settled) (number_by n settled))
+    answer_phase x [] m n u old before new settled long range sound (mid, next, s, (same, is)) =
         let a : Flight = answer_flight x m in
-        let L : List (Option Flight) = gone ++ Some a ∷ None ∷ [] in
-        let v : State = at u old L n in
+        let v : State = at u old (a ∷ []) n in
         let told : Message = answer_of x.0 q.requester q.block x.1 in
         let h : Settles sets q.requester told old new settled = subst₂ (λ (l : List Seat) (t : Settled). Settles sets q.requester told old l t) (sym same) (sym is) s in
-        heard (length gone) q.requester v told new (ending left q.requester n settled) (number_by n settled) (λ i. done_of i settled) (λ i. None) sound h
-        (ap (λ o. option_map shown_message (option_map (λ (g : Flight). g.message) o)) (seam gone (None ∷ []) (Some a)) ∙ ap Some (answer_told x.0 q.requester q.block x.1)) (answer_goes x.0 q.requester q.block x.1)
-        (subst (λ mail. SendsOn mail n (option_to_list (done_of q.requester settled)) (mail_of (ending left q.requester n settled)) (number_by n settled)) (sym (emptied L (length gone) (alone_in gone a empty))) (sends_end left q.requester n settled none))
-        (oldest_at (shown sets v) gone (None ∷ []) a (answer_free (shown sets v) x.0 q.requester q.block x.1) (above_empty m gone empty) (above_none m [] (λ j g at_it. absurd (none-some g at_it))))
-    answer_phase x (y ∷ ys) gone m n u old before new settled left empty none sound (mid, next, s, rest) =
+        heard m q.requester v told new (ending q.requester n settled) (number_by n settled) (λ i. done_of i settled) (λ i. None) sound h
+        (first_here a [] ∙ ap Some (answer_told x.0 q.requester q.block x.1)) (answer_goes x.0 q.requester q.block x.1)
+        (subst (λ mail. SendsOn mail n (option_to_list (done_of q.requester settled)) (mail_of (ending q.requester n settled)) (number_by n settled)) (taken_first a [] (suc m) refl) (sends_end q.requester n settled range))
+        (end_order q.requester n settled) (oldest_first (shown sets v) a [] (suc m) (answer_free (shown sets v) x.0 q.requester q.block x.1) refl)
+    answer_phase x (y ∷ ys) m n u old before new settled long range sound (mid, next, s, rest) =
         let a : Flight = answer_flight x m in
         let c : Flight = answer_flight y (suc m) in
-        let more : List (Option Flight) = answers_from (suc (suc m)) ys ++ None ∷ [] in
-        let zs : List (Option Flight) = Some c ∷ more in
-        let v : State = at u old (gone ++ Some a ∷ zs) n in
+        let zs : List Flight = answers_from (suc m) (y ∷ ys) in
+        let v : State = at u old (a ∷ zs) n in
         let told : Message = answer_of x.0 q.requester q.block x.1 in
-        let free = first_none gone zs empty in
-        let longer : length (gone ++ None ∷ []) ≡ suc (length gone) = one_longer gone None in
-        let there : slice_index_or (None ∷ free.0) (suc (length gone)) None ≡ Some c =
-        ap (λ l. slice_index_or l (suc (length gone)) None) (sym free.1) ∙ ap (λ l. slice_index_or l (suc (length gone)) None) (sym (append_assoc gone (None ∷ []) zs))
-        ∙ ap (λ k. slice_index_or ((gone ++ None ∷ []) ++ zs) k None) (sym longer) ∙ seam (gone ++ None ∷ []) more (Some c) in
-        let awaits : (g : Flight) (k : ℕ) → IsSound sets ways (at u mid (Some g ∷ free.0) k) → (hart_at sets mid q.requester).request ≡ None → ⊥ =
-        λ g k also. waits_answered (suc (length gone)) y.0 q.block q.requester y.1 (at u mid (Some g ∷ free.0) k) also
-        (ap (λ o. option_map shown_message (option_map (λ (e : Flight). e.message) o)) there ∙ ap Some (answer_told y.0 q.requester q.block y.1)) in
-        let step = waits_on gone zs free.0 a told n q.requester u old mid sound free.1 (answer_told x.0 q.requester q.block x.1) (answer_goes x.0 q.requester q.block x.1) (answer_is x.0 q.requester q.block x.1) awaits next s
-        (oldest_at (shown sets v) gone zs a (answer_free (shown sets v) x.0 q.requester q.block x.1) (above_empty m gone empty)
-        (above_both m (answers_from (suc m) (y ∷ ys)) (None ∷ []) (above_answers m (suc m) (y ∷ ys) (omega arith)) (above_none m [] (λ j g at_it. absurd (none-some g at_it))))) in
-        let w : State = at u mid (gone ++ None ∷ zs) n in
-        let same : gone ++ None ∷ zs ≡ (gone ++ None ∷ []) ++ zs = sym (append_assoc gone (None ∷ []) zs) in
-        let on = answer_phase y ys (gone ++ None ∷ []) (suc m) n u mid next new settled left (empty_more gone empty) none (subst (λ l. IsSound sets ways (at u mid l n)) same step.1) rest in
-        let on_from : Goes w (answer_arrivals q (y ∷ ys) settled) (at u new (ending left q.requester n settled) (number_by n settled)) =
-        subst (λ l. Goes (at u mid l n) (answer_arrivals q (y ∷ ys) settled) (at u new (ending left q.requester n settled) (number_by n settled))) (sym same) on in
-        go_on v w (at u new (ending left q.requester n settled) (number_by n settled)) (answer_arrival q x [] ∷ []) (answer_arrivals q (y ∷ ys) settled) step on_from
+        let on_long : suc m + suc (length ys) ≡ n = omega (arith, long) in
+        let row : IsRow (suc m) zs n = answers_row (suc m) (y ∷ ys) n on_long in
+        let awaits : (g : Flight) (k : ℕ) → IsSound sets ways (at u mid (zs ++ g ∷ []) k) → (hart_at sets mid q.requester).request ≡ None → ⊥ =
+        λ g k also. waits_answered (suc m) y.0 q.block q.requester y.1 (at u mid (zs ++ g ∷ []) k) also
+        (first_here c (answers_from (suc (suc m)) ys ++ g ∷ []) ∙ ap Some (answer_told y.0 q.requester q.block y.1)) in
+        let step : Goes v (answer_arrival q x [] ∷ []) (at u mid zs n) =
+        waits_on zs a told n q.requester u old mid sound row range (answer_told x.0 q.requester q.block x.1) (answer_goes x.0 q.requester q.block x.1) (answer_is x.0 q.requester q.block x.1) awaits next s
+        (oldest_first (shown sets v) a zs n (answer_free (shown sets v) x.0 q.requester q.block x.1) row) in
+        let on = answer_phase y ys (suc m) n u mid next new settled on_long range step.1 rest in
+        go_on v (at u mid zs n) (at u new (ending q.requester n settled) (number_by n settled)) (answer_arrival q x [] ∷ []) (answer_arrivals q (y ∷ ys) settled) step on
 
     -- A request
 
@@ -638,11 +590,11 @@ module _ (sets ways : ℕ) where
     not_busy (Some busy) s t P is = absurd is
 
     -- what the directory has given to a request that alone was in flight
-    pub record IsServing (key : ℕ) (v : State) (given : Given) (d : Blocks) : Type 0 where
+    pub record IsServing (number : ℕ) (v : State) (given : Given) (d : Blocks) : Type 0 where
       pub sound : IsSound sets ways v
-      pub only : IsAlone v.flights key
+      pub only : IsAlone v.flights number
       pub range : v.sent ≤ 18446744073709551583
-      pub here : in_flight v.flights key ≡ Some (Get q.requester q.block q.kind q.stamp)
+      pub here : in_flight v.flights number ≡ Some (Get q.requester q.block q.kind q.stamp)
       pub answers : Answers (Some (answer_to v.directory q given)) (row_of v.directory (Get q.requester q.block q.kind q.stamp)) q.block v.directory d
       pub used : KeepsUsed d
 
@@ -661,7 +613,7 @@ module _ (sets ways : ℕ) where
     is_asked d given read xs lent old new settled words seats =
         subst₂ (λ (content : Block) (before : List Seat). Answered sets q (record { give = given.give; content = content; expect = names given.expect }) xs before new settled) words seats
 
-    module _ (key : ℕ) (v : State) (given : Given) (d : Blocks) (s : IsServing key v given d) where
+    module _ (number : ℕ) (v : State) (given : Given) (d : Blocks) (s : IsServing number v given d) where
       abbrev pub granted : Granted
       granted = record { give = given.give; content = memory_at v.directory q.block; expect = names given.expect }
 
@@ -675,25 +627,25 @@ module _ (sets ways : ℕ) where
       grant_flight = record { message = coded.Grant q.requester q.block given.give (memory_at v.directory q.block) given.expect; number = v.sent }
 
       -- it isn't held
-      free : is_held (shown sets v) (shown_message s.only.flight.message) ≡ false
+      free : is_held (shown sets v) (shown_message s.only.0.message) ≡ false
       free =
-          let same : shown_message s.only.flight.message ≡ Get q.requester q.block q.kind q.stamp = same_Some (shown_message s.only.flight.message) (Get q.requester q.block q.kind q.stamp)
-          (sym (ap (λ o. option_map shown_message (option_map (λ (f : Flight). f.message) o)) s.only.here) ∙ s.here) in
+          let same : shown_message s.only.0.message ≡ Get q.requester q.block q.kind q.stamp = same_Some (shown_message s.only.0.message) (Get q.requester q.block q.kind q.stamp)
+          (sym (ap (λ o. option_map shown_message (option_map (λ (f : Flight). f.message) o)) (alone_here v.flights number s.only)) ∙ s.here) in
           subst (λ m. is_held (shown sets v) m ≡ false) (sym same) (not_busy (entry_at v.directory q.block).busy _ _ _ s.answers)
 
       -- it arrives
-      abbrev pub behind_get : List (Option Flight) → ℕ → State
+      abbrev pub behind_get : List Flight → ℕ → State
       behind_get flights next = record v { directory = d; flights = flights; sent = next }
 
-      get_goes : (xs : List (ℕ × ForwardAnswer)) (flights : List (Option Flight)) (next : ℕ) → forwarded ≡ forwards_to q xs → SendsOn nothing v.sent (told ∷ forwards_to q xs) (mail_of flights) next
+      get_goes : (xs : List (ℕ × ForwardAnswer)) (flights : List Flight) (next : ℕ) → forwarded ≡ forwards_to q xs → SendsOn nothing v.sent (told ∷ forwards_to q xs) (mail_of flights) next → AreInOrder flights
           → Arrives (geometry sets ways) v (get_arrival q granted xs) (behind_get flights next) × IsSound sets ways (behind_get flights next)
-      get_goes xs flights next are sends =
+      get_goes xs flights next are sends order =
           let w : State = behind_get flights next in
-          let taken : SendsOn (put_at key None (mail_of v.flights)) v.sent (told ∷ forwards_to q xs) (mail_of flights) next =
-          subst (λ mail. SendsOn mail v.sent (told ∷ forwards_to q xs) (mail_of flights) next) (sym (emptied v.flights key s.only)) sends in
-          let made = follows sets ways key v w (coded.Get q.requester q.block q.kind q.stamp) (answer_to v.directory q given) s.sound s.here refl s.answers s.used refl refl refl
-          (subst (λ ms. SendsOn (put_at key None (mail_of v.flights)) v.sent (told ∷ ms) (mail_of flights) next) (sym are) taken) in
-          (told_there key v w (Get q.requester q.block q.kind q.stamp) (told ∷ forwards_to q xs) s.here refl refl taken (oldest_alone (shown sets v) v.flights key s.only free) made.0, made.1)
+          let taken : SendsOn (put_at number None (mail_of v.flights)) v.sent (told ∷ forwards_to q xs) (mail_of flights) next =
+          subst (λ mail. SendsOn mail v.sent (told ∷ forwards_to q xs) (mail_of flights) next) (sym (emptied v.flights number s.only)) sends in
+          let made = follows sets ways number v w (coded.Get q.requester q.block q.kind q.stamp) (answer_to v.directory q given) s.sound s.here refl s.answers s.used refl refl refl
+          (subst (λ ms. SendsOn (put_at number None (mail_of v.flights)) v.sent (told ∷ ms) (mail_of flights) next) (sym are) taken) order in
+          (told_there number v w (Get q.requester q.block q.kind q.stamp) (told ∷ forwards_to q xs) s.here refl refl taken (oldest_alone (shown sets v) v.flights number s.only free) made.0, made.1)
 
       -- and then others do: until it is known how it ends, these
       abbrev pub Begins : List (ℕ × ForwardAnswer) → List Arrival → State → Type 0
@@ -706,82 +658,87 @@ module _ (sets ways : ℕ) where
       abbrev pub so_many : ℕ → ℕ
       so_many k = v.sent + 1 + (k + k)
 
-      abbrev pub behind : ℕ → List Seat → Settled → List (Option Flight) → State
-      behind k seats settled left = record v { seats = seats; directory = d; flights = ending left q.requester (so_many k) settled; sent = number_by (so_many k) settled }
+      abbrev pub behind : ℕ → List Seat → Settled → State
+      behind k seats settled = record v { seats = seats; directory = d; flights = ending q.requester (so_many k) settled; sent = number_by (so_many k) settled }
 
-      module _ (seats : List Seat) (settled : Settled) (left : List (Option Flight)) (empty : mail_of left ≡ nothing) where
+      module _ (seats : List Seat) (settled : Settled) where
         -- nobody is asked
-        none_asked : (first : Settled) (waiting : List Seat) → forwarded ≡ [] → Settles sets q.requester told v.seats waiting first → seats ≡ waiting → settled ≡ first → Begins [] (so_far [] settled) (behind 0 seats settled left)
+        none_asked : (first : Settled) (waiting : List Seat) → forwarded ≡ [] → Settles sets q.requester told v.seats waiting first → seats ≡ waiting → settled ≡ first → Begins [] (so_far [] settled) (behind 0 seats settled)
         none_asked first waiting none grants same is =
             let n : ℕ = number_after v.sent in
             let many : n ≡ so_many 0 = omega (arith, s.range) in
-            let F : List (Option Flight) = alone grant_flight in
+            let range : n < 18446744073709551615 = omega (arith, s.range) in
+            let F : List Flight = alone grant_flight in
             let u : State = behind_get F n in
-            let w : State = at u seats (ending left q.requester n settled) (number_by n settled) in
-            let get = get_goes [] F n none (send_one grant_flight told v.sent refl refl) in
+            let w : State = at u seats (ending q.requester n settled) (number_by n settled) in
+            let get = get_goes [] F n none (send_one grant_flight told v.sent (omega (arith, s.range)) refl refl) (row_order v.sent F (suc v.sent) (refl, refl)) in
             let h : Settles sets q.requester told v.seats seats settled = subst₂ (λ (l : List Seat) (t : Settled). Settles sets q.requester told v.seats l t) (sym same) (sym is) grants in
-            let grant : Goes u (grant_arrival q granted [] settled ∷ []) w = heard 0 q.requester u told seats w.flights w.sent (λ i. done_of i settled) (λ i. None) get.1 h refl refl
-            (subst (λ mail. SendsOn mail n (option_to_list (done_of q.requester settled)) (mail_of w.flights) w.sent) (sym (emptied F 0 (alone_is grant_flight))) (sends_end left q.requester n settled empty))
-            (oldest_at (shown sets u) [] [] grant_flight refl (λ j f is_it. absurd (none-some f is_it)) (λ j f is_it. absurd (none-some f is_it))) in
-            subst (λ k. Begins [] (so_far [] settled) (at u seats (ending left q.requester k settled) (number_by k settled))) many (u, get.0, refl, grant)
+            let grant : Goes u (grant_arrival q granted [] settled ∷ []) w = heard v.sent q.requester u told seats w.flights w.sent (λ i. done_of i settled) (λ i. None) get.1 h (first_here grant_flight []) refl
+            (subst (λ mail. SendsOn mail n (option_to_list (done_of q.requester settled)) (mail_of w.flights) w.sent) (taken_first grant_flight [] (suc v.sent) refl) (sends_end q.requester n settled range))
+            (end_order q.requester n settled) (oldest_first (shown sets u) grant_flight [] (suc v.sent) refl refl) in
+            subst (λ k. Begins [] (so_far [] settled) (at u seats (ending q.requester k settled) (number_by k settled))) many (u, get.0, refl, grant)
 
         -- some are
         some_asked : (x : ℕ × ForwardAnswer) (xs : List (ℕ × ForwardAnswer)) (first : Settled) (waiting mid : List Seat) → suc (length xs) ≤ 8 → forwarded ≡ forwards_to q (x ∷ xs)
             → Settles sets q.requester told v.seats waiting first → AllAsked (x ∷ xs) waiting mid → AllTold (x ∷ xs) mid first seats settled
-            → Begins (x ∷ xs) (so_far (x ∷ xs) settled) (behind (suc (length xs)) seats settled left)
+            → Begins (x ∷ xs) (so_far (x ∷ xs) settled) (behind (suc (length xs)) seats settled)
         some_asked x xs first waiting mid few are grants asks tells =
             let k : ℕ = suc (length xs) in
             let n : ℕ = v.sent + 1 + k in
-            let fs : List (Option Flight) = forwards_from (suc v.sent) (x ∷ xs) in
-            let G : List (Option Flight) = Some grant_flight ∷ fs in
+            let fs : List Flight = forwards_from (suc v.sent) (x ∷ xs) in
+            let G : List Flight = grant_flight ∷ fs in
             let next : suc v.sent ≡ number_after v.sent = omega (arith, s.range) in
             let count : suc v.sent + k ≡ n = omega arith in
+            let row : IsRow (suc v.sent) fs n = forwards_row (suc v.sent) (x ∷ xs) n count in
+            let low : v.sent < 18446744073709551615 = omega (arith, s.range) in
             let sends : SendsOn nothing v.sent (told ∷ forwards_to q (x ∷ xs)) (mail_of G) n = (
-              0,
+              v.sent,
               grant_flight,
-              record { free = refl; lowest = λ other below. absurd (omega (arith, below)) },
+              next_in v.sent [] v.sent refl low,
               refl,
               refl,
-              subst₂ (λ mail l. SendsOn mail l (forwards_to q (x ∷ xs)) (mail_of G) n) (first_sent grant_flight) next
+              subst₂ (λ mail l. SendsOn mail l (forwards_to q (x ∷ xs)) (mail_of G) n) (added v.sent [] v.sent grant_flight refl refl) next
                   (subst (λ l. SendsOn (mail_of (alone grant_flight)) (suc v.sent) (forwards_to q (x ∷ xs)) (mail_of G) l) count
-                  (sends_forwards (x ∷ xs) (alone grant_flight) (suc v.sent) (full_more [] grant_flight (λ j below. absurd (omega (arith, below)))) (omega (arith, s.range, few)))),
+                  (sends_forwards (x ∷ xs) v.sent (alone grant_flight) (suc v.sent) (refl, refl) (omega (arith, s.range, few)))),
             ) in
-            let get = get_goes (x ∷ xs) G n are sends in
+            let get = get_goes (x ∷ xs) G n are sends (row_order v.sent G n (refl, row)) in
             let u : State = behind_get G n in
-            let awaits : (g : Flight) (l : ℕ) → IsSound sets ways (at u waiting (Some g ∷ fs) l) → (hart_at sets waiting q.requester).request ≡ None → ⊥ =
-            λ g l also. waits_forwarded 1 x.0 q.block q.requester q.kind q.stamp (at u waiting (Some g ∷ fs) l) also refl in
-            let grant : Goes u (grant_arrival q granted (x ∷ xs) settled ∷ []) (at u waiting (None ∷ fs) n) =
-            waits_on [] fs fs grant_flight told n q.requester u v.seats waiting get.1 refl refl refl (grant_is q.requester q.block granted) awaits first grants
-            (oldest_at (shown sets u) [] fs grant_flight refl (λ j f is_it. absurd (none-some f is_it)) (above_forwards v.sent (suc v.sent) (x ∷ xs) (omega arith))) in
-            let ask = forward_phase (x ∷ xs) [] (v.sent + k) (suc v.sent) n u waiting mid (λ j below. absurd (omega (arith, below))) (λ j f is_it. absurd (none-some f is_it)) (omega arith) (omega arith) (omega (arith, s.range, few)) grant.1 asks in
-            let tell = answer_phase x xs [] n (n + k) u mid first seats settled left (λ j. refl) empty ask.1 tells in
-            let last : State = at u seats (ending left q.requester (n + k) settled) (number_by (n + k) settled) in
-            let behind_grant = at u waiting (None ∷ fs) n in
+            let awaits : (g : Flight) (l : ℕ) → IsSound sets ways (at u waiting (fs ++ g ∷ []) l) → (hart_at sets waiting q.requester).request ≡ None → ⊥ =
+            λ g l also. waits_forwarded (suc v.sent) x.0 q.block q.requester q.kind q.stamp (at u waiting (fs ++ g ∷ []) l) also
+            (first_here (forward_flight x.0 (suc v.sent)) (forwards_from (suc (suc v.sent)) xs ++ g ∷ [])) in
+            let granted_first : Goes u (grant_arrival q granted (x ∷ xs) settled ∷ []) (at u waiting fs n) =
+            waits_on fs grant_flight told n q.requester u v.seats waiting get.1 row (omega (arith, s.range, few)) refl refl (grant_is q.requester q.block granted) awaits first grants
+            (oldest_first (shown sets u) grant_flight fs n refl row) in
+            let behind_grant = at u waiting (fs ++ []) n in
+            let grant : Goes u (grant_arrival q granted (x ∷ xs) settled ∷ []) behind_grant = subst (λ l. Goes u (grant_arrival q granted (x ∷ xs) settled ∷ []) (at u waiting l n)) (sym (append-nil fs)) granted_first in
+            let ask = forward_phase (x ∷ xs) (suc v.sent) n [] n u waiting mid count refl (omega (arith, s.range, few)) grant.1 asks in
+            let tell = answer_phase x xs n (n + k) u mid first seats settled refl (omega (arith, s.range, few)) ask.1 tells in
+            let last : State = at u seats (ending q.requester (n + k) settled) (number_by (n + k) settled) in
             let all : Goes u (so_far (x ∷ xs) settled) last = go_on u behind_grant last (grant_arrival q granted (x ∷ xs) settled ∷ []) (forward_arrivals q (x ∷ xs) ++ answer_arrivals q (x ∷ xs) settled) grant
-            (go_on behind_grant (at u mid (answers_from n (x ∷ xs) ++ None ∷ []) (n + k)) last (forward_arrivals q (x ∷ xs)) (answer_arrivals q (x ∷ xs) settled) ask tell) in
-            subst (λ (l : ℕ). Begins (x ∷ xs) (so_far (x ∷ xs) settled) (at u seats (ending left q.requester l settled) (number_by l settled))) (let many : n + k ≡ so_many k = omega arith in many) (u, get.0, refl, all)
+            (go_on behind_grant (at u mid (answers_from n (x ∷ xs)) (n + k)) last (forward_arrivals q (x ∷ xs)) (answer_arrivals q (x ∷ xs) settled) ask tell) in
+            subst (λ (l : ℕ). Begins (x ∷ xs) (so_far (x ∷ xs) settled) (at u seats (ending q.requester l settled) (number_by l settled))) (let many : n + k ≡ so_many k = omega arith in many) (u, get.0, refl, all)
 
         by_order : (xs : List (ℕ × ForwardAnswer)) (first : Settled) (waiting mid : List Seat) → length xs ≤ 8 → forwarded ≡ forwards_to q xs
-            → Settles sets q.requester told v.seats waiting first → AllAsked xs waiting mid → AllTold xs mid first seats settled → Begins xs (so_far xs settled) (behind (length xs) seats settled left)
+            → Settles sets q.requester told v.seats waiting first → AllAsked xs waiting mid → AllTold xs mid first seats settled → Begins xs (so_far xs settled) (behind (length xs) seats settled)
         by_order [] first waiting mid few are grants asks (same, is) = none_asked first waiting are grants (same ∙ asks) is
         by_order (x ∷ xs) first waiting mid few are grants asks tells = some_asked x xs first waiting mid few are grants asks tells
 
-        pub answered : (xs : List (ℕ × ForwardAnswer)) → length xs ≤ 8 → forwarded ≡ forwards_to q xs → Answered sets q granted xs v.seats seats settled → Begins xs (so_far xs settled) (behind (length xs) seats settled left)
+        pub answered : (xs : List (ℕ × ForwardAnswer)) → length xs ≤ 8 → forwarded ≡ forwards_to q xs → Answered sets q granted xs v.seats seats settled → Begins xs (so_far xs settled) (behind (length xs) seats settled)
         answered xs few are (first, waiting, grants, answers) =
             let on = reorder xs waiting first seats settled answers in by_order xs first waiting on.0 few are grants on.1 on.2
 
         -- and its end, if it has ended
         abbrev pub served : ℕ → Blocks → State
-        served k new = record v { seats = seats; directory = new; flights = left; sent = number_by (so_many k) settled }
+        served k new = record v { seats = seats; directory = new; flights = []; sent = number_by (so_many k) settled }
 
         pub whole : (xs : List (ℕ × ForwardAnswer)) (new : Blocks) (number : ℕ) → length xs ≤ 8 → forwarded ≡ forwards_to q xs → Answered sets q granted xs v.seats seats settled
             → Ends (done_of q.requester settled) d new number → Begins xs (arrivals_behind q granted xs settled) (served (length xs) new)
         whole xs new number few are asks ended = by (answered xs few are asks)
           where
-            by : Begins xs (so_far xs settled) (behind (length xs) seats settled left) → Begins xs (arrivals_behind q granted xs settled) (served (length xs) new)
+            by : Begins xs (so_far xs settled) (behind (length xs) seats settled) → Begins xs (arrivals_behind q granted xs settled) (served (length xs) new)
             by (u, first, same, gone) =
-                let rest = ends (record v { seats = seats; directory = d; sent = number_by (so_many (length xs)) settled }) left empty q.requester (so_many (length xs)) new settled number gone.1 ended in
-                (u, first, same, go_on u (behind (length xs) seats settled left) (served (length xs) new) (so_far xs settled) (end_arrivals (end_of q settled)) gone rest)
+                let rest = ends (record v { seats = seats; directory = d; sent = number_by (so_many (length xs)) settled }) q.requester (so_many (length xs)) new settled number gone.1 ended in
+                (u, first, same, go_on u (behind (length xs) seats settled) (served (length xs) new) (so_far xs settled) (end_arrivals (end_of q settled)) gone rest)
 
         pub numbered : (k : ℕ) (new : Blocks) (number : ℕ) → Ends (done_of q.requester settled) d new number → k ≤ 8 → number_by (so_many k) settled ≡ min (v.sent + (1 + (k + k) + number)) 18446744073709551615
         numbered k new number ended few = by settled ended
@@ -799,12 +756,12 @@ module _ (sets ways : ℕ) where
       -- the block that it was for is in memory
       pub end_inside : (seats : List Seat) (settled : Settled) (xs : List (ℕ × ForwardAnswer)) → length xs ≤ 8 → forwarded ≡ forwards_to q xs → Answered sets q granted xs v.seats seats settled
           → IfSome (done_of q.requester settled) (λ m. block_of m < length d.memory)
-      end_inside seats settled xs few are asks = by settled (last (answered seats settled [] (fun_ext (λ j. refl)) xs few are asks))
+      end_inside seats settled xs few are asks = by settled (last (answered seats settled xs few are asks))
         where
-          last : Begins xs (so_far xs settled) (behind (length xs) seats settled []) → IsSound sets ways (behind (length xs) seats settled [])
+          last : Begins xs (so_far xs settled) (behind (length xs) seats settled) → IsSound sets ways (behind (length xs) seats settled)
           last (u, first, same, gone) = gone.1
 
-          by : (t : Settled) → IsSound sets ways (record v { seats = seats; directory = d; flights = ending [] q.requester (so_many (length xs)) t; sent = number_by (so_many (length xs)) t }) → IfSome (done_of q.requester t) (λ m. block_of m < length d.memory)
+          by : (t : Settled) → IsSound sets ways (record v { seats = seats; directory = d; flights = ending q.requester (so_many (length xs)) t; sent = number_by (so_many (length xs)) t }) → IfSome (done_of q.requester t) (λ m. block_of m < length d.memory)
           by request.Waiting also = tt
-          by (request.Refused b) also = block_inside sets ways 0 _ (Done q.requester b false None) also refl
-          by (request.Granted b content) also = block_inside sets ways 0 _ (Done q.requester b true content) also refl
+          by (request.Refused b) also = block_inside sets ways (so_many (length xs)) _ (Done q.requester b false None) also (first_here _ [])
+          by (request.Granted b content) also = block_inside sets ways (so_many (length xs)) _ (Done q.requester b true content) also (first_here _ [])

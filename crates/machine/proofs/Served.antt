@@ -11,6 +11,7 @@ use Rattle.protocol.specs.Messages.{Block, Message as Told, Get, Put, Done, Gran
 use Rattle.protocol.specs.Network.{taken}
 use Rattle.protocol.specs.Directory.{Busy, DirEntry, Served, directory_row, done_of, done_row, done_refused_row, unchanged}
 use Rattle.protocol.specs.Machine.{served_change, directory_change}
+use Rattle.network.specs.Flights.{AreInOrder}
 use Rattle.directory.specs.Blocks.{Blocks, KeepsUsed, entry_at, row_of, sender_of, SetsBlock, Answers}
 use Rattle.directory.specs.Sends.{messages_in}
 use Rattle.directory.specs.declared.received.Answer.{Answer}
@@ -32,11 +33,11 @@ use Rattle.machine.proofs.Deliveries.{arrives}
 -- What a message to the directory is about
 
 -- its block is in memory
-pub block_inside : (sets ways key : ℕ) (v : State) (m : Told) → IsSound sets ways v → in_flight v.flights key ≡ Some m → block_of m < length v.directory.memory
-block_inside sets ways key v m sound here =
+pub block_inside : (sets ways number : ℕ) (v : State) (m : Told) → IsSound sets ways v → in_flight v.flights number ≡ Some m → block_of m < length v.directory.memory
+block_inside sets ways number v m sound here =
     let b = sound.belongs in
     let within : IsWithinMemory (shown sets v) = run_within (geometry sets ways) b.setting b.entry b.steps b.entries (shown sets v) b.run in
-    let inside : block_bytes * block_of m < block_bytes * length v.directory.memory = within.messages key m here in
+    let inside : block_bytes * block_of m < block_bytes * length v.directory.memory = within.messages number m here in
     omega (arith, inside)
 
 -- its sender is a hart
@@ -50,11 +51,11 @@ sender_of_it n (PutAck to block) lt = tt {0}
 sender_of_it n (Ack from to block content) lt = tt {0}
 sender_of_it n (Nack from to block stamp) lt = tt {0}
 
-pub sender_inside : (sets ways key : ℕ) (v : State) (m : Told) → IsSound sets ways v → in_flight v.flights key ≡ Some m → IfSome (sender_of m) (λ h. h < v.directory.harts)
-sender_inside sets ways key v m sound here =
+pub sender_inside : (sets ways number : ℕ) (v : State) (m : Told) → IsSound sets ways v → in_flight v.flights number ≡ Some m → IfSome (sender_of m) (λ h. h < v.directory.harts)
+sender_inside sets ways number v m sound here =
     let i = inv_of (geometry sets ways) sound.flat (shown sets v) sound.belongs in
     let facts : IsAwaited (shown sets v) = awaited (world (shown sets v) sound.flat sound.belongs.entries i.0) i.1 in
-    sender_of_it v.directory.harts m (subst (λ n. whose m < n) sound.count (facts.from_hart m (key, here)))
+    sender_of_it v.directory.harts m (subst (λ n. whose m < n) sound.count (facts.from_hart m (number, here)))
 
 -- Memory
 
@@ -69,39 +70,40 @@ same_words old new b size e = at (cases_lt b (length old))
 -- The directory
 
 -- what the directory made of a message, and the machine of it
-pub record Serves (key : ℕ) (v w : State) (m : Message) (s : Served) : Type 0 where
+pub record Serves (number : ℕ) (v w : State) (m : Message) (s : Served) : Type 0 where
   pub program : w.program ≡ v.program
   pub seats : w.seats ≡ v.seats
   pub stamps : w.stamps ≡ v.stamps
   pub row : row_of v.directory (shown_message m) ≡ Some s
   pub block : SetsBlock v.directory w.directory (block_of (shown_message m)) s.entry s.memory
   pub used : KeepsUsed w.directory
-  pub sends : SendsOn (put_at key None (mail_of v.flights)) v.sent s.sent (mail_of w.flights) w.sent
+  pub order : AreInOrder w.flights
+  pub sends : SendsOn (put_at number None (mail_of v.flights)) v.sent s.sent (mail_of w.flights) w.sent
 
 -- the row, as the protocol's machine has it
-row_is : (sets ways key : ℕ) (v : State) (m : Message) → IsSound sets ways v → in_flight v.flights key ≡ Some (shown_message m)
+row_is : (sets ways number : ℕ) (v : State) (m : Message) → IsSound sets ways v → in_flight v.flights number ≡ Some (shown_message m)
     → directory_row (length v.seats) (shown_message m) (entry_at v.directory (block_of (shown_message m))) (words_of v.directory.memory (block_of (shown_message m))) ≡ row_of v.directory (shown_message m)
-row_is sets ways key v m sound here =
+row_is sets ways number v m sound here =
     let b : ℕ = block_of (shown_message m) in
-    (λ k. directory_row (sound.count k) (shown_message m) (entry_at v.directory b) (within v.directory.memory b (replicate block_words 0) [] (block_inside sets ways key v (shown_message m) sound here) k))
+    (λ k. directory_row (sound.count k) (shown_message m) (entry_at v.directory b) (within v.directory.memory b (replicate block_words 0) [] (block_inside sets ways number v (shown_message m) sound here) k))
 
 -- a message that is held stays in flight
-pub holds : (sets ways key : ℕ) (v : State) (m : Message) → IsSound sets ways v → in_flight v.flights key ≡ Some (shown_message m) → receiver_of (shown_message m) ≡ None
-    → row_of v.directory (shown_message m) ≡ None → MakesStep (geometry sets ways) v (Deliver key) None v
-holds sets ways key v m sound here goes held = arrives sets ways key v (shown_message m) None None v here goes (seats_stay sets v v refl) (logs_stay v v refl) sound.kept
-    (subst (λ o. BringsAbout sets v (served_change key (block_of (shown_message m)) o (shown sets v)) None v) (sym (row_is sets ways key v m sound here ∙ held)) (nothing sets v))
+pub holds : (sets ways number : ℕ) (v : State) (m : Message) → IsSound sets ways v → in_flight v.flights number ≡ Some (shown_message m) → receiver_of (shown_message m) ≡ None
+    → row_of v.directory (shown_message m) ≡ None → MakesStep (geometry sets ways) v (Deliver number) None v
+holds sets ways number v m sound here goes held = arrives sets ways number v (shown_message m) None None v here goes (seats_stay sets v v refl) (logs_stay v v refl) sound.kept sound.order
+    (subst (λ o. BringsAbout sets v (served_change number (block_of (shown_message m)) o (shown sets v)) None v) (sym (row_is sets ways number v m sound here ∙ held)) (nothing sets v))
 
 -- and one that is served is taken, and the answers are sent
-pub serves : (sets ways key : ℕ) (v w : State) (m : Message) (s : Served) → IsSound sets ways v → in_flight v.flights key ≡ Some (shown_message m) → receiver_of (shown_message m) ≡ None
-    → Serves key v w m s → MakesStep (geometry sets ways) v (Deliver key) None w × IsSound sets ways w
-serves sets ways key v w m s sound here goes d = (made, kept)
+pub serves : (sets ways number : ℕ) (v w : State) (m : Message) (s : Served) → IsSound sets ways v → in_flight v.flights number ≡ Some (shown_message m) → receiver_of (shown_message m) ≡ None
+    → Serves number v w m s → MakesStep (geometry sets ways) v (Deliver number) None w × IsSound sets ways w
+serves sets ways number v w m s sound here goes d = (made, kept)
   where
     b : ℕ
     b = block_of (shown_message m)
 
     memory : words_of w.directory.memory ≡ put_at b s.memory (words_of v.directory.memory)
     memory = changed_at b s.memory (words_of v.directory.memory) (words_of w.directory.memory)
-        (within w.directory.memory b (replicate block_words 0) [] (omega (arith, d.block.size, block_inside sets ways key v (shown_message m) sound here)) ∙ d.block.memory)
+        (within w.directory.memory b (replicate block_words 0) [] (omega (arith, d.block.size, block_inside sets ways number v (shown_message m) sound here)) ∙ d.block.memory)
         (λ j ne. same_words v.directory.memory w.directory.memory j d.block.size (d.block.memories j ne))
 
     setting : setting_of w ≡ setting_of v
@@ -117,22 +119,23 @@ serves sets ways key v w m s sound here goes d = (made, kept)
       stamps = d.stamps k;
     }
 
-    about : BringsAbout sets v (directory_change b s (record (shown sets v) { net = taken key (in_flight v.flights) })) None w
-    about = record { entry = refl; machine = same; left = put_at key None (mail_of v.flights); leaves = left_without key v.flights; sends = d.sends }
+    about : BringsAbout sets v (directory_change b s (record (shown sets v) { net = taken number (in_flight v.flights) })) None w
+    about = record { entry = refl; machine = same; left = put_at number None (mail_of v.flights); leaves = left_without number v.flights; sends = d.sends }
 
-    made : MakesStep (geometry sets ways) v (Deliver key) None w
-    made = arrives sets ways key v (shown_message m) None None w here goes (seats_stay sets v w d.seats) (logs_stay v w d.seats) d.used
-        (subst (λ o. BringsAbout sets v (served_change key b o (shown sets v)) None w) (sym (row_is sets ways key v m sound here ∙ d.row)) about)
+    made : MakesStep (geometry sets ways) v (Deliver number) None w
+    made = arrives sets ways number v (shown_message m) None None w here goes (seats_stay sets v w d.seats) (logs_stay v w d.seats) d.used d.order
+        (subst (λ o. BringsAbout sets v (served_change number b o (shown sets v)) None w) (sym (row_is sets ways number v m sound here ∙ d.row)) about)
 
     kept : IsSound sets ways w
     kept =
-        let next = belongs_next (geometry sets ways) sound.flat (shown sets v) (shown sets w) (Deliver key) None sound.belongs (steps_of (geometry sets ways) v (Deliver key) None w made) in
+        let next = belongs_next (geometry sets ways) sound.flat (shown sets v) (shown sets w) (Deliver number) None sound.belongs (steps_of (geometry sets ways) v (Deliver number) None w made) in
         record {
           some_way = sound.some_way;
           fits = sound.fits;
           count = ap length d.seats ∙ sound.count ∙ sym d.block.harts;
           seats = λ i seat at. subst (λ set. IsSeated set i seat.hart) (sym setting) (sound.seats i seat (sym (ap (λ l. slice_get l i) d.seats) ∙ at));
           kept = d.used;
+          order = d.order;
           flat = next.0;
           belongs = next.2;
         }
@@ -148,18 +151,18 @@ done_silent (Some q) from ok content e memory = by (q.requester == from) ok
     by false ok = refl
 
 -- the same, of what the directory has answered
-pub follows : (sets ways key : ℕ) (v w : State) (m : Message) (answer : Answer) → IsSound sets ways v → in_flight v.flights key ≡ Some (shown_message m) → receiver_of (shown_message m) ≡ None
+pub follows : (sets ways number : ℕ) (v w : State) (m : Message) (answer : Answer) → IsSound sets ways v → in_flight v.flights number ≡ Some (shown_message m) → receiver_of (shown_message m) ≡ None
     → Answers (Some answer) (row_of v.directory (shown_message m)) (block_of (shown_message m)) v.directory w.directory → KeepsUsed w.directory
-    → w.program ≡ v.program → w.seats ≡ v.seats → w.stamps ≡ v.stamps → SendsOn (put_at key None (mail_of v.flights)) v.sent (messages_in v.directory.harts answer) (mail_of w.flights) w.sent
-    → MakesStep (geometry sets ways) v (Deliver key) None w × IsSound sets ways w
-follows sets ways key v w m answer sound here goes f used program seats stamps sends = at (row_of v.directory (shown_message m)) refl f
+    → w.program ≡ v.program → w.seats ≡ v.seats → w.stamps ≡ v.stamps → SendsOn (put_at number None (mail_of v.flights)) v.sent (messages_in v.directory.harts answer) (mail_of w.flights) w.sent
+    → AreInOrder w.flights → MakesStep (geometry sets ways) v (Deliver number) None w × IsSound sets ways w
+follows sets ways number v w m answer sound here goes f used program seats stamps sends order = at (row_of v.directory (shown_message m)) refl f
   where
     at : (row : Option Served) → row_of v.directory (shown_message m) ≡ row → Answers (Some answer) row (block_of (shown_message m)) v.directory w.directory
-        → MakesStep (geometry sets ways) v (Deliver key) None w × IsSound sets ways w
+        → MakesStep (geometry sets ways) v (Deliver number) None w × IsSound sets ways w
     at None is none = absurd none
-    at (Some s) is (told, block) = serves sets ways key v w m s sound here goes (record { program = program; seats = seats; stamps = stamps; row = is; block = block; used = used; sends = subst (λ ms. SendsOn (put_at key None (mail_of v.flights)) v.sent ms (mail_of w.flights) w.sent) told sends })
+    at (Some s) is (told, block) = serves sets ways number v w m s sound here goes (record { program = program; seats = seats; stamps = stamps; row = is; block = block; used = used; order = order; sends = subst (λ ms. SendsOn (put_at number None (mail_of v.flights)) v.sent ms (mail_of w.flights) w.sent) told sends })
 
 -- or has held
-pub held : (sets ways key : ℕ) (v : State) (m : Message) (new : Blocks) → IsSound sets ways v → in_flight v.flights key ≡ Some (shown_message m) → receiver_of (shown_message m) ≡ None
-    → Answers None (row_of v.directory (shown_message m)) (block_of (shown_message m)) v.directory new → MakesStep (geometry sets ways) v (Deliver key) None v
-held sets ways key v m new sound here goes f = holds sets ways key v m sound here goes f.0
+pub held : (sets ways number : ℕ) (v : State) (m : Message) (new : Blocks) → IsSound sets ways v → in_flight v.flights number ≡ Some (shown_message m) → receiver_of (shown_message m) ≡ None
+    → Answers None (row_of v.directory (shown_message m)) (block_of (shown_message m)) v.directory new → MakesStep (geometry sets ways) v (Deliver number) None v
+held sets ways number v m new sound here goes f = holds sets ways number v m sound here goes f.0

@@ -8,6 +8,7 @@ use Rattle.flat.proofs.Maps.{one_number, two_numbers}
 use Rattle.hart.specs.Parts.{Parts}
 use Rattle.hart.specs.Staying.{StaysPut}
 use Rattle.protocol.specs.Machine.{Steps}
+use Rattle.network.specs.Flights.{AreInOrder}
 use Rattle.directory.specs.Blocks.{KeepsUsed}
 use Rattle.isolation.proofs.Belongs.Belonging.{belongs_next}
 use Rattle.machine.specs.States.{Seat, State, shown, setting_of, geometry, IsSeated, IsSound}
@@ -36,8 +37,8 @@ all_seated i v w old new a all j s at = subst (λ set. IsSeated set j s.hart) (s
 
 -- after a step of one hart a flat state belongs to the machine, as before
 pub still_sound : (sets ways i : ℕ) (v w : State) (old new : Seat) (step : Step) (e : Option Entry) → IsSound sets ways v → Acts i v w old new
-    → Steps (geometry sets ways) (shown sets v) step e (shown sets w) → IsSound sets ways w
-still_sound sets ways i v w old new step e sound a steps =
+    → AreInOrder w.flights → Steps (geometry sets ways) (shown sets v) step e (shown sets w) → IsSound sets ways w
+still_sound sets ways i v w old new step e sound a order steps =
     let next = belongs_next (geometry sets ways) sound.flat (shown sets v) (shown sets w) step e sound.belongs steps in
     record {
       some_way = sound.some_way;
@@ -45,6 +46,7 @@ still_sound sets ways i v w old new step e sound a steps =
       count = count_after i v w old new a ∙ sound.count ∙ sym (ap (λ d. d.harts) a.directory);
       seats = all_seated i v w old new a sound.seats;
       kept = subst KeepsUsed (sym a.directory) sound.kept;
+      order = order;
       flat = next.0;
       belongs = next.2;
     }

@@ -16,6 +16,7 @@ use Rattle.hart.specs.declared.reply.Reply.{Reply}
 use Rattle.hart.specs.Places.{KeepsWays}
 use Rattle.hart.specs.Shown.{shown_hart}
 use Rattle.hart.specs.Rows.{replied}
+use Rattle.network.specs.Flights.{AreInOrder}
 use Rattle.directory.specs.Blocks.{KeepsUsed, entry_at}
 use Rattle.machine.specs.Mail.{Mail, SendsOn, IsLeft, in_flight, mail_of}
 use Rattle.machine.specs.Making.{BringsAbout, MakesStep}
@@ -99,16 +100,16 @@ evict_row_of sets ways i b v w old new r sound a does =
 -- a line is given up
 pub evicts : (sets ways i b : ℕ) (v w : State) (old new : Seat) (r : Reply) → IsSound sets ways v → Acts i v w old new → new.output ≡ old.output → w.stamps ≡ v.stamps
     → KeepsWays sets old.hart.cache new.hart.cache → EvictsAs sets b old new (Some r) → SendsOn (mail_of v.flights) v.sent (option_to_list (option_map shown_message r.message)) (mail_of w.flights) w.sent
-    → MakesStep (geometry sets ways) v (Evict i b) r.entry w × IsSound sets ways w
-evicts sets ways i b v w old new r sound a output stamps keeps does sends =
+    → AreInOrder w.flights → MakesStep (geometry sets ways) v (Evict i b) r.entry w × IsSound sets ways w
+evicts sets ways i b v w old new r sound a output stamps keeps does sends order =
     let t : HartResult = replied sets old.output new.hart r in
     let about = row_does sets i (evict_row i b (hart_at sets v.seats i)) t v w old new (evict_row_of sets ways i b v w old new (Some r) sound a does)
     (record { acts = a; hart = ap (λ o. shown_hart sets o new.hart) output; stamps = stamps; left = mail_of v.flights; leaves = all_left v.flights; sends = sends }) in
-    let made : MakesStep (geometry sets ways) v (Evict i b) r.entry w = record { may = tt {0}; made = about; ways = others_stay sets i v w old new a keeps; logs = other_logs_stay i v w old new a; kept = subst KeepsUsed (sym a.directory) sound.kept } in
-    (made, still_sound sets ways i v w old new (Evict i b) r.entry sound a (steps_of (geometry sets ways) v (Evict i b) r.entry w made))
+    let made : MakesStep (geometry sets ways) v (Evict i b) r.entry w = record { may = tt {0}; made = about; ways = others_stay sets i v w old new a keeps; logs = other_logs_stay i v w old new a; kept = subst KeepsUsed (sym a.directory) sound.kept; order = order } in
+    (made, still_sound sets ways i v w old new (Evict i b) r.entry sound a order (steps_of (geometry sets ways) v (Evict i b) r.entry w made))
 
 -- or that isn't enabled
 pub evicts_nothing : (sets ways i b : ℕ) (v w : State) (old new : Seat) → IsSound sets ways v → Acts i v w old new → EvictsAs sets b old new None
     → MakesStep (geometry sets ways) v (Evict i b) None v
 evicts_nothing sets ways i b v w old new sound a does =
-    record { may = tt {0}; made = row_rests sets i (evict_row i b (hart_at sets v.seats i)) v (evict_row_of sets ways i b v w old new None sound a does) a.number; ways = seats_stay sets v v refl; logs = logs_stay v v refl; kept = sound.kept }
+    record { may = tt {0}; made = row_rests sets i (evict_row i b (hart_at sets v.seats i)) v (evict_row_of sets ways i b v w old new None sound a does) a.number; ways = seats_stay sets v v refl; logs = logs_stay v v refl; kept = sound.kept; order = sound.order }

@@ -1,9 +1,8 @@
 -- What is read of machines that no step tells apart is the same.
-use Rattle.std.proofs.Common.{◌≡◌, ◌+◌, ◌-◌, ◌++◌, ◌∙◌, ℕ, Bool, cond, Option, Some, None, List, [], ◌∷◌, get_or, length, map, arith, refl, sym, ap, subst}
+use Rattle.std.proofs.Common.{◌≡◌, ◌-◌, ◌++◌, ◌∙◌, ℕ, Bool, cond, Option, Some, None, List, [], ◌∷◌, get_or, length, map, arith, refl, sym, ap}
 use Rattle.std.specs.Prelude.{slice_get}
 use Rattle.std.specs.List.{flat_map}
 use Rattle.std.specs.Option.{option_map}
-use Rattle.std.proofs.Math.Path.{fun_ext}
 use Rattle.std.proofs.lemmas.List.{length-map}
 use Rattle.std.proofs.lemmas.Option.{slice_get_within}
 use Rattle.words.specs.declared.entry.Step.{Step}
@@ -13,16 +12,14 @@ use Rattle.cache.specs.declared.line.Line.{Line}
 use Rattle.protocol.specs.Caches.{Geometry}
 use Rattle.protocol.specs.Directory.{DirEntry}
 use Rattle.protocol.specs.Machine.{Machine}
-use Rattle.protocol.specs.Network.{LiesBelow}
 use Rattle.protocol.specs.Values.{raw, peek, view}
-use Rattle.protocol.proofs.Keys.{same_raw, same_peek, same_view}
+use Rattle.network.proofs.OneOrder.{past}
 use Rattle.directory.specs.declared.entry.DirEntry.{DirEntry as CodedEntry}
 use Rattle.directory.specs.Entries.{shown_entry}
 use Rattle.machine.specs.Reads.{is_in_logs, hart_of_log, logged_word, log_word}
 use Rattle.machine.specs.States.{Seat, State, setting_of, shown}
 use Rattle.machine.specs.Twins.{AreTwins}
 use Rattle.machine.specs.Watch.{applies, IsEnabledByRule}
-use Rattle.machine.proofs.Answered.{all_below}
 use Rattle.machine.proofs.Places.{none_past}
 use Rattle.machine.proofs.Twins.{victims_are}
 
@@ -39,7 +36,7 @@ module _ (g : Geometry) (v w : State) (twins : AreTwins g v w) where
   pub twins_back : AreTwins g w v
   twins_back = record {
     machine = sym twins.machine;
-    mail = sym twins.mail;
+    flights = sym twins.flights;
     sent = sym twins.sent;
     kept = sym twins.kept;
     caches = λ i s t at is.
@@ -85,21 +82,12 @@ module _ (g : Geometry) (v w : State) (twins : AreTwins g v w) where
       words_are a i (slice_get v.seats i) (slice_get w.seats i) refl refl ∙ ap (λ (s : Setting). option_map (logged_word a) (slice_get w.seats (hart_of_log s a))) setting in
       λ k. cond (is_in_logs (setting k) a) (words k) None
 
-  -- bytes: the messages of both lie below the keys of either
-  below : LiesBelow (length v.flights) (shown g.sets w).net
-  below = subst (λ (m : Machine). LiesBelow (length v.flights) m.net) twins.machine (all_below v.flights)
+  -- bytes, by a number above those of all messages
+  pub raw_is : raw (past v.flights) (shown g.sets v) ≡ raw (past w.flights) (shown g.sets w)
+  raw_is = λ k. raw (past (twins.flights k)) (twins.machine k)
 
-  pub raw_is : raw (length v.flights) (shown g.sets v) ≡ raw (length w.flights) (shown g.sets w)
-  raw_is = ap (raw (length v.flights)) twins.machine ∙ fun_ext (λ a.
-      sym (same_raw (shown g.sets w) (length v.flights) (length v.flights + length w.flights) a below (omega arith))
-      ∙ same_raw (shown g.sets w) (length w.flights) (length v.flights + length w.flights) a (all_below w.flights) (omega arith))
+  pub peek_is : peek (past v.flights) (shown g.sets v) ≡ peek (past w.flights) (shown g.sets w)
+  peek_is = λ k. peek (past (twins.flights k)) (twins.machine k)
 
-  pub peek_is : peek (length v.flights) (shown g.sets v) ≡ peek (length w.flights) (shown g.sets w)
-  peek_is = ap (peek (length v.flights)) twins.machine ∙ fun_ext (λ a.
-      sym (same_peek (shown g.sets w) (length v.flights) (length v.flights + length w.flights) a below (omega arith))
-      ∙ same_peek (shown g.sets w) (length w.flights) (length v.flights + length w.flights) a (all_below w.flights) (omega arith))
-
-  pub view_is : (i : ℕ) → view (length v.flights) (shown g.sets v) i ≡ view (length w.flights) (shown g.sets w) i
-  view_is i = ap (λ (m : Machine). view (length v.flights) m i) twins.machine ∙ fun_ext (λ a.
-      sym (same_view (shown g.sets w) (length v.flights) (length v.flights + length w.flights) i a below (omega arith))
-      ∙ same_view (shown g.sets w) (length w.flights) (length v.flights + length w.flights) i a (all_below w.flights) (omega arith))
+  pub view_is : (i : ℕ) → view (past v.flights) (shown g.sets v) i ≡ view (past w.flights) (shown g.sets w) i
+  view_is i = λ k. view (past (twins.flights k)) (twins.machine k) i

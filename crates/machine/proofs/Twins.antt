@@ -12,6 +12,8 @@ use Rattle.words.specs.declared.entry.Step.TheVariants.{Core, Evict, Deliver}
 use Rattle.flat.specs.Bytes.{put_at}
 use Rattle.flat.specs.State.{idle}
 use Rattle.network.specs.declared.net.Flight.{Flight}
+use Rattle.network.specs.Flights.{number_after, IsNextNumber}
+use Rattle.network.proofs.OneOrder.{one_order}
 use Rattle.protocol.specs.Caches.{Geometry}
 use Rattle.protocol.specs.Messages.{Message, shown as shown_message}
 use Rattle.protocol.specs.Hart.{Hart}
@@ -31,7 +33,7 @@ use Rattle.hart.specs.Staying.{AreLoggedAlike}
 use Rattle.hart.specs.Shown.{shown_hart}
 use Rattle.hart.proofs.Bytes.{logged_alike_on}
 use Rattle.hart.proofs.Layouts.{laid_alike_on, laid_sound, laid_empty}
-use Rattle.machine.specs.Mail.{Mail, IsLowestFree, SendsOn, IsLeft, mail_of, number_after, without_numbers}
+use Rattle.machine.specs.Mail.{Mail, SendsOn, IsLeft, mail_of, without_numbers}
 use Rattle.machine.specs.Making.{MakesStep, change_by, victims}
 use Rattle.machine.specs.States.{Seat, State, shown, hart_at}
 use Rattle.machine.specs.Twins.{AreTwins}
@@ -53,18 +55,18 @@ left_at before (Some f) None one other same = absurd (cc)
 left_at before (Some f) (Some g) one other same = sym (one f refl) ∙ other g refl
 
 left_once : (before : Mail) (net : Network) (a b : Mail) → IsLeft before net a → IsLeft before net b → a ≡ b
-left_once before net a b one other = fun_ext (λ key. left_at (before key) (a key) (b key) (one.stays key) (other.stays key) (ap (λ (n : Network). n key) (one.messages ∙ sym other.messages)))
+left_once before net a b one other = fun_ext (λ number. left_at (before number) (a number) (b number) (one.stays number) (other.stays number) (ap (λ (n : Network). n number) (one.messages ∙ sym other.messages)))
 
 -- What is sent
 
 nothing : (o : Option Flight) → o ≡ None → IsSome o → ⊥
 nothing o none some = true≢false (sym some ∙ ap is_some none)
 
-one_key : (mail : Mail) (i j : ℕ) → IsLowestFree mail i → IsLowestFree mail j → i ≡ j
-one_key mail i j one other = elim (cases_lt i j) [
-  | inl below ↦ absurd (nothing (mail i) one.free (other.lowest i below))
+one_number : (mail : Mail) (n i j : ℕ) → IsNextNumber mail n i → IsNextNumber mail n j → i ≡ j
+one_number mail n i j one other = elim (cases_lt i j) [
+  | inl below ↦ absurd (nothing (mail j) other.free (one.greatest j below other.below))
   | inr le ↦ elim (cases_lt j i) [
-    | inl below ↦ absurd (nothing (mail j) other.free (one.lowest j below))
+    | inl below ↦ absurd (nothing (mail i) one.free (other.greatest i below one.below))
     | inr ge ↦ omega (arith, le, ge)
   ]
 ]
@@ -72,9 +74,9 @@ one_key mail i j one other = elim (cases_lt i j) [
 sent_once : (ms : List Message) (a x y : Mail) (n l k : ℕ) → SendsOn a n ms x l → SendsOn a n ms y k → (x ≡ y) × (l ≡ k)
 sent_once [] a x y n l k (at, is) (there, also) = (at ∙ sym there, is ∙ sym also)
 sent_once (m ∷ ms) a x y n l k (i, f, free, told, number, rest) (j, h, free_too, told_too, number_too, rest_too) =
-    let keys : i ≡ j = one_key a i j free free_too in
-    let flights : f ≡ h = one_flight f h (number ∙ sym number_too) (told ∙ sym told_too) in
-    let mails : put_at j (Some h) a ≡ put_at i (Some f) a = λ t. put_at (sym keys t) (Some (sym flights t)) a in
+    let numbers : i ≡ j = one_number a n i j free free_too in
+    let flights : f ≡ h = one_flight f h (number ∙ (numbers ∙ sym number_too)) (told ∙ sym told_too) in
+    let mails : put_at j (Some h) a ≡ put_at i (Some f) a = λ t. put_at (sym numbers t) (Some (sym flights t)) a in
     sent_once ms (put_at i (Some f) a) x y (number_after n) l k rest (subst (λ mail. SendsOn mail (number_after n) ms y k) mails rest_too)
 
 -- Seats
@@ -105,7 +107,7 @@ module _ (g : Geometry) (v w : State) (twins : AreTwins g v w) where
   pub victims_are : (step : Step) → victims g.sets v step ≡ victims g.sets w step
   victims_are (Core i) = fun_ext (λ b. victim_is i b (slice_get v.seats i) (slice_get w.seats i) refl refl)
   victims_are (Evict i c) = refl
-  victims_are (Deliver key) = refl
+  victims_are (Deliver number) = refl
 
   change_is : (step : Step) → change_by g.sets v step ≡ change_by g.sets w step
   change_is step = λ k. change_of (victims_are step k) step (twins.machine k)
@@ -119,7 +121,7 @@ module _ (g : Geometry) (v w : State) (twins : AreTwins g v w) where
 
     left_is : one.made.left ≡ other.made.left
     left_is = left_once (mail_of w.flights) (change_by g.sets w step).machine.net one.made.left other.made.left
-        (subst (λ mail. IsLeft mail (change_by g.sets w step).machine.net one.made.left) twins.mail
+        (subst (λ mail. IsLeft mail (change_by g.sets w step).machine.net one.made.left) (ap mail_of twins.flights)
         (subst (λ (c : Change). IsLeft (mail_of v.flights) c.machine.net one.made.left) same one.made.leaves))
         other.made.leaves
 
@@ -169,7 +171,7 @@ module _ (g : Geometry) (v w : State) (twins : AreTwins g v w) where
     pub twins_on : AreTwins g u x
     twins_on = record {
       machine = machine_is;
-      mail = sent_is.0;
+      flights = one_order u.flights x.flights one.order other.order (λ number. ap (λ (mail : Mail). mail number) sent_is.0);
       sent = sent_is.1;
       kept = one_kept u.directory x.directory (ap (λ (m : Machine). m.entries) machine_is) one.kept other.kept;
       caches = caches_are;
@@ -180,7 +182,7 @@ module _ (g : Geometry) (v w : State) (twins : AreTwins g v w) where
 pub twins_first : (g : Geometry) (v w : State) → shown g.sets v ≡ shown g.sets w → IsUnused g v → IsUnused g w → AreTwins g v w
 twins_first g v w same one other = record {
   machine = same;
-  mail = fun_ext (λ key. one.flights key ∙ sym (other.flights key));
+  flights = one.flights ∙ sym other.flights;
   sent = one.sent ∙ sym other.sent;
   kept = ap (map (λ e. (e.0, shown_entry e.1))) (one.kept ∙ sym other.kept);
   caches = λ i s t at is. record {
@@ -196,7 +198,7 @@ twins_first g v w same one other = record {
 pub own_twin : (g : Geometry) (v : State) → ((i : ℕ) (s : Seat) → slice_get v.seats i ≡ Some s → IsSound g.sets g.ways s.hart.cache) → AreTwins g v v
 own_twin g v sound = record {
   machine = refl;
-  mail = refl;
+  flights = refl;
   sent = refl;
   kept = refl;
   caches = λ i s t at is. record {

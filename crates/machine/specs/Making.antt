@@ -1,5 +1,5 @@
 -- A step of the machine: one of the protocol, in which the cache's rules say which line makes way and where lines stand, the bytes of undo logs change by their records, each message
--- that is sent has the next number, and the directory keeps just the entries in use.
+-- that is sent has the next number, and stands behind those that were sent before, and the directory keeps just the entries in use.
 use Rattle.std.specs.Prelude.{ℕ, ◌≡◌, Option, Some, None, slice_get}
 use Rattle.std.specs.Option.{option_and_then}
 use Rattle.words.specs.declared.entry.Entry.{Entry}
@@ -7,6 +7,7 @@ use Rattle.words.specs.declared.entry.Step.{Step}
 use Rattle.words.specs.declared.entry.Step.TheVariants.{Core, Evict, Deliver}
 use Rattle.protocol.specs.Caches.{Geometry}
 use Rattle.protocol.specs.Machine.{Change, MayNameIn, change_of}
+use Rattle.network.specs.Flights.{AreInOrder}
 use Rattle.directory.specs.Blocks.{KeepsUsed}
 use Rattle.hart.specs.Rows.{victim_of}
 use Rattle.hart.specs.Places.{KeepsWays}
@@ -18,7 +19,7 @@ use Rattle.machine.specs.States.{Seat, State, shown}
 abbrev pub victims : ℕ → State → Step → ℕ → Option ℕ
 victims sets m (Core i) b = option_and_then (λ s. victim_of sets s.hart.cache b) (slice_get m.seats i)
 victims sets m (Evict i c) b = None
-victims sets m (Deliver key) b = None
+victims sets m (Deliver number) b = None
 
 -- what a step makes of the machine, where these lines make way
 abbrev pub change_by : ℕ → State → Step → Change
@@ -47,3 +48,4 @@ pub record MakesStep (g : Geometry) (v : State) (step : Step) (e : Option Entry)
   pub ways : AllKeepWays g.sets v w
   pub logs : AllKeepLogs v w
   pub kept : KeepsUsed w.directory
+  pub order : AreInOrder w.flights

@@ -23,9 +23,9 @@ regs_if w i = cond (nat_lt i w.setting.count) (Some ((w.harts i).regs, (w.harts 
 abbrev pub info_of : Transaction → TxInfo
 info_of t = record { depth = t.depth; records = length t.log; stamp = t.stamp; overflow = t.overflow; cycle = t.cycle; aborting = t.aborting }
 
--- what is read off the messages in flight: the first that there is, by key
+-- what is read off the messages in flight: the first that there is, by number
 abbrev pub FirstOf : {A : Type 0} → Network → (Message → Option A) → Option A → Type 0
-FirstOf net f x = (keys : ℕ) → LiesBelow keys net → x ≡ first_below keys (λ key. option_and_then f (net key))
+FirstOf net f x = (keys : ℕ) → LiesBelow keys net → x ≡ first_below keys (λ number. option_and_then f (net number))
 
 -- the word at an address as hart i sees it, where i is a hart
 abbrev pub view_if : ℕ → Machine → ℕ → ℕ → Option ℕ

@@ -80,10 +80,10 @@ pub record Arrival : Type 0 where
 
 -- it is its turn, and it arrives. It changes nothing but its hart, or the directory
 pub record Arrives (g : Geometry) (v : State) (a : Arrival) (w : State) : Type 0 where
-  pub key : ℕ
-  pub here : in_flight v.flights key ≡ Some a.message
-  pub turn : (after : ℕ) → TakesTurn g v after (Deliver key) a.entry w
-  pub sends : SendsOn (put_at key None (mail_of v.flights)) v.sent a.sent (mail_of w.flights) w.sent
+  pub number : ℕ
+  pub here : in_flight v.flights number ≡ Some a.message
+  pub turn : (after : ℕ) → TakesTurn g v after (Deliver number) a.entry w
+  pub sends : SendsOn (put_at number None (mail_of v.flights)) v.sent a.sent (mail_of w.flights) w.sent
   pub others : (i : ℕ) → receiver_of a.message ≢ Some i → hart_at g.sets w.seats i ≡ hart_at g.sets v.seats i
   pub directory : IsSome (receiver_of a.message) → w.directory ≡ v.directory
 
@@ -148,8 +148,8 @@ pub record IsServed (g : Geometry) (v : State) (s : Service) (xs : List (ℕ × 
   pub request : Request
   pub granted : Granted
   pub settled : Settled
-  pub key : ℕ
-  pub only : IsAlone v.flights key
+  pub number : ℕ
+  pub only : IsAlone v.flights number
   pub few : v.sent + 32 ≤ 18446744073709551615
   pub harts : length xs ≤ most_harts
   pub mid : State

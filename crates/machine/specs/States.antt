@@ -4,6 +4,7 @@ use Rattle.std.specs.Option.{option_map_or}
 use Rattle.std.specs.List.{slice_index_or}
 use Rattle.words.specs.Limits.{block_bytes, block_words, log_bytes}
 use Rattle.network.specs.declared.net.Flight.{Flight}
+use Rattle.network.specs.Flights.{AreInOrder}
 use Rattle.loader.specs.Programs.{Program}
 use Rattle.flat.specs.State.{Setting, Flat, idle}
 use Rattle.protocol.specs.Messages.{Block}
@@ -22,13 +23,13 @@ pub record Seat : Type 0 where
   pub hart : Parts
   pub output : List ℕ
 
--- the program; the harts by number; the directory with memory; the messages in flight by key, and how many have been sent (up to the
+-- the program; the harts by number; the directory with memory; the messages in flight, in the order of sending, and how many have been sent (up to the
 -- greatest u64); and how many new stamps were taken
 pub record State : Type 0 where
   pub program : Program
   pub seats : List Seat
   pub directory : Blocks
-  pub flights : List (Option Flight)
+  pub flights : List Flight
   pub sent : ℕ
   pub stamps : ℕ
 
@@ -67,12 +68,13 @@ pub record IsSeated (s : Setting) (i : ℕ) (h : Parts) : Type 0 where
   pub log : h.tx.log.base ≡ s.size - log_bytes * (i + 1)
 
 -- what a machine keeps: its caches have a way, and are of a size that fits in memory; there are as many harts as the directory knows of, each at its
--- place; the directory keeps just the entries in use; and a flat state belongs to it
+-- place; the directory keeps just the entries in use; the messages in flight stand in the order of sending; and a flat state belongs to it
 pub record IsSound (sets ways : ℕ) (m : State) : Type 0 where
   pub some_way : 0 < ways
   pub fits : sets * ways < 2 ^ 32
   pub count : length m.seats ≡ m.directory.harts
   pub seats : (i : ℕ) (s : Seat) → slice_get m.seats i ≡ Some s → IsSeated (setting_of m) i s.hart
   pub kept : KeepsUsed m.directory
+  pub order : AreInOrder m.flights
   pub flat : Flat
   pub belongs : Belongs (geometry sets ways) flat (shown sets m)

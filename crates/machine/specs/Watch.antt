@@ -25,7 +25,7 @@ arrives w m None = not (is_held w m)
 abbrev pub applies : (ℕ → Option ℕ) → Step → Machine → Bool
 applies victim (Core i) w = nat_lt i w.setting.count && is_some (core_row w.setting i w.stamps victim (w.harts i))
 applies victim (Evict i b) w = nat_lt i w.setting.count && is_some (evict_row i b (w.harts i))
-applies victim (Deliver key) w = option_map_or (λ m. arrives w m (receiver_of m)) (w.net key) false
+applies victim (Deliver number) w = option_map_or (λ m. arrives w m (receiver_of m)) (w.net number) false
 
 -- whether a step is enabled, with victims that the hart's cache may name
 abbrev pub IsEnabled : Geometry → Machine → Step → Bool → Type 0

@@ -16,37 +16,37 @@ use words::{Entry, HARTS, Message};
 impl<const SETS: usize, const WAYS: usize> Machine<SETS, WAYS> {
     ghost use Rattle.machine.specs.States.{shown, geometry};
 
-    /// The message under a key arrives. A message that is held stays in flight.
+    /// The message with a number arrives. A message that is held stays in flight.
     ///
     /// It is too large to be inlined at more than one place, so each place that calls it has a number of its own, and so code of its own.
     pub(crate) fn deliver<const PLACE: usize>(
         &mut self,
-        key: usize,
+        number: u64,
     ) -> Result<Option<Entry>, AllocError>
-        ensures steps { IfOk result (λ e. MakesStep (geometry SETS WAYS) self.old (Deliver key) e self.new) }
+        ensures steps { IfOk result (λ e. MakesStep (geometry SETS WAYS) self.old (Deliver number) e self.new) }
         ensures err { OnErr result (self.new ≡ self.old) }
     {
-        let Some(message) = self.net.peek(key) else {
+        let Some(message) = self.net.peek(number) else {
             return Ok(None);
         };
         match message {
-            Message::Grant { .. } => self.grant_arrives(key),
-            Message::Forward { .. } => return Ok(self.forward_arrives(key)),
-            Message::PutAck { .. } => self.put_ack_arrives(key),
-            Message::Ack { .. } => self.ack_arrives(key),
-            Message::Nack { .. } => self.nack_arrives(key),
-            Message::Get { .. } => self.get_arrives(key)?,
-            Message::Put { .. } => self.put_arrives(key),
-            Message::Done { .. } => self.done_arrives(key),
+            Message::Grant { .. } => self.grant_arrives(number),
+            Message::Forward { .. } => return Ok(self.forward_arrives(number)),
+            Message::PutAck { .. } => self.put_ack_arrives(number),
+            Message::Ack { .. } => self.ack_arrives(number),
+            Message::Nack { .. } => self.nack_arrives(number),
+            Message::Get { .. } => self.get_arrives(number)?,
+            Message::Put { .. } => self.put_arrives(number),
+            Message::Done { .. } => self.done_arrives(number),
         }
         Ok(None)
     }
 
     /// A grant arrives at a hart. One for no hart stays in flight.
     #[inline(always)]
-    fn grant_arrives(&mut self, key: usize)
-        requires { IsSomeAnd (in_flight self.old.flights key) IsGrant }
-        ensures { MakesStep (geometry SETS WAYS) self.old (Deliver key) None self.new }
+    fn grant_arrives(&mut self, number: u64)
+        requires { IsSomeAnd (in_flight self.old.flights number) IsGrant }
+        ensures { MakesStep (geometry SETS WAYS) self.old (Deliver number) None self.new }
     {
         let Some(
             &Message::Grant {
@@ -56,7 +56,7 @@ impl<const SETS: usize, const WAYS: usize> Machine<SETS, WAYS> {
                 content,
                 expect,
             },
-        ) = self.net.peek(key)
+        ) = self.net.peek(number)
         else {
             unreachable!()
         };
@@ -70,14 +70,14 @@ impl<const SETS: usize, const WAYS: usize> Machine<SETS, WAYS> {
             expect,
         };
         let settled = self.seats[i].hart.on_grant(block, &granted);
-        answer_done(&mut self.net, key, to, settled);
+        answer_done(&mut self.net, number, to, settled);
     }
 
     /// An acknowledgement arrives at a hart. One for no hart stays in flight.
     #[inline(always)]
-    fn ack_arrives(&mut self, key: usize)
-        requires { IsSomeAnd (in_flight self.old.flights key) IsAck }
-        ensures { MakesStep (geometry SETS WAYS) self.old (Deliver key) None self.new }
+    fn ack_arrives(&mut self, number: u64)
+        requires { IsSomeAnd (in_flight self.old.flights number) IsAck }
+        ensures { MakesStep (geometry SETS WAYS) self.old (Deliver number) None self.new }
     {
         let Some(
             &Message::Ack {
@@ -86,7 +86,7 @@ impl<const SETS: usize, const WAYS: usize> Machine<SETS, WAYS> {
                 block,
                 content,
             },
-        ) = self.net.peek(key)
+        ) = self.net.peek(number)
         else {
             unreachable!()
         };
@@ -95,14 +95,14 @@ impl<const SETS: usize, const WAYS: usize> Machine<SETS, WAYS> {
             return;
         }
         let settled = self.seats[i].hart.on_ack(block, from, &content);
-        answer_done(&mut self.net, key, to, settled);
+        answer_done(&mut self.net, number, to, settled);
     }
 
     /// A refusal arrives at a hart. One for no hart stays in flight.
     #[inline(always)]
-    fn nack_arrives(&mut self, key: usize)
-        requires { IsSomeAnd (in_flight self.old.flights key) IsNack }
-        ensures { MakesStep (geometry SETS WAYS) self.old (Deliver key) None self.new }
+    fn nack_arrives(&mut self, number: u64)
+        requires { IsSomeAnd (in_flight self.old.flights number) IsNack }
+        ensures { MakesStep (geometry SETS WAYS) self.old (Deliver number) None self.new }
     {
         let Some(
             &Message::Nack {
@@ -111,7 +111,7 @@ impl<const SETS: usize, const WAYS: usize> Machine<SETS, WAYS> {
                 block,
                 stamp,
             },
-        ) = self.net.peek(key)
+        ) = self.net.peek(number)
         else {
             unreachable!()
         };
@@ -120,14 +120,14 @@ impl<const SETS: usize, const WAYS: usize> Machine<SETS, WAYS> {
             return;
         }
         let settled = self.seats[i].hart.on_nack(block, from, stamp);
-        answer_done(&mut self.net, key, to, settled);
+        answer_done(&mut self.net, number, to, settled);
     }
 
     /// A forwarded request arrives at a hart. One for no hart stays in flight.
     #[inline(always)]
-    fn forward_arrives(&mut self, key: usize) -> Option<Entry>
-        requires { IsSomeAnd (in_flight self.old.flights key) IsForward }
-        ensures { MakesStep (geometry SETS WAYS) self.old (Deliver key) result self.new }
+    fn forward_arrives(&mut self, number: u64) -> Option<Entry>
+        requires { IsSomeAnd (in_flight self.old.flights number) IsForward }
+        ensures { MakesStep (geometry SETS WAYS) self.old (Deliver number) result self.new }
     {
         let Some(
             &Message::Forward {
@@ -137,7 +137,7 @@ impl<const SETS: usize, const WAYS: usize> Machine<SETS, WAYS> {
                 requester,
                 stamp,
             },
-        ) = self.net.peek(key)
+        ) = self.net.peek(number)
         else {
             unreachable!()
         };
@@ -146,16 +146,16 @@ impl<const SETS: usize, const WAYS: usize> Machine<SETS, WAYS> {
             return None;
         }
         let reply = self.seats[i].hart.on_forward(block, kind, stamp);
-        answer_forward(&mut self.net, key, to, requester, block, reply)
+        answer_forward(&mut self.net, number, to, requester, block, reply)
     }
 
     /// The acknowledgement of a Put arrives at a hart. One for no hart stays in flight.
     #[inline(always)]
-    fn put_ack_arrives(&mut self, key: usize)
-        requires { IsSomeAnd (in_flight self.old.flights key) IsPutAck }
-        ensures { MakesStep (geometry SETS WAYS) self.old (Deliver key) None self.new }
+    fn put_ack_arrives(&mut self, number: u64)
+        requires { IsSomeAnd (in_flight self.old.flights number) IsPutAck }
+        ensures { MakesStep (geometry SETS WAYS) self.old (Deliver number) None self.new }
     {
-        let Some(&Message::PutAck { to, block }) = self.net.peek(key) else {
+        let Some(&Message::PutAck { to, block }) = self.net.peek(number) else {
             unreachable!()
         };
         let i = to.index();
@@ -163,14 +163,14 @@ impl<const SETS: usize, const WAYS: usize> Machine<SETS, WAYS> {
             return;
         }
         self.seats[i].hart.on_put_ack(block);
-        take(&mut self.net, key);
+        take(&mut self.net, number);
     }
 
     /// A request arrives at the directory. One that has to wait stays in flight. It fails only if memory runs out.
     #[inline(always)]
-    fn get_arrives(&mut self, key: usize) -> Result<(), AllocError>
-        requires { IsSomeAnd (in_flight self.old.flights key) IsGet }
-        ensures steps { OnOk result (MakesStep (geometry SETS WAYS) self.old (Deliver key) None self.new) }
+    fn get_arrives(&mut self, number: u64) -> Result<(), AllocError>
+        requires { IsSomeAnd (in_flight self.old.flights number) IsGet }
+        ensures steps { OnOk result (MakesStep (geometry SETS WAYS) self.old (Deliver number) None self.new) }
         ensures err { OnErr result (self.new ≡ self.old) }
     {
         let Some(
@@ -180,7 +180,7 @@ impl<const SETS: usize, const WAYS: usize> Machine<SETS, WAYS> {
                 kind,
                 stamp,
             },
-        ) = self.net.peek(key)
+        ) = self.net.peek(number)
         else {
             unreachable!()
         };
@@ -194,16 +194,16 @@ impl<const SETS: usize, const WAYS: usize> Machine<SETS, WAYS> {
         if let Some(given) = self.directory.get(&request)? {
             let content = self.directory.memory(block);
             let harts = self.directory.harts();
-            answer_get(&mut self.net, key, &request, &given, content, harts);
+            answer_get(&mut self.net, number, &request, &given, content, harts);
         }
         Ok(())
     }
 
     /// A block that a hart gives up arrives at the directory. One that has to wait stays in flight.
     #[inline(always)]
-    fn put_arrives(&mut self, key: usize)
-        requires { IsSomeAnd (in_flight self.old.flights key) IsPut }
-        ensures { MakesStep (geometry SETS WAYS) self.old (Deliver key) None self.new }
+    fn put_arrives(&mut self, number: u64)
+        requires { IsSomeAnd (in_flight self.old.flights number) IsPut }
+        ensures { MakesStep (geometry SETS WAYS) self.old (Deliver number) None self.new }
     {
         let Some(
             &Message::Put {
@@ -212,20 +212,20 @@ impl<const SETS: usize, const WAYS: usize> Machine<SETS, WAYS> {
                 content,
                 marked,
             },
-        ) = self.net.peek(key)
+        ) = self.net.peek(number)
         else {
             unreachable!()
         };
         if self.directory.put(from, block, &content, marked) {
-            answer(&mut self.net, key, Message::PutAck { to: from, block });
+            answer(&mut self.net, number, Message::PutAck { to: from, block });
         }
     }
 
     /// The end of a request arrives at the directory.
     #[inline(always)]
-    fn done_arrives(&mut self, key: usize)
-        requires { IsSomeAnd (in_flight self.old.flights key) IsDone }
-        ensures { MakesStep (geometry SETS WAYS) self.old (Deliver key) None self.new }
+    fn done_arrives(&mut self, number: u64)
+        requires { IsSomeAnd (in_flight self.old.flights number) IsDone }
+        ensures { MakesStep (geometry SETS WAYS) self.old (Deliver number) None self.new }
     {
         let Some(
             &Message::Done {
@@ -234,11 +234,11 @@ impl<const SETS: usize, const WAYS: usize> Machine<SETS, WAYS> {
                 ok,
                 content,
             },
-        ) = self.net.peek(key)
+        ) = self.net.peek(number)
         else {
             unreachable!()
         };
         self.directory.done(from, block, ok, &content);
-        take(&mut self.net, key);
+        take(&mut self.net, number);
     }
 }

@@ -54,42 +54,45 @@ fn is_done_by(message: &Message, requester: HartId, block: BlockNo) -> bool
 
 /// What the first acknowledgement of a block carries that carries anything.
 pub fn acknowledged(net: &Net, block: BlockNo) -> Option<Block>
-    ensures { FirstOf (in_flight net.now.slots) (ack_content block) result }
+    ensures { FirstOf (in_flight net.now.flights) (ack_content block) result }
 {
-    for key in 0..net.keys() {
-        if let Some(message) = net.get(key) {
-            if let Some(content) = ack_content(&message, block) {
-                return Some(content);
-            }
+    net.are_in_order();
+    let mut number = 0;
+    while let Some(flight) = net.next_from(number) {
+        if let Some(content) = ack_content(&flight.message, block) {
+            return Some(content);
         }
+        number = flight.number + 1;
     }
     None
 }
 
 /// What the first Done of a block carries that carries anything.
 pub fn finished(net: &Net, block: BlockNo) -> Option<Block>
-    ensures { FirstOf (in_flight net.now.slots) (done_content block) result }
+    ensures { FirstOf (in_flight net.now.flights) (done_content block) result }
 {
-    for key in 0..net.keys() {
-        if let Some(message) = net.get(key) {
-            if let Some(content) = done_content(&message, block) {
-                return Some(content);
-            }
+    net.are_in_order();
+    let mut number = 0;
+    while let Some(flight) = net.next_from(number) {
+        if let Some(content) = done_content(&flight.message, block) {
+            return Some(content);
         }
+        number = flight.number + 1;
     }
     None
 }
 
 /// Whether the Done of a hart's granted request for a block is in flight.
 pub fn has_done(net: &Net, requester: HartId, block: BlockNo) -> bool
-    ensures { (keys : ℕ) → LiesBelow keys (in_flight net.now.slots) → result ≡ has_done keys (in_flight net.now.slots) requester block }
+    ensures { (keys : ℕ) → LiesBelow keys (in_flight net.now.flights) → result ≡ has_done keys (in_flight net.now.flights) requester block }
 {
-    for key in 0..net.keys() {
-        if let Some(message) = net.get(key) {
-            if is_done_by(&message, requester, block) {
-                return true;
-            }
+    net.are_in_order();
+    let mut number = 0;
+    while let Some(flight) = net.next_from(number) {
+        if is_done_by(&flight.message, requester, block) {
+            return true;
         }
+        number = flight.number + 1;
     }
     false
 }

@@ -14,11 +14,11 @@ use words::{BlockNo, HartId};
 impl<const SETS: usize, const WAYS: usize> Machine<SETS, WAYS> {
     ghost use Rattle.machine.specs.States.{shown};
 
-    /// Whether the directory holds the message under a key: its block is busy with another request. Where there is none nothing is held.
-    pub fn is_held(&self, key: usize) -> bool
-        ensures { result ≡ option_map_or (is_held (shown SETS self.now)) ((shown SETS self.now).net key) false }
+    /// Whether the directory holds the message with a number: its block is busy with another request. Where there is none nothing is held.
+    pub fn is_held(&self, number: u64) -> bool
+        ensures { result ≡ option_map_or (is_held (shown SETS self.now)) ((shown SETS self.now).net number) false }
     {
-        match self.net.get(key) {
+        match self.net.get(number) {
             Some(message) => is_held(&self.directory, &message),
             None => false,
         }

@@ -23,7 +23,7 @@ impl<const SETS: usize, const WAYS: usize> Model for Machine<SETS, WAYS> {
       program = m.program;
       seats = m.seats.items;
       directory = m.directory;
-      flights = m.net.slots;
+      flights = m.net.flights;
       sent = m.net.next;
       stamps = m.stamps;
     } };
@@ -32,7 +32,7 @@ impl<const SETS: usize, const WAYS: usize> Model for Machine<SETS, WAYS> {
       program = m.program;
       seats = m.seats.items;
       directory = m.directory;
-      flights = m.net.slots;
+      flights = m.net.flights;
       sent = m.net.next;
       stamps = m.stamps;
     }) };

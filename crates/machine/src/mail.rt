@@ -2,6 +2,7 @@ ghost use Rattle.std.specs.Prelude.{◌≡◌, ◌<◌, ◌≤◌, ◌+◌, [], 
 ghost use Rattle.std.specs.Option.{option_map};
 ghost use Rattle.protocol.specs.Messages.{shown, receiver_of, Grant, Granted};
 ghost use Rattle.flat.specs.Bytes.{put_at};
+ghost use Rattle.network.specs.Flights.{AreInOrder};
 ghost use Rattle.words.specs.Harts.{names};
 ghost use Rattle.words.specs.Limits.{most_harts};
 ghost use Rattle.protocol.specs.Directory.{forwards};
@@ -27,49 +28,68 @@ pub fn receiver(message: &Message) -> Option<HartId>
     }
 }
 
-/// Takes the message under a key, where there is one, out of flight.
+/// Takes the message with a number, where there is one, out of flight.
 #[inline(always)]
-pub fn take(net: &mut Net, key: usize)
-    requires { IsSome (in_flight net.old.slots key) }
-    ensures mail { mail_of net.new.slots ≡ put_at key None (mail_of net.old.slots) }
+pub fn take(net: &mut Net, number: u64)
+    requires { IsSome (in_flight net.old.flights number) }
+    ensures mail { mail_of net.new.flights ≡ put_at number None (mail_of net.old.flights) }
     ensures number { net.new.next ≡ net.old.next }
+    ensures order { AreInOrder net.new.flights }
     ensures room { net.new.room ≡ net.old.room + 1 }
 {
-    net.take(key);
+    net.take(number);
+    net.are_in_order();
+}
+
+/// Sends a message.
+#[inline(always)]
+pub fn send_one(net: &mut Net, message: Message)
+    requires { 0 < net.old.room }
+    ensures sent { SendsOn (mail_of net.old.flights) net.old.next (shown message ∷ []) (mail_of net.new.flights) net.new.next }
+    ensures order { AreInOrder net.new.flights }
+    ensures room { net.new.room + 1 ≡ net.old.room }
+{
+    net.send(message);
+    net.are_in_order();
 }
 
 /// Sends a message, if there is one.
 #[inline(always)]
 pub fn send(net: &mut Net, message: Option<Message>)
     requires { 0 < net.old.room }
-    ensures { SendsOn (mail_of net.old.slots) net.old.next (option_to_list (option_map shown message)) (mail_of net.new.slots) net.new.next }
+    ensures sent { SendsOn (mail_of net.old.flights) net.old.next (option_to_list (option_map shown message)) (mail_of net.new.flights) net.new.next }
+    ensures order { AreInOrder net.new.flights }
 {
-    if let Some(message) = message {
-        net.send(message);
+    match message {
+        Some(message) => send_one(net, message),
+        None => net.are_in_order(),
     }
 }
 
-/// Takes the message under a key out of flight, and sends another.
+/// Takes the message with a number out of flight, and sends another.
 #[inline(always)]
-pub fn answer(net: &mut Net, key: usize, message: Message)
-    requires { IsSome (in_flight net.old.slots key) }
-    ensures sent { SendsOn (put_at key None (mail_of net.old.slots)) net.old.next (shown message ∷ []) (mail_of net.new.slots) net.new.next }
+pub fn answer(net: &mut Net, number: u64, message: Message)
+    requires { IsSome (in_flight net.old.flights number) }
+    ensures sent { SendsOn (put_at number None (mail_of net.old.flights)) net.old.next (shown message ∷ []) (mail_of net.new.flights) net.new.next }
+    ensures order { AreInOrder net.new.flights }
     ensures room { net.new.room ≡ net.old.room }
 {
-    net.answer(key, message);
+    net.answer(number, message);
+    net.are_in_order();
 }
 
-/// Takes the answer under a key out of flight, and tells the directory how a hart's request goes on, if it has ended.
+/// Takes the answer with a number out of flight, and tells the directory how a hart's request goes on, if it has ended.
 #[inline(always)]
-pub fn answer_done(net: &mut Net, key: usize, from: HartId, settled: Settled)
-    requires { IsSome (in_flight net.old.slots key) }
-    ensures { SendsOn (put_at key None (mail_of net.old.slots)) net.old.next (option_to_list (done_of from settled)) (mail_of net.new.slots) net.new.next }
+pub fn answer_done(net: &mut Net, number: u64, from: HartId, settled: Settled)
+    requires { IsSome (in_flight net.old.flights number) }
+    ensures sent { SendsOn (put_at number None (mail_of net.old.flights)) net.old.next (option_to_list (done_of from settled)) (mail_of net.new.flights) net.new.next }
+    ensures order { AreInOrder net.new.flights }
 {
     match settled {
-        Settled::Waiting => take(net, key),
+        Settled::Waiting => take(net, number),
         Settled::Refused(block) => answer(
             net,
-            key,
+            number,
             Message::Done {
                 from,
                 block,
@@ -79,7 +99,7 @@ pub fn answer_done(net: &mut Net, key: usize, from: HartId, settled: Settled)
         ),
         Settled::Granted(block, content) => answer(
             net,
-            key,
+            number,
             Message::Done {
                 from,
                 block,
@@ -90,19 +110,20 @@ pub fn answer_done(net: &mut Net, key: usize, from: HartId, settled: Settled)
     }
 }
 
-/// Takes another hart's request for a block, which lies under a key, out of flight, and sends what a hart answers to it. It gives the entry that there is
+/// Takes another hart's request for a block, which has this number, out of flight, and sends what a hart answers to it. It gives the entry that there is
 /// of that.
 #[inline(always)]
 pub fn answer_forward(
     net: &mut Net,
-    key: usize,
+    number: u64,
     from: HartId,
     requester: HartId,
     block: BlockNo,
     reply: ForwardAnswer,
 ) -> Option<Entry>
-    requires { IsSome (in_flight net.old.slots key) }
-    ensures sent { SendsOn (put_at key None (mail_of net.old.slots)) net.old.next (answer_of from requester block reply ∷ []) (mail_of net.new.slots) net.new.next }
+    requires { IsSome (in_flight net.old.flights number) }
+    ensures sent { SendsOn (put_at number None (mail_of net.old.flights)) net.old.next (answer_of from requester block reply ∷ []) (mail_of net.new.flights) net.new.next }
+    ensures order { AreInOrder net.new.flights }
     ensures entry { result ≡ refusal_of from requester block reply }
 {
     let to = requester;
@@ -114,7 +135,7 @@ pub fn answer_forward(
                 block,
                 content,
             };
-            answer(net, key, message);
+            answer(net, number, message);
             None
         }
         ForwardAnswer::Nack(stamp) => {
@@ -124,7 +145,7 @@ pub fn answer_forward(
                 block,
                 stamp,
             };
-            answer(net, key, message);
+            answer(net, number, message);
             Some(Entry::Refuse {
                 hart: from,
                 requester,
@@ -134,24 +155,25 @@ pub fn answer_forward(
     }
 }
 
-/// Takes a request, which lies under a key, out of flight, and sends what it is given, with these words. Then it is forwarded to each hart whose answer
+/// Takes a request, which has this number, out of flight, and sends what it is given, with these words. Then it is forwarded to each hart whose answer
 /// it has to await, by rising number.
 #[inline(always)]
 pub fn answer_get(
     net: &mut Net,
-    key: usize,
+    number: u64,
     request: &Request,
     given: &Given,
     content: Block,
     harts: usize,
 )
-    requires here { IsSome (in_flight net.old.slots key) }
+    requires here { IsSome (in_flight net.old.flights number) }
     requires harts { harts ≤ most_harts }
     requires room { harts ≤ net.old.room }
-    ensures { let granted : Granted = record { give = given.now.give; content = content; expect = names given.now.expect } in
-        SendsOn (put_at key None (mail_of net.old.slots)) net.old.next
+    ensures sent { let granted : Granted = record { give = given.now.give; content = content; expect = names given.now.expect } in
+        SendsOn (put_at number None (mail_of net.old.flights)) net.old.next
         (Grant request.now.requester request.now.block granted ∷ forwards harts (names given.now.expect) request.now.block request.now.kind request.now.requester request.now.stamp)
-        (mail_of net.new.slots) net.new.next }
+        (mail_of net.new.flights) net.new.next }
+    ensures order { AreInOrder net.new.flights }
 {
     let message = Message::Grant {
         to: request.requester,
@@ -160,7 +182,7 @@ pub fn answer_get(
         content,
         expect: given.expect,
     };
-    answer(net, key, message);
+    answer(net, number, message);
     forward(net, request, &given.expect, harts);
 }
 
@@ -169,20 +191,23 @@ pub fn answer_get(
 fn forward(net: &mut Net, request: &Request, expect: &HartSet, harts: usize)
     requires harts { harts ≤ most_harts }
     requires room { harts ≤ net.old.room }
-    ensures { SendsOn (mail_of net.old.slots) net.old.next
+    ensures sent { SendsOn (mail_of net.old.flights) net.old.next
         (forwards harts (names expect.now) request.now.block request.now.kind request.now.requester request.now.stamp)
-        (mail_of net.new.slots) net.new.next }
+        (mail_of net.new.flights) net.new.next }
+    ensures order { AreInOrder net.new.flights }
 {
     let asked = expect.below(harts);
     let mut from = 0;
     while let Some(to) = asked.next(from) {
-        net.send(Message::Forward {
+        let message = Message::Forward {
             to,
             block: request.block,
             kind: request.kind,
             requester: request.requester,
             stamp: request.stamp,
-        });
+        };
+        send_one(net, message);
         from = to.index() + 1;
     }
+    net.are_in_order();
 }

@@ -11,7 +11,7 @@ use crate::machine::Machine;
 use crate::values::{in_place, restored, word_in};
 use words::{Addr, Block, BlockNo, HartId, LOG_BYTES};
 
-/// What memory holds. The keys in the clauses are any number below which all messages in flight lie.
+/// What memory holds. The keys in the clauses are any number below which the numbers of all messages in flight lie.
 impl<const SETS: usize, const WAYS: usize> Machine<SETS, WAYS> {
     ghost use Rattle.machine.specs.States.{shown, geometry};
 

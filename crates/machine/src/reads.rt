@@ -1,10 +1,9 @@
 ghost use Rattle.std.specs.Prelude.{◌≡◌, ◌≢◌, ◌≤◌, ◌<◌, ◌↔◌, ℕ, length, slice_get, Some, None, IsSome, IfSome, IfNone};
-ghost use Rattle.std.specs.List.{slice_index_or};
 ghost use Rattle.std.specs.Option.{option_map};
 ghost use Rattle.words.specs.Limits.{most_harts};
 ghost use Rattle.flat.specs.State.{Flat};
 ghost use Rattle.flat.specs.Reads.{shown_if};
-ghost use Rattle.network.specs.Flights.{IsNext, NoneAfter};
+ghost use Rattle.network.specs.Flights.{message_at, first_from};
 ghost use Rattle.protocol.specs.Messages.{Message as MessageValue, shown as shown_message};
 ghost use Rattle.protocol.specs.Directory.{first_entry};
 ghost use Rattle.directory.specs.Blocks.{kept_at, IsInOrder};
@@ -19,6 +18,7 @@ use crate::machine::Machine;
 use crate::seat::Seat;
 use cache::Line;
 use directory::DirEntry;
+use network::Flight;
 use table::Text;
 use words::{Addr, BLOCK_BYTES, BlockNo, HartId, LOG_BYTES, Message, Regs, Status};
 
@@ -122,30 +122,21 @@ impl<const SETS: usize, const WAYS: usize> Machine<SETS, WAYS> {
         self.directory.used()
     }
 
-    /// The message in flight under a key.
-    pub fn message(&self, key: usize) -> Option<Message>
-        ensures value { option_map shown_message result ≡ (shown SETS self.now).net key }
-        ensures flight { result ≡ option_map (λ f. f.message) (slice_index_or self.now.flights key None) }
+    /// The message in flight with a number.
+    pub fn message(&self, number: u64) -> Option<Message>
+        ensures value { option_map shown_message result ≡ (shown SETS self.now).net number }
+        ensures flight { result ≡ message_at self.now.flights number }
         // Of its sort, block and hart it is the only one.
-        ensures alone { IfSome result (λ m. (other : ℕ) (n : MessageValue) → (shown SETS self.now).net other ≡ Some n → IsAlike n (shown_message m) → other ≡ key) }
+        ensures alone { IfSome result (λ m. (other : ℕ) (n : MessageValue) → (shown SETS self.now).net other ≡ Some n → IsAlike n (shown_message m) → other ≡ number) }
     {
-        self.net.get(key)
+        self.net.get(number)
     }
 
-    /// A number below which all keys lie that messages in flight have.
-    pub fn keys(&self) -> usize
-        ensures { (key : ℕ) → result ≤ key → slice_index_or self.now.flights key None ≡ None }
+    /// The first message in flight that has this number or a greater one: so all are met in the order of sending.
+    pub fn next_from(&self, number: u64) -> Option<&Flight>
+        ensures { option_map (λ flight. flight.now) result ≡ first_from number self.now.flights }
     {
-        self.net.keys()
-    }
-
-    /// The key of the message in flight that was sent next after the one under a key. Without a key, and where nothing is under it, that of
-    /// the oldest. `None` where there is no such message.
-    pub fn next_message(&self, key: Option<usize>) -> Option<usize>
-        ensures some { IfSome result (IsNext self.now.flights key) }
-        ensures none { IfNone result (NoneAfter self.now.flights key) }
-    {
-        self.net.next_after(key)
+        self.net.next_from(number)
     }
 
     /// The word at an address of the undo logs, which lie at the top of memory, that of hart 0 highest. `None` where the address isn't a

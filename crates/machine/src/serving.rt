@@ -200,13 +200,13 @@ fn end(directory: &mut Directory, from: HartId, settled: &Settled) -> u32
     1
 }
 
-/// The request under a key, if it is one.
+/// The request with a number, if it is one.
 #[inline(always)]
-fn request_under(net: &Net, key: usize) -> Option<Request>
-    ensures some { IfSome result (λ q. in_flight net.now.slots key ≡ Some (Get q.requester q.block q.kind q.stamp)) }
-    ensures none { IfNone result ((q : RequestValue) → in_flight net.now.slots key ≢ Some (Get q.requester q.block q.kind q.stamp)) }
+fn request_numbered(net: &Net, number: u64) -> Option<Request>
+    ensures some { IfSome result (λ q. in_flight net.now.flights number ≡ Some (Get q.requester q.block q.kind q.stamp)) }
+    ensures none { IfNone result ((q : RequestValue) → in_flight net.now.flights number ≢ Some (Get q.requester q.block q.kind q.stamp)) }
 {
-    match net.peek(key)? {
+    match net.peek(number)? {
         Message::Get {
             from,
             block,
@@ -242,10 +242,10 @@ impl<const SETS: usize, const WAYS: usize> Machine<SETS, WAYS> {
         if self.net.sent() > LAST_SERVED {
             return None;
         }
-        let Some(key) = self.net.alone() else {
+        let Some(number) = self.net.alone() else {
             return None;
         };
-        let Some(request) = request_under(&self.net, key) else {
+        let Some(request) = request_numbered(&self.net, number) else {
             return None;
         };
         let Ok(answer) = self.directory.get(&request) else {
@@ -273,7 +273,7 @@ impl<const SETS: usize, const WAYS: usize> Machine<SETS, WAYS> {
             used,
         };
         self.net
-            .pass(key, u64::from(1 + 2 * answers.number + ended));
+            .pass(number, u64::from(1 + 2 * answers.number + ended));
         Some(service)
     }
 

@@ -8,13 +8,14 @@ ghost use Rattle.protocol.specs.Messages.{shown as shown_message};
 ghost use Rattle.hart.specs.Shown.{shown_tx};
 ghost use Rattle.machine.specs.Rows.{asking};
 ghost use Rattle.isolation.specs.Reasons.{LeadOn};
+ghost use Rattle.network.specs.Flights.{AreInOrder};
 ghost use Rattle.machine.specs.Mail.{SendsOn, mail_of};
 ghost use Rattle.machine.specs.Making.{MakesStep};
 ghost use Rattle.machine.specs.States.{hart_at};
 
 use crate::listener::{Caller, Listener};
 use crate::machine::Machine;
-use crate::mail::send;
+use crate::mail::{send, send_one};
 use crate::play::{ELSEWHERE, TOLD_STEP};
 use hart::{Asked, CoreStep, Hart};
 use network::Net;
@@ -36,7 +37,8 @@ fn take_stamp(stamps: &mut u64, stamped: bool)
 fn note(stamps: &mut u64, net: &mut Net, made: &CoreStep)
     requires { 0 < net.old.room }
     ensures stamps { stamps.new ≡ stamps_after made.now.stamped stamps.old }
-    ensures sent { SendsOn (mail_of net.old.slots) net.old.next (option_to_list (option_map shown_message made.now.message)) (mail_of net.new.slots) net.new.next }
+    ensures sent { SendsOn (mail_of net.old.flights) net.old.next (option_to_list (option_map shown_message made.now.message)) (mail_of net.new.flights) net.new.next }
+    ensures order { AreInOrder net.new.flights }
 {
     take_stamp(stamps, made.stamped);
     send(net, made.message);
@@ -51,15 +53,20 @@ fn ask<const SETS: usize, const WAYS: usize>(
     asked: &Option<Asked>,
 )
     requires { 0 < net.old.room }
-    ensures { SendsOn (mail_of net.old.slots) net.old.next (option_to_list (option_map (asking from (stamp_of (shown_tx hart.now.tx))) asked.now)) (mail_of net.new.slots) net.new.next }
+    ensures sent { SendsOn (mail_of net.old.flights) net.old.next (option_to_list (option_map (asking from (stamp_of (shown_tx hart.now.tx))) asked.now)) (mail_of net.new.flights) net.new.next }
+    ensures order { AreInOrder net.new.flights }
 {
-    if let Some(asked) = asked {
-        net.send(Message::Get {
-            from,
-            block: asked.block,
-            kind: asked.kind,
-            stamp: hart.stamp(),
-        });
+    match asked {
+        Some(asked) => {
+            let message = Message::Get {
+                from,
+                block: asked.block,
+                kind: asked.kind,
+                stamp: hart.stamp(),
+            };
+            send_one(net, message);
+        }
+        None => net.are_in_order(),
     }
 }
 
@@ -176,7 +183,7 @@ impl<const SETS: usize, const WAYS: usize> Machine<SETS, WAYS> {
                 None => self.core::<Caller, ELSEWHERE>(id),
             },
             Step::Evict(id, block) => self.evict(id, block),
-            Step::Deliver(key) => self.deliver::<TOLD_STEP>(key),
+            Step::Deliver(number) => self.deliver::<TOLD_STEP>(number as u64),
         }
     }
 }

@@ -114,11 +114,11 @@ fn harts_turn<const SETS: usize, const WAYS: usize>(
     }
 }
 
-/// The key of the oldest message that the directory doesn't hold.
+/// The number of the oldest message that the directory doesn't hold.
 #[inline(always)]
-fn oldest_free(directory: &Directory, net: &Net) -> Option<usize>
-    ensures some { IfSome result (λ key. (w : MachineState) → w.entries ≡ entry_at directory.now → IsOldestFree w net.now.slots key) }
-    ensures none { IfNone result ((w : MachineState) → w.entries ≡ entry_at directory.now → AllHeld w net.now.slots) }
+fn oldest_free(directory: &Directory, net: &Net) -> Option<u64>
+    ensures some { IfSome result (λ number. (w : MachineState) → w.entries ≡ entry_at directory.now → IsOldestFree w net.now.flights number) }
+    ensures none { IfNone result ((w : MachineState) → w.entries ≡ entry_at directory.now → AllHeld w net.now.flights) }
 {
     if net.is_empty() {
         return None;
@@ -129,9 +129,9 @@ fn oldest_free(directory: &Directory, net: &Net) -> Option<usize>
 impl<const SETS: usize, const WAYS: usize> Machine<SETS, WAYS> {
     ghost use Rattle.machine.specs.States.{shown};
 
-    /// The key of the oldest message that isn't held, whose arrival is the next turn. `None` where there is none.
+    /// The number of the oldest message that isn't held, whose arrival is the next turn. `None` where there is none.
     #[inline(always)]
-    pub fn next_arrival(&self) -> Option<usize>
+    pub fn next_arrival(&self) -> Option<u64>
         ensures some { IfSome result (IsOldestFree (shown SETS self.now) self.now.flights) }
         ensures none { IfNone result (AllHeld (shown SETS self.now) self.now.flights) }
     {
@@ -144,8 +144,8 @@ impl<const SETS: usize, const WAYS: usize> Machine<SETS, WAYS> {
     pub fn next_turn(&self, after: HartId) -> Option<Step>
         ensures { IsNextTurn (shown SETS self.now) self.now.flights after result }
     {
-        if let Some(key) = self.next_arrival() {
-            return Some(Step::Deliver(key));
+        if let Some(number) = self.next_arrival() {
+            return Some(Step::Deliver(number as usize));
         }
         harts_turn(&self.seats, self.directory.harts(), after)
     }
@@ -155,8 +155,8 @@ impl<const SETS: usize, const WAYS: usize> Machine<SETS, WAYS> {
     pub fn owed(&self, id: HartId) -> Option<Step>
         ensures { IsOwed (shown SETS self.now) self.now.flights id result }
     {
-        if let Some(key) = self.next_arrival() {
-            return Some(Step::Deliver(key));
+        if let Some(number) = self.next_arrival() {
+            return Some(Step::Deliver(number as usize));
         }
         if self.fresh(id) {
             return Some(Step::Core(id));

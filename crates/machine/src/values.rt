@@ -19,8 +19,8 @@ use words::{Addr, BLOCK_WORDS, Block, BlockNo, HartId};
 
 /// The owner of a block with this entry: the requester that was given E or M, from its Done on, else the owner that the entry names.
 fn owner(net: &Net, entry: &DirEntry, block: BlockNo) -> Option<HartId>
-    ensures { (keys : ℕ) → LiesBelow keys (in_flight net.now.slots) →
-        result ≡ owner_with keys (in_flight net.now.slots) block (shown_entry entry.now).busy (shown_entry entry.now).owner }
+    ensures { (keys : ℕ) → LiesBelow keys (in_flight net.now.flights) →
+        result ≡ owner_with keys (in_flight net.now.flights) block (shown_entry entry.now).busy (shown_entry entry.now).owner }
 {
     if let Some(busy) = &entry.busy {
         if busy.give.is_owned() && has_done(net, busy.requester, block) {
@@ -91,7 +91,7 @@ pub(crate) fn in_place<const SETS: usize, const WAYS: usize>(
     net: &Net,
     block: BlockNo,
 ) -> Block
-    ensures { (m : State) (keys : ℕ) → m.seats ≡ seats.now → m.directory ≡ directory.now → m.flights ≡ net.now.slots →
+    ensures { (m : State) (keys : ℕ) → m.seats ≡ seats.now → m.directory ≡ directory.now → m.flights ≡ net.now.flights →
         LiesBelow keys (shown SETS m).net → result ≡ in_place keys (shown SETS m) block }
 {
     let owner = owner(net, &directory.entry(block), block);

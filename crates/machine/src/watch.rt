@@ -1,10 +1,9 @@
-ghost use Rattle.std.specs.Prelude.{◌≡◌, ◌<◌, ℕ, Option, None, is_some, count_by, IfOk, IfSome, IfNone, OnErr, MatchBool};
-ghost use Rattle.std.specs.List.{slice_index_or};
+ghost use Rattle.std.specs.Prelude.{◌≡◌, ◌<◌, ℕ, Option, None, length, IfOk, IfSome, IfNone, OnErr, MatchBool};
 ghost use Rattle.std.specs.Option.{option_map};
 ghost use Rattle.words.specs.declared.entry.Step.{Step as StepValue};
 ghost use Rattle.words.specs.declared.entry.Step.TheVariants.{Core, Evict};
 ghost use Rattle.flat.specs.State.{Flat};
-ghost use Rattle.network.specs.Flights.{AreNumbered, IsNewest, HasNewestArrived};
+ghost use Rattle.network.specs.Flights.{flight_at, AreInOrder, AreNumbered, IsNewest, HasNewestArrived};
 ghost use Rattle.isolation.specs.Belongs.{Belongs};
 ghost use Rattle.machine.specs.Turns.{IsNextTurn, TakesTurn, hart_after};
 ghost use Rattle.machine.specs.Watch.{IsOver, IsEnabled, IsEnabledByRule};
@@ -40,7 +39,7 @@ impl<const SETS: usize, const WAYS: usize> Machine<SETS, WAYS> {
 
     /// How many messages are in flight.
     pub fn in_flight(&self) -> usize
-        ensures { result ≡ count_by is_some self.now.flights }
+        ensures { result ≡ length self.now.flights }
     {
         self.net.len()
     }
@@ -52,31 +51,32 @@ impl<const SETS: usize, const WAYS: usize> Machine<SETS, WAYS> {
         self.net.sent()
     }
 
-    /// Each message in flight has a number below that of the next.
-    pub fn are_numbered(&self)
-        ensures { AreNumbered self.now.flights self.now.sent }
+    /// The messages in flight stand in the order of their numbers, each below that of the next.
+    pub fn are_in_order(&self)
+        ensures order { AreInOrder self.now.flights }
+        ensures numbered { AreNumbered self.now.flights self.now.sent }
     {
-        self.net.are_numbered();
+        self.net.are_in_order();
     }
 
-    /// The message in flight under a key, with its number.
-    pub fn flight(&self, key: usize) -> Option<Flight>
-        ensures { result ≡ slice_index_or self.now.flights key None }
+    /// The message in flight with a number, and the number with it.
+    pub fn flight(&self, number: u64) -> Option<Flight>
+        ensures { result ≡ flight_at self.now.flights number }
     {
-        self.net.flight(key)
+        self.net.flight(number)
     }
 
-    /// The message under a key, with its number, where it stands.
+    /// The same, where it stands.
     #[inline(always)]
-    pub fn peek_flight(&self, key: usize) -> Option<&Flight>
-        ensures { option_map (λ flight. flight.now) result ≡ slice_index_or self.now.flights key None }
+    pub fn peek_flight(&self, number: u64) -> Option<&Flight>
+        ensures { option_map (λ flight. flight.now) result ≡ flight_at self.now.flights number }
     {
-        self.net.peek_flight(key)
+        self.net.peek_flight(number)
     }
 
-    /// The key of the message that was sent last, if it is in flight. It isn't said once the numbers have come to their end.
+    /// The number of the message that was sent last, if it is in flight. It isn't said once the numbers have come to their end.
     #[inline(always)]
-    pub fn newest(&self) -> Option<usize>
+    pub fn newest(&self) -> Option<u64>
         ensures some { self.now.sent < 18446744073709551615 → IfSome result (IsNewest self.now.flights self.now.sent) }
         ensures none { self.now.sent < 18446744073709551615 → IfNone result (HasNewestArrived self.now.flights self.now.sent) }
     {
@@ -124,7 +124,7 @@ impl<const SETS: usize, const WAYS: usize> Machine<SETS, WAYS> {
         match step {
             Step::Core(id) => self.is_core_enabled(id),
             Step::Evict(id, block) => self.is_evict_enabled(id, block),
-            Step::Deliver(key) => match self.net.peek(key) {
+            Step::Deliver(number) => match self.net.peek(number as u64) {
                 Some(message) => match receiver(message) {
                     Some(id) => id.index() < self.directory.harts(),
                     None => !is_held(&self.directory, message),

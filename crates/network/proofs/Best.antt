@@ -1,138 +1,112 @@
-use Rattle.std.proofs.Common.{◌≡◌, ℕ, ◌<◌, ◌≤◌, ◌+◌, ◌⊎◌, inl, inr, Bool, true, false, List, Option, Some, None, get_or, length, arith, refl, ap, sym, ◌∙◌, leb, subst, Bor, true≢false}
-use Rattle.std.proofs.lemmas.Bool.{cases_lt, cases_eq}
-use Rattle.std.proofs.lemmas.Bool.Decides.{nat_tests}
-use Rattle.std.proofs.lemmas.List.{get_or_past}
-use Rattle.std.proofs.lemmas.Option.{same_Some, none-some}
+-- The lowest number so far among the messages that pass.
+use Rattle.std.proofs.Common.{◌≡◌, ℕ, ◌<◌, ◌≤◌, ◌+◌, ◌⊎◌, inl, inr, Bool, true, false, List, Option, Some, None, get_or, length, arith, refl, ap, sym, ◌∙◌, subst, Bor, true≢false}
+use Rattle.std.specs.Prelude.{IfSome, IfNone}
+use Rattle.std.proofs.lemmas.Bool.{cases_eq, ltb-true, ltb-false}
+use Rattle.std.proofs.lemmas.Option.{same_Some}
 use Rattle.std.specs.Fn.{FnReturnsAt, Shared}
 use Rattle.words.specs.declared.message.Message.{Message}
 use Rattle.network.specs.declared.net.Flight.{Flight}
-use Rattle.network.specs.Flights.{Flights, IsOldest, is_earlier, first_of}
+use Rattle.network.specs.Flights.{flight_at, IsOldest, NonePasses, first_from}
+use Rattle.network.specs.Sorted.{in_order, is_lower}
+use Rattle.network.proofs.Sorted.{AreApart, found, holds, ordered}
+use Rattle.network.proofs.Crowded.{inside}
+use Rattle.network.proofs.First.{first_is, first_none}
 
 -- what a call by reference gave
 pub told : {F T R : Type 0} (g : Shared F (Bor T × Unit {0}) R) (f : F) (p : Bor T) (r s : R) → g.post f (p, tt) r → r ≡ s → FnReturnsAt g f p.now s
 told {F} {T} {R} g f p r s h e = let P : R → Type 0 = λ x. g.post f (p, tt) x in record { shown = p; shows = refl; says = record { met = subst P e h } }
 
-module _ (Passes Fails : ℕ → Flight → Type 0) (slots : List (Option Flight)) where
-  -- a message before a key does not pass, or comes later than this one
-  abbrev pub Later : ℕ → ℕ → ℕ → Flight → Type 0
-  Later key number other f = Fails other f ⊎ ((number < f.number) ⊎ ((number ≡ f.number) × (key ≤ other)))
-
-  pub record BestAt (n key number : ℕ) : Type 0 where
+module _ (Passes Fails : Flight → Type 0) (slots : List (Option Flight)) where
+  pub record BestAt (end number : ℕ) : Type 0 where
+    pub key : ℕ
     pub flight : Flight
     pub here : get_or slots key None ≡ Some flight
     pub numbered : flight.number ≡ number
-    pub below : key < n
-    pub passes : Passes key flight
-    pub first : (other : ℕ) (f : Flight) → other < n → get_or slots other None ≡ Some f → Later key number other f
+    pub passes : Passes flight
+    pub first : (other : ℕ) (f : Flight) → other < end → get_or slots other None ≡ Some f → Fails f ⊎ (number ≤ f.number)
 
-  -- what the best of the first n keys is
-  abbrev pub IsBest : ℕ → Option (ℕ × ℕ) → Type 0
-  IsBest n None = (other : ℕ) (f : Flight) → other < n → get_or slots other None ≡ Some f → Fails other f
-  IsBest n (Some best) = BestAt n best.0 best.1
+  -- what the best of the keys below an end is
+  abbrev pub IsBest : ℕ → Option ℕ → Type 0
+  IsBest end None = (other : ℕ) (f : Flight) → other < end → get_or slots other None ≡ Some f → Fails f
+  IsBest end (Some best) = BestAt end best
 
-  -- a key with no message that passes changes nothing
-  pub IsBest-skip : (n : ℕ) (best : Option (ℕ × ℕ)) → IsBest n best → ((f : Flight) → get_or slots n None ≡ Some f → Fails n f) → IsBest (n + 1) best
-  IsBest-skip n None h skip = λ other f below at. elim (cases_eq other n) [
-    | inl e ↦ rw e (skip f (rw e at at))
+  -- a key with no message that passes and is lower changes nothing
+  pub IsBest-skip : (end : ℕ) (best : Option ℕ) → IsBest end best → ((f : Flight) → get_or slots end None ≡ Some f → Fails f ⊎ (is_lower f.number best ≡ false)) → IsBest (end + 1) best
+  IsBest-skip end None h skip = λ other f below at. elim (cases_eq other end) [
+    | inl e ↦ elim (skip f (rw e at at)) [ inl fails ↦ fails | inr lower ↦ absurd (true≢false lower) ]
     | inr ne ↦ h other f (omega arith) at
   ]
-  IsBest-skip n (Some best) h skip = record {
+  IsBest-skip end (Some best) h skip = record {
+    key = h.key;
     flight = h.flight;
     here = h.here;
     numbered = h.numbered;
-    below = omega arith;
     passes = h.passes;
-    first = λ other f below at. elim (cases_eq other n) [
-      | inl e ↦ inl (rw e (skip f (rw e at at)))
+    first = λ other f below at. elim (cases_eq other end) [
+      | inl e ↦ elim (skip f (rw e at at)) [ inl fails ↦ inl fails | inr lower ↦ inr (ltb-false f.number best lower) ]
       | inr ne ↦ h.first other f (omega arith) at
     ];
   }
 
-  -- a key with a message that was not sent before the best changes nothing
-  pub IsBest-stay : (n : ℕ) (best : ℕ × ℕ) (g : Flight) → IsBest n (Some best) → get_or slots n None ≡ Some g → best.1 ≤ g.number → IsBest (n + 1) (Some best)
-  IsBest-stay n best g h at behind = record {
-    flight = h.flight;
-    here = h.here;
-    numbered = h.numbered;
-    below = omega arith;
-    passes = h.passes;
-    first = λ other f below there. elim (cases_eq other n) [
-      | inl e ↦
-          let same : g ≡ f = same_Some g f (sym at ∙ (rw e at there)) in
-          let k : g.number ≡ f.number = ap (λ (x : Flight). x.number) same in
-          inr (elim (cases_eq best.1 f.number) [ inl eq ↦ inr (eq, omega arith) | inr ne ↦ inl (omega arith) ])
-      | inr ne ↦ h.first other f (omega arith) there
-    ];
-  }
+  first_taken : (end : ℕ) (best : Option ℕ) (g : Flight) → IsBest end best → is_lower g.number best ≡ true → (other : ℕ) (f : Flight) → other < end → get_or slots other None ≡ Some f
+      → Fails f ⊎ (g.number ≤ f.number)
+  first_taken end None g h lower other f below at = inl (h other f below at)
+  first_taken end (Some best) g h lower other f below at = elim (h.first other f below at) [
+    | inl fails ↦ inl fails
+    | inr later ↦ inr (omega (arith, later, ltb-true g.number best lower))
+  ]
 
-  -- a key with a message that passes
-  pub IsBest-take : (n : ℕ) (best : Option (ℕ × ℕ)) (g : Flight) → IsBest n best → get_or slots n None ≡ Some g → Passes n g → IsBest (n + 1) (first_of best n g.number)
-  IsBest-take n None g h at good = record {
+  -- a key with a lower message that passes
+  pub IsBest-take : (end : ℕ) (best : Option ℕ) (g : Flight) → IsBest end best → get_or slots end None ≡ Some g → is_lower g.number best ≡ true → Passes g → IsBest (end + 1) (Some g.number)
+  IsBest-take end best g h at lower passes = record {
+    key = end;
     flight = g;
     here = at;
     numbered = refl;
-    below = omega arith;
-    passes = good;
-    first = λ other f below there. elim (cases_eq other n) [
-      | inl e ↦ let same : g ≡ f = same_Some g f (sym at ∙ (rw e at there)) in inr (inr (ap (λ (x : Flight). x.number) same, omega arith))
-      | inr ne ↦ inl (h other f (omega arith) there)
+    passes = passes;
+    first = λ other f below there. elim (cases_eq other end) [
+      | inl e ↦ let same : g ≡ f = same_Some g f (sym at ∙ (rw e at there)) in inr (omega (arith, ap (λ (x : Flight). x.number) same))
+      | inr ne ↦ first_taken end best g h lower other f (omega arith) there
     ];
   }
-  IsBest-take n (Some best) g h at good = elim (cases_lt g.number best.1) [
-    | inl lower ↦
-        let t : leb best.1 g.number ≡ false = grind (arith, nat_tests) in
-        rw t (record {
-          flight = g;
-          here = at;
-          numbered = refl;
-          below = omega arith;
-          passes = good;
-          first = λ other f below there. elim (cases_eq other n) [
-            | inl e ↦ let same : g ≡ f = same_Some g f (sym at ∙ (rw e at there)) in inr (inr (ap (λ (x : Flight). x.number) same, omega arith))
-            | inr ne ↦ elim (h.first other f (omega arith) there) [
-              | inl bad ↦ inl bad
-              | inr later ↦ inr (inl (elim later [ inl a ↦ omega arith | inr b ↦ omega arith ]))
-            ]
-          ];
-        })
-    | inr higher ↦
-        let t : leb best.1 g.number ≡ true = grind (arith, nat_tests) in
-        rw t (IsBest-stay n best g h at higher)
-  ]
 
-  -- a key with an earlier message that passes
-  pub IsBest-earlier : (n : ℕ) (best : Option (ℕ × ℕ)) (g : Flight) → IsBest n best → get_or slots n None ≡ Some g → is_earlier g.number best ≡ true → Passes n g → IsBest (n + 1) (Some (n, g.number))
-  IsBest-earlier n None g h at earlier good = IsBest-take n None g h at good
-  IsBest-earlier n (Some best) g h at earlier good =
-      let t : leb best.1 g.number ≡ false = grind (arith, nat_tests, earlier) in
-      let taken : IsBest (n + 1) (first_of (Some best) n g.number) = IsBest-take n (Some best) g h at good in
-      rw t at taken
+-- a message has a number from one on, or a lower one
+abbrev pub IsFrom : ℕ → Flight → Type 0
+IsFrom number f = number ≤ f.number
 
-  -- a key with a later message changes nothing
-  pub IsBest-later : (n : ℕ) (best : Option (ℕ × ℕ)) (g : Flight) → IsBest n best → get_or slots n None ≡ Some g → is_earlier g.number best ≡ false → IsBest (n + 1) best
-  IsBest-later n None g h at later = absurd (true≢false later)
-  IsBest-later n (Some best) g h at later = IsBest-stay n best g h at (grind (arith, nat_tests, later))
+abbrev pub IsBelow : ℕ → Flight → Type 0
+IsBelow number f = f.number < number
 
--- a message lies below the end of the slots
-pub inside : (slots : List (Option Flight)) (key : ℕ) (f : Flight) → get_or slots key None ≡ Some f → key < length slots
-inside slots key f at = elim (cases_lt key (length slots)) [
-  | inl k ↦ k
-  | inr k ↦ absurd (none-some f (sym (get_or_past slots key None (omega arith)) ∙ at))
-]
+module _ (slots : List (Option Flight)) (end : ℕ) (all : length slots ≤ end) where
+  below_end : (key : ℕ) (f : Flight) → get_or slots key None ≡ Some f → key < end
+  below_end key f at = omega (arith, inside slots key f at, all)
 
--- or below each number from which on there is none
-pub below_end : (slots : List (Option Flight)) (n key : ℕ) (f : Flight) → ((other : ℕ) → n ≤ other → get_or slots other None ≡ None) → get_or slots key None ≡ Some f → key < n
-below_end slots n key f none at = elim (cases_lt key n) [
-  | inl k ↦ k
-  | inr k ↦ absurd (none-some f (sym (none key k) ∙ at))
-]
+  -- the best of all keys is the oldest, and where there is no best, none passes
+  module _ (answers : Message → Bool → Type 0) where
+    pub oldest_best : AreApart slots → (best : Option ℕ) → IsBest (λ f. answers f.message true) (λ f. answers f.message false) slots end best → IfSome best (IsOldest answers (in_order slots))
+    oldest_best apart None h = tt
+    oldest_best apart (Some number) h = record {
+      flight = h.flight;
+      here = subst (λ n. flight_at (in_order slots) n ≡ Some h.flight) h.numbered (holds slots apart h.key h.flight h.here);
+      passes = h.passes;
+      first = λ other f at.
+          let one = found slots other f at in
+          elim (h.first one.0 f (below_end one.0 f one.1) one.1) [ inl fails ↦ inl fails | inr later ↦ inr (omega (arith, later, one.2)) ];
+    }
 
--- the best of all keys up to where no message is left is the oldest
-pub IsOldest-best : (answers : Message → Bool → Type 0) (net : Flights) (n key number : ℕ) → ((other : ℕ) → n ≤ other → get_or net.slots other None ≡ None)
-    → BestAt (λ k f. answers f.message true) (λ k f. answers f.message false) net.slots n key number → IsOldest answers net key
-IsOldest-best answers net n key number all h = record {
-  flight = h.flight;
-  here = h.here;
-  passes = h.passes;
-  first = λ other f at. rw h.numbered (h.first other f (below_end net.slots n other f all at) at);
-}
+    pub none_best : (best : Option ℕ) → IsBest (λ f. answers f.message true) (λ f. answers f.message false) slots end best → IfNone best (NonePasses answers (in_order slots))
+    none_best None h = λ number f at. let one = found slots number f at in h one.0 f (below_end one.0 f one.1) one.1
+    none_best (Some number) h = tt
+
+  -- the best of all keys that have a number from one on is the first from there
+  module _ (number : ℕ) (apart : AreApart slots) where
+    pub first_best : (best : ℕ) → IsBest (IsFrom number) (IsBelow number) slots end (Some best) → flight_at (in_order slots) best ≡ first_from number (in_order slots)
+    first_best best h =
+        let held = holds slots apart h.key h.flight h.here in
+        let least : (n : ℕ) (g : Flight) → flight_at (in_order slots) n ≡ Some g → number ≤ n → h.flight.number ≤ n = λ n g at above.
+        let one = found slots n g at in
+        elim (h.first one.0 g (below_end one.0 g one.1) one.1) [ inl lower ↦ absurd (omega (arith, lower, one.2, above)) | inr later ↦ omega (arith, later, one.2, h.numbered) ] in
+        subst (λ n. flight_at (in_order slots) n ≡ Some h.flight) h.numbered held ∙ sym (first_is number (in_order slots) (ordered slots apart) h.flight held h.passes least)
+
+    pub first_no_best : IsBest (IsFrom number) (IsBelow number) slots end None → None ≡ first_from number (in_order slots)
+    first_no_best h = sym (first_none number (in_order slots) (ordered slots apart) (λ n f at. let one = found slots n f at in omega (arith, one.2, h one.0 f (below_end one.0 f one.1) one.1)))

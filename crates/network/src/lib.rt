@@ -2,6 +2,5 @@
 #![tactic(auto)]
 
 mod net;
-mod slots;
 
 pub use net::{Flight, Net};

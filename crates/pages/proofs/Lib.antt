@@ -2,7 +2,6 @@ mod Below
 mod Blocks
 mod Lists
 mod Naming
-mod Slots
 mod Spelling
 mod Staying
 mod Telling

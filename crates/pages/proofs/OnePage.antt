@@ -1,5 +1,5 @@
 -- Runs that no one tells apart have the same page.
-use Rattle.std.proofs.Common.{◌≡◌, ◌++◌, ◌∙◌, ℕ, cond, nat_lt, Option, Some, None, List, [], ◌∷◌, length, codes, refl, ap}
+use Rattle.std.proofs.Common.{◌≡◌, ◌++◌, ◌∙◌, ℕ, cond, nat_lt, Option, Some, None, List, [], ◌∷◌, codes, refl, ap}
 use Rattle.std.specs.Option.{option_map}
 use Rattle.std.specs.List.{flat_map, range_with_len}
 use Rattle.std.proofs.Math.Path.{fun_ext}
@@ -9,18 +9,16 @@ use Rattle.protocol.specs.Caches.{Geometry}
 use Rattle.protocol.specs.Values.{raw, peek}
 use Rattle.disassembler.specs.Labels.{label}
 use Rattle.disassembler.specs.Tables.{Table}
-use Rattle.machine.specs.Mail.{Mail}
 use Rattle.machine.specs.Reads.{info_of}
 use Rattle.machine.specs.States.{State, setting_of, shown}
 use Rattle.machine.specs.Twins.{AreTwins}
-use Rattle.machine.proofs.TwinReads.{each_kept, raw_is, peek_is}
+use Rattle.machine.proofs.TwinReads.{each_kept}
 use Rattle.schedule.specs.Moments.{Moment}
 use Rattle.schedule.specs.Twins.{AreTwinMoments, AreTwinRuns}
-use Rattle.schedule.proofs.SameFlights.{same_items}
 use Rattle.pages.specs.Form.{tail}
 use Rattle.pages.specs.Names.{name_text}
-use Rattle.pages.specs.Flights.{flight_item}
-use Rattle.pages.specs.Memory.{raw_at, peek_at, value_item, word_item, digits_item}
+use Rattle.pages.specs.Flights.{flight_item, first_told}
+use Rattle.pages.specs.Memory.{value_item, word_item, digits_item}
 use Rattle.pages.specs.Harts.{progress_text, waits_text, transaction_text, registers_text, line_item, cache_text, hart_text, hart_item, harts_text}
 use Rattle.pages.specs.Moments.{event_text, step_text, arrival_text, actor_of, actor_text, rest_text, moment_text, moments_text}
 use Rattle.pages.specs.Pages.{sizes_text, opening, page_of}
@@ -44,14 +42,13 @@ module _ (names : Table) (g : Geometry) (words : List ℕ) where
         ∙ ap (λ (item : ℕ → List ℕ). flat_map item (range_with_len 0 (setting_of w).count)) (fun_ext (λ i. ap (λ text. text ++ codes ",") (same_hart i)))
 
     same_word : (a : ℕ) → word_item g.sets v a ≡ word_item g.sets w a
-    same_word a = λ k. value_item (word_if (twins.machine k).setting (raw_is g v w twins k) a) ++ value_item (word_if (twins.machine k).setting (peek_is g v w twins k) a)
+    same_word a = λ k. value_item (word_if (twins.machine k).setting (raw (twins.sent k) (twins.machine k)) a) ++ value_item (word_if (twins.machine k).setting (peek (twins.sent k) (twins.machine k)) a)
 
     -- the messages in flight, and the words
     same_rest : (sent : ℕ) → rest_text g.sets words sent v ≡ rest_text g.sets words sent w
     same_rest sent =
-        let flights : flat_map (flight_item sent) v.flights ≡ flat_map (flight_item sent) w.flights = same_items (flight_item sent) refl v.flights w.flights (λ key. ap (λ (mail : Mail). mail key) twins.mail) in
         let all : flat_map (word_item g.sets v) words ≡ flat_map (word_item g.sets w) words = ap (λ (item : ℕ → List ℕ). flat_map item words) (fun_ext same_word) in
-        λ k. codes "flights:[" ++ (flights k ++ (codes "],words:[" ++ (all k ++ codes "]},\n")))
+        λ k. codes "flights:[" ++ (flat_map (flight_item (first_told sent (twins.sent k))) (twins.flights k) ++ (codes "],words:[" ++ (all k ++ codes "]},\n")))
 
     same_actor : (actor : Option ℕ) → actor_text names g.sets v actor ≡ actor_text names g.sets w actor
     same_actor None = refl

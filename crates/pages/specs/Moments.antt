@@ -19,15 +19,15 @@ use Rattle.machine.specs.States.{State, setting_of, shown}
 use Rattle.schedule.specs.Moments.{Moment}
 use Rattle.pages.specs.Names.{name_text}
 use Rattle.pages.specs.Harts.{hart_text}
-use Rattle.pages.specs.Flights.{flight_item}
+use Rattle.pages.specs.Flights.{flight_item, first_told}
 use Rattle.pages.specs.Memory.{word_item}
 
 -- the hart that a step changes at most: the one that makes it, or to which the message comes
 abbrev pub actor_of : Step → Option Flight → Option ℕ
 actor_of (Core hart) arrival = Some hart
 actor_of (Evict hart block) arrival = Some hart
-actor_of (Deliver key) None = None
-actor_of (Deliver key) (Some flight) = receiver_of (shown_message flight.message)
+actor_of (Deliver number) None = None
+actor_of (Deliver number) (Some flight) = receiver_of (shown_message flight.message)
 
 -- the name of the address that an entry has, if it has one
 abbrev pub entry_name : Table → Entry → List ℕ
@@ -48,7 +48,7 @@ event_text names (Some e) = entry_text names e
 abbrev pub step_text : Step → List ℕ
 step_text (Core hart) = codes "step:\"core\","
 step_text (Evict hart block) = concat (codes "step:\"evict " ∷ block_text block ∷ codes "\"," ∷ [])
-step_text (Deliver key) = codes "step:\"deliver\","
+step_text (Deliver number) = codes "step:\"deliver\","
 
 -- the number of the message that arrived, and what the directory knows of its block then
 abbrev pub known_text : Machine → ℕ → ℕ → List ℕ
@@ -71,7 +71,7 @@ actor_text names sets m (Some i) = cond (nat_lt i (setting_of m).count) (changed
 
 -- the messages in flight, where so many had been sent before the step, and the words
 abbrev pub rest_text : ℕ → List ℕ → ℕ → State → List ℕ
-rest_text sets words sent m = codes "flights:[" ++ (flat_map (flight_item sent) m.flights ++ (codes "],words:[" ++ (flat_map (word_item sets m) words ++ codes "]},\n")))
+rest_text sets words sent m = codes "flights:[" ++ (flat_map (flight_item (first_told sent m.sent)) m.flights ++ (codes "],words:[" ++ (flat_map (word_item sets m) words ++ codes "]},\n")))
 
 -- all of it, with these names, where the caches have so many sets and these words are shown
 abbrev pub moment_text : Table → ℕ → List ℕ → Moment → List ℕ

@@ -12,26 +12,38 @@ use texts::put_all;
 use words::{Sink, SinkFault};
 
 /// Puts the messages in flight. One that was sent after so many others stands with its text, and the others by their numbers.
+///
+/// Once numbers have come to their end, lower ones are given anew, and then each stands with its text.
 pub(crate) fn put_flights<const SETS: usize, const WAYS: usize, S: Sink>(
     sink: &mut S,
     sent: u64,
     machine: &Machine<SETS, WAYS>,
 ) -> Result<(), SinkFault>
-    ensures { Puts (S.state sink.old) (S.state sink.new) (flat_map (spec.flight_item sent) machine.now.flights) result }
+    ensures { Puts (S.state sink.old) (S.state sink.new) (flat_map (spec.flight_item (spec.first_told sent machine.now.sent)) machine.now.flights) result }
 {
-    for key in 0..machine.keys() {
-        put_flight(sink, sent, &machine.flight(key))?;
+    machine.are_in_order();
+    let from = first_told(sent, machine.sent());
+    let mut number = 0;
+    while let Some(flight) = machine.next_from(number) {
+        put_flight(sink, from, flight)?;
+        number = flight.number + 1;
     }
     Ok(())
 }
 
-fn put_flight<S: Sink>(sink: &mut S, sent: u64, flight: &Option<Flight>) -> Result<(), SinkFault>
-    ensures { Puts (S.state sink.old) (S.state sink.new) (spec.flight_item sent flight.now) result }
+fn first_told(before: u64, after: u64) -> u64
+    ensures { result ≡ spec.first_told before after }
 {
-    match flight {
-        Some(flight) if sent <= flight.number => put_new(sink, flight),
-        Some(flight) => put_number(sink, flight.number),
-        None => Ok(()),
+    if after == u64::MAX { 0 } else { before }
+}
+
+fn put_flight<S: Sink>(sink: &mut S, from: u64, flight: &Flight) -> Result<(), SinkFault>
+    ensures { Puts (S.state sink.old) (S.state sink.new) (spec.flight_item from flight.now) result }
+{
+    if from <= flight.number {
+        put_new(sink, flight)
+    } else {
+        put_number(sink, flight.number)
     }
 }
 
@@ -51,7 +63,7 @@ fn put_new<S: Sink>(sink: &mut S, flight: &Flight) -> Result<(), SinkFault>
     )
 }
 
-/// Puts a number, and a comma behind it.
+/// Puts a number, and a comma after it.
 pub(crate) fn put_number<S: Sink>(sink: &mut S, number: u64) -> Result<(), SinkFault>
     ensures { Puts (S.state sink.old) (S.state sink.new) (spec.number_item number) result }
 {

@@ -1,9 +1,10 @@
 //! That the lines of a page tell all that changes.
-ghost use Rattle.std.specs.Prelude.{ℕ, List, true, ◌≡◌, ◌<◌, ◌≤◌, Option, Some, IsSome};
+ghost use Rattle.std.specs.Prelude.{ℕ, List, true, ◌≡◌, ◌<◌, Option, Some, IsSome};
 ghost use Rattle.std.specs.List.{list_all};
 ghost use Rattle.words.specs.declared.entry.Entry.{Entry};
 ghost use Rattle.words.specs.declared.entry.Step.{Step};
 ghost use Rattle.flat.specs.State.{Flat};
+ghost use Rattle.network.specs.Flights.{AreNumbered};
 ghost use Rattle.protocol.specs.Caches.{Geometry};
 ghost use Rattle.protocol.specs.Lines.{Line};
 ghost use Rattle.directory.specs.Blocks.{kept_at};
@@ -13,9 +14,9 @@ ghost use Rattle.schedule.specs.Runs.{Makes};
 ghost use Rattle.pages.specs.Names.{is_spelling, quoted};
 ghost use Rattle.pages.specs.Told.{ChangesWhatIsTold};
 
-/// What the line of a moment doesn't tell is as it was before, and the ways of lines follow from what is told. (No more messages were sent before than a u64 counts.)
+/// What the line of a moment doesn't tell is as it was before, and the ways of lines follow from what is told. (Each message in flight before has a number below the next, as in any machine.)
 pub fn what_is_not_told_stays()
-    ensures { (g : Geometry) (v w : State) (step : Step) (e : Option Entry) → v.sent ≤ 18446744073709551615 → Makes g v (Some step) e w → ChangesWhatIsTold g.sets v step w }
+    ensures { (g : Geometry) (v w : State) (step : Step) (e : Option Entry) → AreNumbered v.flights v.sent → Makes g v (Some step) e w → ChangesWhatIsTold g.sets v step w }
 {}
 
 /// A line that tells of a hart tells all lines of its cache: the directory has an entry of the block of each.

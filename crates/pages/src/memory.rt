@@ -39,6 +39,7 @@ fn put_word<const SETS: usize, const WAYS: usize, S: Sink>(
 ) -> Result<(), SinkFault>
     ensures { Puts (S.state sink.old) (S.state sink.new) (spec.word_item SETS machine.now addr) result }
 {
+    machine.are_in_order();
     put_value(sink, machine.raw(addr))?;
     put_value(sink, machine.peek(addr))
 }

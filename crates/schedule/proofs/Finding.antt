@@ -1,35 +1,31 @@
--- A message is looked for under one key after another.
-use Rattle.std.proofs.Common.{◌≡◌, ◌≢◌, ◌<◌, ◌≤◌, ◌+◌, ◌⊎◌, inl, inr, ℕ, Option, Some, None, refl, ap, ◌∙◌, subst, arith}
-use Rattle.std.proofs.lemmas.Bool.{cases_lt}
+-- A message is looked for by its name, in the order of sending.
+use Rattle.std.proofs.Common.{◌≡◌, ◌≢◌, ◌<◌, ◌+◌, ◌∙◌, ℕ, Some, None, sym, ap, below_more}
 use Rattle.std.specs.Option.{option_map}
-use Rattle.words.specs.declared.message.Message.{Message as Coded}
-use Rattle.protocol.specs.Messages.{Message, shown as shown_message}
+use Rattle.std.proofs.lemmas.Option.{none-some, same_Some}
+use Rattle.network.specs.declared.net.Flight.{Flight}
+use Rattle.network.specs.Flights.{AreInOrder, first_from, flight_at}
+use Rattle.protocol.specs.Messages.{shown as shown_message}
 use Rattle.protocol.specs.Machine.{Machine}
+use Rattle.network.proofs.OneOrder.{from_is}
+use Rattle.machine.specs.States.{State, shown}
 use Rattle.schedule.specs.declared.choices.Name.{Name}
-use Rattle.schedule.specs.Steps.{name_of, LiesUnder}
+use Rattle.schedule.specs.Steps.{name_of, FliesAs}
+use Rattle.schedule.proofs.Walking.{walked_to, walked_all}
 
--- no message of the name is under a key below this one
+-- no message of the name has a number below this one
 abbrev pub NoneBelow : Machine → Name → ℕ → Type 0
-NoneBelow w n end = (key : ℕ) → key < end → LiesUnder w n key → ⊥
+NoneBelow w n end = (number : ℕ) → number < end → FliesAs w n number → ⊥
 
-at_most : (a b : ℕ) → a < b + 1 → (a < b) ⊎ (a ≡ b)
-at_most a b h = grind arith
+module _ (sets : ℕ) (v : State) (n : Name) where
+  nothing : (number : ℕ) → flight_at v.flights number ≡ None → FliesAs (shown sets v) n number → ⊥
+  nothing number none (m, there, named) = none-some m (sym (ap (λ o. option_map shown_message (option_map (λ f. f.message) o)) none) ∙ there)
 
-one_more : (w : Machine) (n : Name) (end : ℕ) → NoneBelow w n end → (LiesUnder w n end → ⊥) → NoneBelow w n (end + 1)
-one_more w n end below here = λ key less lies. elim (at_most key end less) [ inl l ↦ below key l lies | inr e ↦ here (subst (LiesUnder w n) e lies) ]
+  module _ (number : ℕ) (below : NoneBelow (shown sets v) n number) where
+    -- the next message has another name
+    pub not_named : (f : Flight) → AreInOrder v.flights → first_from number v.flights ≡ Some f → name_of (shown_message f.message) ≢ n → NoneBelow (shown sets v) n (f.number + 1)
+    not_named f order is other = below_more (λ k. FliesAs (shown sets v) n k → ⊥) f.number (walked_to (λ k. FliesAs (shown sets v) n k → ⊥) v.flights number nothing below f order is) (λ (m, there, named).
+        other (ap name_of (same_Some (shown_message f.message) m (sym (ap (λ o. option_map shown_message (option_map (λ g. g.message) o)) (from_is number v.flights f is).1) ∙ there)) ∙ named))
 
--- one more key, under which there is another message, or none
-pub not_named : (w : Machine) (n : Name) (end : ℕ) (m : Message) → NoneBelow w n end → w.net end ≡ Some m → name_of m ≢ n → NoneBelow w n (end + 1)
-not_named w n end m below here other = one_more w n end below (λ (x, there, named). other (let same : m ≡ x = cc in ap name_of same ∙ named))
-
-pub nothing_there : (w : Machine) (n : Name) (end : ℕ) → NoneBelow w n end → w.net end ≡ None → NoneBelow w n (end + 1)
-nothing_there w n end below here = one_more w n end below (λ (x, there, named). absurd (cc))
-
--- all keys from there on are free
-pub beyond_all : (w : Machine) (n : Name) (end : ℕ) → NoneBelow w n end → ((key : ℕ) → end ≤ key → w.net key ≡ None) → (key : ℕ) → LiesUnder w n key → ⊥
-beyond_all w n end below free key (x, there, named) = elim (cases_lt key end) [ inl l ↦ below key l (x, there, named) | inr le ↦ let none = free key le in absurd (cc) ]
-
--- where nothing is found there is no message
-pub no_message : (o : Option Coded) → ((c : Coded) → o ≡ Some c → ⊥) → option_map shown_message o ≡ None
-no_message None none = refl
-no_message (Some c) none = absurd (none c refl)
+    -- there is no further one
+    pub none_named : first_from number v.flights ≡ None → (k : ℕ) → FliesAs (shown sets v) n k → ⊥
+    none_named is = walked_all (λ k. FliesAs (shown sets v) n k → ⊥) v.flights number nothing below is

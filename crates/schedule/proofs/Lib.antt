@@ -1,5 +1,6 @@
 mod Words
 mod Reading
+pub mod Walking
 mod Finding
 mod Drawing
 mod Resting
@@ -18,4 +19,3 @@ pub mod Texts
 pub mod Readable
 mod Repeats
 pub mod OneRun
-pub mod SameFlights

@@ -6,7 +6,8 @@ use Rattle.words.specs.declared.entry.Step.{Step}
 use Rattle.words.specs.declared.entry.Step.TheVariants as step
 use Rattle.protocol.specs.Caches.{Geometry}
 use Rattle.protocol.specs.Machine.{Machine}
-use Rattle.machine.specs.Mail.{Mail}
+use Rattle.network.specs.declared.net.Flight.{Flight}
+use Rattle.network.specs.Flights.{flight_at}
 use Rattle.machine.specs.States.{State, shown}
 use Rattle.machine.specs.Turns.{hart_after}
 use Rattle.machine.specs.Twins.{AreTwins}
@@ -26,13 +27,13 @@ one_arrival : (w : Machine) (n : Name) (s t : Option Step) → IsArrivalOf w n s
 one_arrival w n None None one other = refl
 one_arrival w n None (Some (step.Core i)) one other = absurd other
 one_arrival w n None (Some (step.Evict i b)) one other = absurd other
-one_arrival w n None (Some (step.Deliver key)) one other = absurd (one key other.0)
+one_arrival w n None (Some (step.Deliver number)) one other = absurd (one number other.0)
 one_arrival w n (Some (step.Core i)) t one other = absurd one
 one_arrival w n (Some (step.Evict i b)) t one other = absurd one
-one_arrival w n (Some (step.Deliver key)) None one other = absurd (other key one.0)
-one_arrival w n (Some (step.Deliver key)) (Some (step.Core i)) one other = absurd other
-one_arrival w n (Some (step.Deliver key)) (Some (step.Evict i b)) one other = absurd other
-one_arrival w n (Some (step.Deliver key)) (Some (step.Deliver also)) one other = ap (λ k. Some (step.Deliver k)) (other.1 key one.0)
+one_arrival w n (Some (step.Deliver number)) None one other = absurd (other number one.0)
+one_arrival w n (Some (step.Deliver number)) (Some (step.Core i)) one other = absurd other
+one_arrival w n (Some (step.Deliver number)) (Some (step.Evict i b)) one other = absurd other
+one_arrival w n (Some (step.Deliver number)) (Some (step.Deliver also)) one other = ap (λ k. Some (step.Deliver k)) (other.1 number one.0)
 
 pub one_step : (g : Geometry) (v w : State) (after : ℕ) (c : Choice) (s t : Option Step) → AreTwins g v w → IsStepOf g.sets v after c s → IsStepOf g.sets w after c t → s ≡ t
 one_step g v w after (Core h) s t twins one other = one ∙ sym other
@@ -45,7 +46,7 @@ one_step g v w after Turn s t twins one other = turn_once g v w after s t twins 
 arrival_is : (g : Geometry) (v w : State) (s : Step) → AreTwins g v w → arrival_of v s ≡ arrival_of w s
 arrival_is g v w (step.Core i) twins = refl
 arrival_is g v w (step.Evict i b) twins = refl
-arrival_is g v w (step.Deliver key) twins = ap (λ (mail : Mail). mail key) twins.mail
+arrival_is g v w (step.Deliver number) twins = ap (λ (flights : List Flight). flight_at flights number) twins.flights
 
 module _ (g : Geometry) (v w : State) (twins : AreTwins g v w) where
   -- one step makes one moment

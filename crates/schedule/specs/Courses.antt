@@ -1,4 +1,4 @@
--- What chooses the steps of a run: a list, and behind it the machine's own turns, or chance.
+-- What chooses the steps of a run: a list, and after it the machine's own turns, or chance.
 use Rattle.std.specs.Prelude.{ℕ, ◌≡◌, ◌<◌, ◌++◌, true, false, List, [], ◌∷◌, Option, Some, None}
 use Rattle.words.specs.declared.entry.Step.{Step}
 use Rattle.words.specs.declared.entry.Step.TheVariants.{Core, Deliver}
@@ -9,12 +9,12 @@ use Rattle.machine.specs.Watch.{IsEnabledByRule}
 use Rattle.schedule.specs.declared.choices.Choice.{Choice}
 use Rattle.schedule.specs.Steps.{IsChoiceOf, IsWithin}
 
--- what comes behind a list: turns; or what chance chooses, and these are its choices where they are kept
+-- what comes after a list: turns; or what chance chooses, and these are its choices where they are kept
 pub data Behind : Type 0 where
   Turns : Behind
   Chance : (kept : Option (List Choice)) → Behind
 
--- the choices of a list, and what comes behind them
+-- the choices of a list, and what comes after them
 pub record Course : Type 0 where
   pub choices : List Choice
   pub behind : Behind
@@ -31,9 +31,9 @@ pub record IsChosen (g : Geometry) (v : State) (c : Choice) (step : Step) : Type
 -- no hart's core has a step to make, with those victims, and no message has where to arrive
 pub record IsAtRest (g : Geometry) (v : State) : Type 0 where
   pub cores : (i : ℕ) → i < (setting_of v).count → IsEnabledByRule g v (Core i) false
-  pub messages : (key : ℕ) → IsEnabledByRule g v (Deliver key) false
+  pub messages : (number : ℕ) → IsEnabledByRule g v (Deliver number) false
 
--- behind a list nothing was chosen yet
+-- after a list nothing was chosen yet
 abbrev pub IsUnbegun : Behind → Type 0
 IsUnbegun Turns = Unit {0}
 IsUnbegun (Chance None) = Unit {0}
@@ -50,7 +50,7 @@ abbrev pub forgotten : Behind → Behind
 forgotten Turns = Turns
 forgotten (Chance kept) = Chance None
 
--- behind a list this step comes next, after a hart's, and leaves what comes behind so
+-- after a list this step comes next, where the last core step was a hart's, and leaves what comes after the list so
 abbrev pub IsNextOf : Geometry → State → ℕ → Behind → Step → Behind → Type 0
 IsNextOf g v after Turns step x = IsNextTurn (shown g.sets v) v.flights after (Some step) × (x ≡ Turns)
 IsNextOf g v after (Chance None) step x = ((c : Choice) × IsChosen g v c step) × (x ≡ Chance None)

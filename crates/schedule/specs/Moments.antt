@@ -1,18 +1,19 @@
 -- What a step did.
 use Rattle.std.specs.Prelude.{ℕ, List, [], ◌∷◌, Option, Some, None, option_to_list}
-use Rattle.std.specs.List.{flat_map, slice_index_or}
+use Rattle.std.specs.List.{flat_map}
 use Rattle.words.specs.declared.entry.Entry.{Entry}
 use Rattle.words.specs.declared.entry.Step.{Step}
 use Rattle.words.specs.declared.entry.Step.TheVariants.{Deliver}
 use Rattle.network.specs.declared.net.Flight.{Flight}
+use Rattle.network.specs.Flights.{flight_at}
 use Rattle.machine.specs.States.{State}
 
--- the message that a step delivers, if one is in flight under its key
+-- the message that a step delivers, if one is in flight with its number
 abbrev pub arrival_of : State → Step → Option Flight
-arrival_of v (Deliver key) = slice_index_or v.flights key None
+arrival_of v (Deliver number) = flight_at v.flights number
 arrival_of v other = None
 
--- how many messages were sent before a step; the step; the message that it delivered, if one was in flight; its entry, if it gave one; and the machine behind it
+-- how many messages were sent before a step; the step; the message that it delivered, if one was in flight; its entry, if it gave one; and the machine after it
 pub record Moment : Type 0 where
   pub sent : ℕ
   pub step : Step

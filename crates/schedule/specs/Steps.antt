@@ -26,14 +26,14 @@ name_of (PutAck to block) = name sort.PutAck to block
 name_of (Ack from to block content) = name sort.Ack from block
 name_of (Nack from to block stamp) = name sort.Nack from block
 
--- a message of this name is in flight under a key
-abbrev pub LiesUnder : Machine → Name → ℕ → Type 0
-LiesUnder w n key = (m : Message) × (w.net key ≡ Some m) × (name_of m ≡ n)
+-- a message of this name is in flight with a number
+abbrev pub FliesAs : Machine → Name → ℕ → Type 0
+FliesAs w n number = (m : Message) × (w.net number ≡ Some m) × (name_of m ≡ n)
 
 -- the arrival of the message of a name: there is no other of that name; or none is in flight
 abbrev pub IsArrivalOf : Machine → Name → Option Step → Type 0
-IsArrivalOf w n None = (key : ℕ) → LiesUnder w n key → ⊥
-IsArrivalOf w n (Some (step.Deliver key)) = LiesUnder w n key × ((other : ℕ) → LiesUnder w n other → other ≡ key)
+IsArrivalOf w n None = (number : ℕ) → FliesAs w n number → ⊥
+IsArrivalOf w n (Some (step.Deliver number)) = FliesAs w n number × ((other : ℕ) → FliesAs w n other → other ≡ number)
 IsArrivalOf w n (Some other) = ⊥
 
 -- a choice is this step, or none, where the last core step was this hart's

@@ -5,7 +5,7 @@ use Rattle.protocol.specs.Caches.{Geometry}
 use Rattle.machine.specs.Twins.{AreTwins}
 use Rattle.schedule.specs.Moments.{Moment}
 
--- the same step was made, with the same entry, where as many messages had been sent and the same message arrived; and the machines behind it are twins
+-- the same step was made, with the same entry, where as many messages had been sent and the same message arrived; and the machines after it are twins
 pub record AreTwinMoments (g : Geometry) (one other : Moment) : Type 0 where
   pub sent : one.sent ≡ other.sent
   pub step : one.step ≡ other.step

@@ -143,47 +143,51 @@ impl Chance {
         }
     }
 
-    /// The key of a message that can arrive. All that can are as likely. Mostly one message is in flight, which was sent last.
+    /// The number of a message that can arrive. All that can are as likely. Mostly one message is in flight, which was sent last.
     #[inline(always)]
-    fn draw_key<const SETS: usize, const WAYS: usize>(
+    fn draw_number<const SETS: usize, const WAYS: usize>(
         &mut self,
         machine: &Machine<SETS, WAYS>,
-    ) -> Option<usize>
-        ensures some { IfSome result (λ key. IsEnabledByRule (geometry SETS WAYS) machine.now (Deliver key) true) }
-        ensures none { IfNone result ((key : ℕ) → IsEnabledByRule (geometry SETS WAYS) machine.now (Deliver key) false) }
+    ) -> Option<u64>
+        ensures some { IfSome result (λ number. IsEnabledByRule (geometry SETS WAYS) machine.now (Deliver number) true) }
+        ensures none { IfNone result ((number : ℕ) → IsEnabledByRule (geometry SETS WAYS) machine.now (Deliver number) false) }
     {
         let in_flight = machine.in_flight();
         if in_flight == 0 {
             return None;
         }
         if in_flight == 1 {
-            if let Some(key) = machine.newest() {
-                if can_arrive(machine, key) {
-                    return Some(key);
+            if let Some(number) = machine.newest() {
+                if can_arrive(machine, number) {
+                    return Some(number);
                 }
             }
         }
         self.draw_arriving(machine)
     }
 
-    /// The same, by a look at all messages in flight.
+    /// The same, by a look at all messages in flight, in the order of sending.
     #[inline(never)]
     fn draw_arriving<const SETS: usize, const WAYS: usize>(
         &mut self,
         machine: &Machine<SETS, WAYS>,
-    ) -> Option<usize>
-        ensures some { IfSome result (λ key. IsEnabledByRule (geometry SETS WAYS) machine.now (Deliver key) true) }
-        ensures none { IfNone result ((key : ℕ) → IsEnabledByRule (geometry SETS WAYS) machine.now (Deliver key) false) }
+    ) -> Option<u64>
+        ensures some { IfSome result (λ number. IsEnabledByRule (geometry SETS WAYS) machine.now (Deliver number) true) }
+        ensures none { IfNone result ((number : ℕ) → IsEnabledByRule (geometry SETS WAYS) machine.now (Deliver number) false) }
     {
+        machine.are_in_order();
+        let _next = machine.sent();
         let mut drawn = None;
         let mut arriving = 0;
-        for key in 0..machine.keys() {
-            if can_arrive(machine, key) {
+        let mut number = 0;
+        while let Some(flight) = machine.next_from(number) {
+            if machine.is_enabled(Step::Deliver(flight.number as usize)) {
                 arriving += 1;
                 if self.below(arriving) == 0 {
-                    drawn = Some(key);
+                    drawn = Some(flight.number);
                 }
             }
+            number = flight.number + 1;
         }
         drawn
     }
@@ -195,10 +199,10 @@ impl Chance {
         machine: &Machine<SETS, WAYS>,
     ) -> Option<Picked>
         ensures some { IfSome result (λ p. IsChosen (geometry SETS WAYS) machine.now p.choice p.step) }
-        ensures none { IfNone result ((key : ℕ) → IsEnabledByRule (geometry SETS WAYS) machine.now (Deliver key) false) }
+        ensures none { IfNone result ((number : ℕ) → IsEnabledByRule (geometry SETS WAYS) machine.now (Deliver number) false) }
     {
-        match self.draw_key(machine) {
-            Some(key) => Some(arrival(machine, key)),
+        match self.draw_number(machine) {
+            Some(number) => Some(arrival(machine, number)),
             None => None,
         }
     }

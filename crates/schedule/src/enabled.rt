@@ -17,16 +17,16 @@ pub(crate) struct Picked {
     pub(crate) step: Step,
 }
 
-/// Whether a message is under a key that can arrive.
+/// Whether a message is in flight with a number, and can arrive.
 #[inline(always)]
 pub(crate) fn can_arrive<const SETS: usize, const WAYS: usize>(
     machine: &Machine<SETS, WAYS>,
-    key: usize,
+    number: u64,
 ) -> bool
-    ensures { IsEnabledByRule (geometry SETS WAYS) machine.now (Deliver key) result }
+    ensures { IsEnabledByRule (geometry SETS WAYS) machine.now (Deliver number) result }
 {
-    match machine.peek_flight(key) {
-        Some(_) => machine.is_enabled(Step::Deliver(key)),
+    match machine.peek_flight(number) {
+        Some(_) => machine.is_enabled(Step::Deliver(number as usize)),
         None => false,
     }
 }
@@ -48,18 +48,18 @@ pub(crate) fn step_of<const SETS: usize, const WAYS: usize>(
     }
 }
 
-/// The arrival of the message under a key, which can arrive.
+/// The arrival of the message with a number, which can arrive.
 pub(crate) fn arrival<const SETS: usize, const WAYS: usize>(
     machine: &Machine<SETS, WAYS>,
-    key: usize,
+    number: u64,
 ) -> Picked
-    requires { IsEnabledByRule (geometry SETS WAYS) machine.now (Deliver key) true }
+    requires { IsEnabledByRule (geometry SETS WAYS) machine.now (Deliver number) true }
     ensures { IsChosen (geometry SETS WAYS) machine.now result.choice result.step }
 {
-    let name = named(machine, key).unwrap();
+    let name = named(machine, number).unwrap();
     Picked {
         choice: Choice::Deliver(name),
-        step: Step::Deliver(key),
+        step: Step::Deliver(number as usize),
     }
 }
 

@@ -13,7 +13,7 @@ use std::alloc::AllocError;
 use words::{Entry, Step};
 
 /// Who sees each moment of a run, and notes it in a log, as a sink or a table of counts. A moment is how many messages were sent before a step, the
-/// step, the message that it delivered, if it did, its entry, if it gave one, and the machine behind it.
+/// step, the message that it delivered, if it did, its entry, if it gave one, and the machine after it.
 ///
 /// An observer has to write [`Observer::note`] alone. One that needs less of a moment, or can take many turns at once, has its own way for the others.
 pub trait Observer<const SETS: usize, const WAYS: usize, L> {
@@ -76,7 +76,7 @@ pub trait Observer<const SETS: usize, const WAYS: usize, L> {
     }
 }
 
-/// The message that a step delivers, if one is in flight under its key.
+/// The message that a step delivers, if one is in flight with its number.
 fn arrival<const SETS: usize, const WAYS: usize>(
     machine: &Machine<SETS, WAYS>,
     step: &Step,
@@ -84,7 +84,7 @@ fn arrival<const SETS: usize, const WAYS: usize>(
     ensures { result ≡ arrival_of machine.now step.now }
 {
     match step {
-        Step::Deliver(key) => machine.flight(*key),
+        Step::Deliver(number) => machine.flight(*number as u64),
         Step::Core(_) | Step::Evict(..) => None,
     }
 }

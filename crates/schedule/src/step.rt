@@ -3,7 +3,7 @@ ghost use Rattle.std.specs.Bool.{MatchBool};
 ghost use Rattle.words.specs.declared.entry.Step.TheVariants.{Deliver};
 ghost use Rattle.protocol.specs.Messages.{shown as shown_message};
 ghost use Rattle.machine.specs.States.{setting_of, shown};
-ghost use Rattle.schedule.specs.Steps.{name_of, LiesUnder, IsArrivalOf, IsNamedIn, IsStepOf};
+ghost use Rattle.schedule.specs.Steps.{name_of, FliesAs, IsArrivalOf, IsNamedIn, IsStepOf};
 
 use crate::choices::{Choice, Name, Sort};
 use machine::Machine;
@@ -30,17 +30,17 @@ pub fn name_of(message: &Message) -> Name
     }
 }
 
-/// The name of the message under a key. `None` where there is none.
+/// The name of the message with a number. `None` where there is none.
 pub fn named<const SETS: usize, const WAYS: usize>(
     machine: &Machine<SETS, WAYS>,
-    key: usize,
+    number: u64,
 ) -> Option<Name>
-    ensures only { IfSome result (λ n. IsArrivalOf (shown SETS machine.now) n (Some (Deliver key))) }
+    ensures only { IfSome result (λ n. IsArrivalOf (shown SETS machine.now) n (Some (Deliver number))) }
     ensures within { IfSome result (IsNamedIn (setting_of machine.now)) }
-    ensures none { IfNone result ((shown SETS machine.now).net key ≡ None) }
+    ensures none { IfNone result ((shown SETS machine.now).net number ≡ None) }
 {
     machine.keeps();
-    let message = machine.message(key)?;
+    let message = machine.message(number)?;
     let name = name_of(&message);
     let _few = name.hart.index();
     Some(name)
@@ -53,20 +53,23 @@ fn has_name(message: &Message, name: &Name) -> bool
     name_of(message) == *name
 }
 
-/// The key of the message in flight that has a name.
+/// The number of the message in flight that has a name.
 fn find<const SETS: usize, const WAYS: usize>(
     machine: &Machine<SETS, WAYS>,
     name: &Name,
-) -> Option<usize>
-    ensures some { IfSome result (λ key. IsArrivalOf (shown SETS machine.now) name.now (Some (Deliver key))) }
-    ensures none { IfNone result ((key : ℕ) → LiesUnder (shown SETS machine.now) name.now key → ⊥) }
+) -> Option<u64>
+    ensures some { IfSome result (λ number. IsArrivalOf (shown SETS machine.now) name.now (Some (Deliver number))) }
+    ensures none { IfNone result ((number : ℕ) → FliesAs (shown SETS machine.now) name.now number → ⊥) }
 {
-    for key in 0..machine.keys() {
-        if let Some(message) = machine.message(key) {
-            if has_name(&message, name) {
-                return Some(key);
-            }
+    machine.keeps();
+    machine.are_in_order();
+    let _next = machine.sent();
+    let mut number = 0;
+    while let Some(flight) = machine.next_from(number) {
+        if has_name(&flight.message, name) {
+            return Some(flight.number);
         }
+        number = flight.number + 1;
     }
     None
 }
@@ -85,7 +88,7 @@ impl Choice {
             Choice::Core(hart) => Some(Step::Core(*hart)),
             Choice::Evict(hart, block) => Some(Step::Evict(*hart, *block)),
             Choice::Deliver(name) => match find(machine, name) {
-                Some(key) => Some(Step::Deliver(key)),
+                Some(number) => Some(Step::Deliver(number as usize)),
                 None => None,
             },
             Choice::Turn => machine.next_turn(last),

@@ -7,7 +7,6 @@ use Rattle.loader.specs.Programs.{Program}
 use Rattle.protocol.specs.Caches.{Geometry}
 use Rattle.protocol.specs.Machine.{Machine}
 use Rattle.machine.specs.States.{State, setting_of}
-use Rattle.machine.specs.Mail.{Mail}
 use Rattle.machine.specs.Twins.{AreTwins}
 use Rattle.machine.proofs.Twins.{twins_first}
 use Rattle.command_line.specs.declared.request.Run.{Run}
@@ -25,11 +24,10 @@ use Rattle.schedule.specs.Moments.{Moment, entries_of}
 use Rattle.schedule.specs.Runs.{Goes}
 use Rattle.schedule.specs.Twins.{AreTwinRuns}
 use Rattle.schedule.proofs.OneRun.{run_once, same_entries}
-use Rattle.schedule.proofs.SameFlights.{same_items}
 use Rattle.watch.proofs.OneCount.{same_number, same_figures}
 use Rattle.pages.proofs.OnePage.{same_page}
 use Rattle.watch.specs.Traces.{line_if, trace_of}
-use Rattle.timeline.specs.Events.{events_before, events_behind, events_from, slice_event, arrival_event, sent_event, sent_events, next_time}
+use Rattle.timeline.specs.Events.{events_before, events_behind, events_from, slice_event, arrival_event, sent_events, next_time}
 use Rattle.timeline.specs.Marks.{lane_of, label_of, edge_of}
 use Rattle.timeline.specs.Timelines.{opening, closing}
 use Rattle.timeline.specs.Drawings.{drawn}
@@ -128,7 +126,7 @@ module _ (g : Geometry) where
   same_events time (m ∷ ms) (n ∷ ns) (first, rest) =
       let lane : lane_of m.step m.arrival ≡ lane_of n.step n.arrival = λ i. lane_of (first.step i) (first.arrival i) in
       let sent : sent_events time (lane_of n.step n.arrival) n.sent m.after.flights ≡ sent_events time (lane_of n.step n.arrival) n.sent n.after.flights =
-      same_items (sent_event time (lane_of n.step n.arrival) n.sent) refl m.after.flights n.after.flights (λ key. ap (λ (mail : Mail). mail key) first.after.mail) in
+      ap (sent_events time (lane_of n.step n.arrival) n.sent) first.after.flights in
       let all : sent_events time (lane_of m.step m.arrival) m.sent m.after.flights ≡ sent_events time (lane_of n.step n.arrival) n.sent n.after.flights =
       (λ i. sent_events time (lane i) (first.sent i) m.after.flights) ∙ sent in
       λ i. (events_before time (lane i) (edge_of (first.entry i) (first.after.machine i)) ++ (slice_event time (lane i) (label_of (first.step i) (first.arrival i) (first.entry i))

@@ -1,5 +1,4 @@
 mod Putting
-mod Sending
 mod Showing
 mod Finding
 mod Noting

@@ -50,12 +50,11 @@ abbrev pub arrival_event : ℕ → ℕ → Option Flight → List ℕ
 arrival_event time lane None = []
 arrival_event time lane (Some flight) = flow_event (codes "f\",\"bp\":\"e") time lane flight
 
--- a message was sent in a step if it is in flight behind it, with a number that none had before
-abbrev pub sent_event : ℕ → ℕ → ℕ → Option Flight → List ℕ
-sent_event time lane sent None = []
-sent_event time lane sent (Some flight) = cond (nat_le sent flight.number) (flow_event (codes "s") time lane flight) []
+-- a message was sent in a step if it is in flight after it, with a number that none had before
+abbrev pub sent_event : ℕ → ℕ → ℕ → Flight → List ℕ
+sent_event time lane sent flight = cond (nat_le sent flight.number) (flow_event (codes "s") time lane flight) []
 
-abbrev pub sent_events : ℕ → ℕ → ℕ → List (Option Flight) → List ℕ
+abbrev pub sent_events : ℕ → ℕ → ℕ → List Flight → List ℕ
 sent_events time lane sent flights = flat_map (sent_event time lane sent) flights
 
 -- the events of a moment, where the caches have so many sets

@@ -36,7 +36,7 @@ receiving_lane (Some flight) = unwrap_or (receiver_of (shown flight.message)) di
 abbrev pub lane_of : Step → Option Flight → ℕ
 lane_of (Core hart) arrival = hart
 lane_of (Evict hart block) arrival = hart
-lane_of (Deliver key) arrival = receiving_lane arrival
+lane_of (Deliver number) arrival = receiving_lane arrival
 
 abbrev pub abort_label : AbortCause → List ℕ
 abort_label Asked = codes "abort asked"
@@ -55,8 +55,8 @@ entry_label (Spill hart block) = concat (codes "spill " ∷ block_text block ∷
 abbrev pub step_label : Step → Option Flight → List ℕ
 step_label (Core hart) arrival = codes "core"
 step_label (Evict hart block) arrival = concat (codes "evict " ∷ block_text block ∷ [])
-step_label (Deliver key) None = codes "deliver"
-step_label (Deliver key) (Some flight) = message_text flight.message
+step_label (Deliver number) None = codes "deliver"
+step_label (Deliver number) (Some flight) = message_text flight.message
 
 abbrev pub label_of : Step → Option Flight → Option Entry → List ℕ
 label_of step arrival None = step_label step arrival

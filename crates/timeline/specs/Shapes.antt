@@ -46,7 +46,7 @@ class_of step (Some (Refuse hart requester block)) = codes "refuse"
 class_of step (Some (Spill hart block)) = codes "spill"
 class_of (Core hart) None = codes "core"
 class_of (Evict hart block) None = codes "evict"
-class_of (Deliver key) None = codes "arrival"
+class_of (Deliver number) None = codes "arrival"
 
 -- a row's number, at the left
 abbrev pub number_mark : Row → List ℕ

@@ -152,18 +152,19 @@ pub(crate) fn put_arrival<S: Sink>(
     }
 }
 
-/// Puts the begin of the flow of a message that was sent after so many others, if there is one.
+/// Puts the begin of the flow of a message in flight, if it was sent after so many others.
 fn put_sent<S: Sink>(
     sink: &mut S,
     place: Place,
     sent: u64,
-    flight: &Option<Flight>,
+    flight: &Flight,
 ) -> Result<(), SinkFault>
     ensures { Puts (S.state sink.old) (S.state sink.new) (spec.sent_event place.time place.lane sent flight.now) result }
 {
-    match flight {
-        Some(flight) if sent <= flight.number => put_flow(sink, "s", place, flight),
-        _ => Ok(()),
+    if sent <= flight.number {
+        put_flow(sink, "s", place, flight)
+    } else {
+        Ok(())
     }
 }
 
@@ -176,8 +177,12 @@ pub(crate) fn put_all_sent<const SETS: usize, const WAYS: usize, S: Sink>(
 ) -> Result<(), SinkFault>
     ensures { Puts (S.state sink.old) (S.state sink.new) (spec.sent_events place.time place.lane sent machine.now.flights) result }
 {
-    for key in 0..machine.keys() {
-        put_sent(sink, place, sent, &machine.flight(key))?;
+    machine.are_in_order();
+    let _next = machine.sent();
+    let mut number = 0;
+    while let Some(flight) = machine.next_from(number) {
+        put_sent(sink, place, sent, flight)?;
+        number = flight.number + 1;
     }
     Ok(())
 }

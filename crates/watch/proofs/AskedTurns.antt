@@ -12,7 +12,7 @@ use Rattle.words.specs.declared.entry.Step.TheVariants.{Core}
 use Rattle.flat.specs.Bytes.{put_at}
 use Rattle.flat.proofs.Maps.{put_elsewhere, put_there}
 use Rattle.hart.specs.declared.reply.ForwardAnswer.{ForwardAnswer}
-use Rattle.network.specs.Flights.{AreNumbered}
+use Rattle.network.specs.Flights.{AreNumbered, flight_at}
 use Rattle.network.specs.declared.net.Flight.{Flight}
 use Rattle.protocol.specs.Caches.{Geometry}
 use Rattle.protocol.specs.Directory.{Busy, Served, unless_busy}
@@ -37,8 +37,8 @@ use Rattle.watch.proofs.CoreAsks.{GetIsSent, none_sent_quietly, others_stay, qui
 use Rattle.watch.proofs.Counted.{both_counted, turn_counted}
 use Rattle.watch.proofs.Freed.{none_behind, service_frees, step_frees}
 use Rattle.watch.proofs.Freshness.{named_alone}
-use Rattle.watch.proofs.Plain.{nothing_asked, nothing_counted, stays_stale}
-use Rattle.watch.proofs.Sending.{none_in}
+use Rattle.watch.proofs.Plain.{nothing_asked, nothing_counted, nothing_flies, stays_stale}
+use Rattle.watch.proofs.Sending.{empty_is}
 use Rattle.watch.proofs.Services.{served_counted}
 use Rattle.watch.proofs.Tallying.{no_more, one_counted}
 
@@ -64,8 +64,8 @@ module _ (g : Geometry) (v w : State) (after i : ℕ) (t mid : Tally) (has : Has
       turn_counted g v w after (Core i) t u has.turn.next (has.entry, has.turn.made, one_counted g.sets m t mid u has.heard asked (fresh_still u.fresh fresh) sums flying using)
 
   -- where nothing is in flight behind it, all harts are free, and it is quiescent
-  pub all_free_quietly : count_by is_some w.flights ≡ 0 → AreFree (shown g.sets w)
-  all_free_quietly quiet = step_frees g v w i has.entry has.turn.made (quiet_frees g v w i has.entry has.turn.made (none_in w.flights quiet) (has.free i)) has.free
+  pub all_free_quietly : length w.flights ≡ 0 → AreFree (shown g.sets w)
+  all_free_quietly quiet = step_frees g v w i has.entry has.turn.made (quiet_frees g v w i has.entry has.turn.made (empty_is w.flights quiet) (has.free i)) has.free
 
   -- and it asked for nothing
   pub quiet_counted : (u : Tally) → IsQuiescent g.sets w → u.harts ≡ mid.harts → u.fresh ≡ mid.fresh → ((s : Sum) → sum_at u.machine s ≡ capped (sum_at mid.machine s + 1 * one_if (is_same s Cores)))
@@ -77,10 +77,10 @@ module _ (g : Geometry) (v w : State) (after i : ℕ) (t mid : Tally) (has : Has
       (λ h k. subst₂ (λ (l : List (ℕ × Kind)) (x : Tally). Grows (count_at mid.harts h k) (number_in h k l) (count_at x.harts h k)) (sym none) (λ j. record mid { harts = sym same j }) (no_more (count_at mid.harts h k)))
       (λ j. ap (λ (set : ℕ). names set j) fresh)
       (λ s low.
-      let nothing : count_by (was_sent v.sent s) w.flights ≡ 0 = nothing_counted (was_sent v.sent s) refl w quiescent.quiet in
+      let nothing : count_by (was_sent v.sent s) w.flights ≡ 0 = nothing_counted (was_sent v.sent s) w quiescent.quiet in
       let number : number_at s m ≡ 1 * one_if (is_same s Cores) = omega (arith, nothing) in
       sums s ∙ ap (λ (n : ℕ). capped (sum_at mid.machine s + n)) (sym number))
-      (flying ∙ sym (max-zero mid.machine.most_in_flight) ∙ ap (λ (n : ℕ). max mid.machine.most_in_flight n) (sym (nothing_counted is_some refl w quiescent.quiet)))
+      (flying ∙ sym (max-zero mid.machine.most_in_flight) ∙ ap (λ (n : ℕ). max mid.machine.most_in_flight n) (sym (nothing_flies w quiescent.quiet)))
       using
 
   -- where the hart has asked for a block behind it, the request counts, and as held, if it is
@@ -92,7 +92,7 @@ module _ (g : Geometry) (v w : State) (after i : ℕ) (t mid : Tally) (has : Has
       let asks : counts_asked (shown g.sets w) v.sent w.sent None (Core i) ≡ (i, kind_asked r.kind (is_some ((hart_at g.sets w.seats i).lines r.block))) ∷ held_by i ((shown g.sets w).entries r.block).busy =
       ap (λ (b : Bool). if b then counts_request (shown g.sets w) i (hart_at g.sets w.seats i).request else []) (lt-ltb v.sent w.sent more) ∙ ap (counts_request (shown g.sets w) i) out in
       step_counted u (λ h k. subst (λ (l : List (ℕ × Kind)). Grows (count_at mid.harts h k) (number_in h k l) (count_at u.harts h k)) (sym asks) (harts h k)) fresh
-      (λ s low. sums s ∙ ap (λ (n : ℕ). capped (sum_at mid.machine s + (one_if (is_same s Cores) + n))) (sym (get.sums s)))
+      (λ s low. sums s ∙ ap (λ (n : ℕ). capped (sum_at mid.machine s + (one_if (is_same s Cores) + n))) (sym (get.sums more s)))
       (flying ∙ ap (λ (n : ℕ). max mid.machine.most_in_flight n) (sym get.flying))
       using
 
@@ -125,7 +125,7 @@ module _ (g : Geometry) (v w : State) (after i : ℕ) (t mid : Tally) (has : Has
 
 module _ (g : Geometry) (v w z : State) (after i number : ℕ) (e : Entry) (t u y : Tally) (has : HasAsked g v after i number w t u) (step : MakesStep g w (Core i) (Some e) z) where
   -- it is the hart's turn, where nothing is in flight and it is fresh
-  pub goes_on : count_by is_some w.flights ≡ 0 → (hart_at g.sets w.seats i).fresh ≡ true
+  pub goes_on : length w.flights ≡ 0 → (hart_at g.sets w.seats i).fresh ≡ true
       → ((set : ℕ) → ((j : ℕ) → names set j ≡ put_at i true (names u.fresh) j) → MakesCounted g w (Core i) z (record u { fresh = set }) y) → TakesCounted g v after (number + 1) z i t y
   goes_on quiet fresh made =
       let named = named_alone (names u.fresh) i has.stale in
@@ -141,7 +141,7 @@ module _ (g : Geometry) (v w z : State) (after i number : ℕ) (e : Entry) (t u 
       next : IsNextTurn (shown g.sets w) w.flights i (Some (Core i))
       next =
           let is = runs g w z i e step in (
-            λ key f at. absurd (none-some f (sym (none_in w.flights quiet key) ∙ at)),
+            λ number f at. absurd (none-some f (sym (ap (λ (fs : List Flight). flight_at fs number) (empty_is w.flights quiet)) ∙ at)),
             inl (is.0, is.1, fresh, λ k lt running also. not_both (hart_at g.sets w.seats k).fresh (has.others k (λ same. omega (arith, lt, same))).1 also),
           )
 
@@ -153,8 +153,8 @@ module _ (g : Geometry) (v w z : State) (after i number : ℕ) (e : Entry) (t u 
   ]
 
 -- where nothing is in flight, and all harts are free, it is quiescent
-pub quiet_free : (sets : ℕ) (w : State) → count_by is_some w.flights ≡ 0 → AreFree (shown sets w) → IsQuiescent sets w
-quiet_free sets w quiet free = record { quiet = none_in w.flights quiet; stale = λ k lt running fresh. true≢false (sym fresh ∙ (free k).1) }
+pub quiet_free : (sets : ℕ) (w : State) → length w.flights ≡ 0 → AreFree (shown sets w) → IsQuiescent sets w
+quiet_free sets w quiet free = record { quiet = empty_is w.flights quiet; stale = λ k lt running fresh. true≢false (sym fresh ∙ (free k).1) }
 
 -- all are free where all but one are, and that one doesn't wait, and isn't fresh
 pub all_free_but : (w : Machine) (i : ℕ) → ((j : ℕ) → j ≢ i → IsFree (w.harts j)) → (w.harts i).fresh ≡ false → (w.harts i).request ≡ None → AreFree w
@@ -178,7 +178,7 @@ refusals_beside r b (x ∷ xs) t mid (next, first, rest) = refusals_beside r b x
 module _ (g : Geometry) (v w z : State) (i : ℕ) (r : Request) (get : GetIsSent g.sets v i r w) (x : Service) (xs : List (ℕ × ForwardAnswer)) (is : IsServed g w x xs z) where
   -- it is the hart's
   same_ask : ◌≡◌ {A = ℕ × ℕ} (is.request.requester, is.request.block) (i, r.block)
-  same_ask = let sent = get.message is.first.key _ is.first.here in same_Some _ _ (ap asked_by sent.1)
+  same_ask = let sent = get.message is.first.number _ is.first.here in same_Some _ _ (ap asked_by sent.1)
 
   pub own : is.request.requester ≡ i
   own = ap (λ (a : ℕ × ℕ). a.0) same_ask
@@ -186,7 +186,7 @@ module _ (g : Geometry) (v w z : State) (i : ℕ) (r : Request) (get : GetIsSent
   -- and isn't held
   pub not_held : held_by i ((shown g.sets w).entries r.block).busy ≡ []
   not_held =
-      let oldest : IsOldestFree (shown g.sets w) w.flights is.first.key = (is.first.turn 0).next in
+      let oldest : IsOldestFree (shown g.sets w) w.flights is.first.number = (is.first.turn 0).next in
       let message : shown_message oldest.flight.message ≡ Get is.request.requester is.request.block is.request.kind is.request.stamp =
       same_Some _ _ (sym (ap (λ (o : Option Flight). option_map shown_message (option_map (λ (f : Flight). f.message) o)) oldest.here) ∙ is.first.here) in
       let free : is_held (shown g.sets w) (Get is.request.requester is.request.block is.request.kind is.request.stamp) ≡ false = sym (ap (is_held (shown g.sets w)) message) ∙ oldest.free in

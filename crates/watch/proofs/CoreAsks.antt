@@ -1,10 +1,9 @@
 -- What a hart's core asks for. A step in which it asks sends a Get for the block, and gives no entry; any other leaves it without a request. So where nothing was in flight, and
 -- the hart has a request out behind its core's step, just its Get was sent in it.
-use Rattle.std.proofs.Common.{◌≡◌, ◌≢◌, ◌<◌, ◌/◌, ◌∙◌, ℕ, Bool, true, false, cond, List, [], ◌∷◌, Option, Some, None, Result, Ok, Err, inl, inr, arith, refl, sym, ap, subst}
-use Rattle.std.specs.Prelude.{◌==◌, ◌&&◌, ◌⊎◌, IfSome, count_by, is_none, is_some, length, nat_le, nat_lt, option_to_list}
-use Rattle.std.specs.List.{slice_index_or}
+use Rattle.std.proofs.Common.{◌≡◌, ◌≢◌, ◌<◌, ◌+◌, ◌/◌, ◌∙◌, ℕ, Bool, true, false, cond, List, [], ◌∷◌, Option, Some, None, Result, Ok, Err, inl, inr, arith, refl, sym, ap, subst}
+use Rattle.std.specs.Prelude.{◌==◌, ◌&&◌, ◌⊎◌, IfSome, IsSome, count_by, is_none, length, nat_le, nat_lt, option_to_list}
 use Rattle.std.specs.Option.{option_map}
-use Rattle.std.proofs.lemmas.Bool.{and_parts, le-leb, ltb-true}
+use Rattle.std.proofs.lemmas.Bool.{and_parts, ltb-true}
 use Rattle.std.proofs.lemmas.Option.{none-some, same_Some}
 use Rattle.words.specs.Limits.{log_records}
 use Rattle.words.specs.LineStates.{is_owned}
@@ -28,8 +27,9 @@ use Rattle.flat.specs.Bytes.{put_at}
 use Rattle.flat.specs.State.{Setting}
 use Rattle.flat.specs.Reservation.{is_reserved}
 use Rattle.flat.specs.Causes.{next_of}
-use Rattle.flat.proofs.Maps.{one_number, put_there, put_elsewhere, two_numbers}
+use Rattle.flat.proofs.Maps.{put_there, put_elsewhere}
 use Rattle.network.specs.declared.net.Flight.{Flight}
+use Rattle.network.specs.Flights.{AreInOrder, flight_at, number_after}
 use Rattle.protocol.specs.Caches.{Geometry}
 use Rattle.protocol.specs.Messages.{Message, Get, shown as shown_message}
 use Rattle.protocol.specs.Lines.{Line, is_enough}
@@ -46,7 +46,8 @@ use Rattle.watch.specs.declared.figures.Sum.TheVariants.{Sent}
 use Rattle.watch.specs.Kinds.{one_if}
 use Rattle.watch.specs.Runs.{IsFree}
 use Rattle.watch.specs.Traffic.{is_same, sum_of_message, was_sent}
-use Rattle.watch.proofs.Sending.{nothing_in, one_counted}
+use Rattle.watch.proofs.Sending.{counted_first, late_one, nothing_in}
+use Rattle.watch.proofs.Sent.{alone_is, next_is}
 
 -- hart i asks for a block: its request is out, a Get for it is sent, and there is no entry
 abbrev pub AsksFor : ℕ → HartResult → Type 0
@@ -251,59 +252,58 @@ module _ (s : Setting) (i taken : ℕ) (victim : ℕ → Option ℕ) (h : Hart) 
 
 -- nothing is in flight
 abbrev IsQuiet : State → Type 0
-IsQuiet v = (key : ℕ) → slice_index_or v.flights key None ≡ None
+IsQuiet v = v.flights ≡ []
 
 -- a message that is sent is in flight then
-sent_flies : (old new : Mail) (n next : ℕ) (m : Message) → SendsOn old n (m ∷ []) new next → (key : ℕ) × (f : Flight) × (new key ≡ Some f)
-sent_flies old new n next m (key, f, lowest, is, number, (same, last)) = (key, f, ap (λ (mail : Mail). mail key) same ∙ put_there key (Some f) old)
+sent_flies : (old new : Mail) (n next : ℕ) (m : Message) → SendsOn old n (m ∷ []) new next → (number : ℕ) × (f : Flight) × (new number ≡ Some f)
+sent_flies old new n next m (number, f, lowest, is, has, (same, last)) = (number, f, ap (λ (mail : Mail). mail number) same ∙ put_there number (Some f) old)
 
 -- so where nothing is in flight then, none was sent
-quiet_sends : (old new : Mail) (n next : ℕ) (o : Option Message) → ((key : ℕ) → new key ≡ None) → SendsOn old n (option_to_list o) new next → o ≡ None
-quiet_sends old new n next None quiet sends = refl
-quiet_sends old new n next (Some m) quiet sends =
-    let flies = sent_flies old new n next m sends in
-    absurd (none-some flies.1 (sym (quiet flies.0) ∙ flies.2))
+quiet_sends : (old : Mail) (flights : List Flight) (n next : ℕ) (o : Option Message) → flights ≡ [] → SendsOn old n (option_to_list o) (mail_of flights) next → o ≡ None
+quiet_sends old flights n next None quiet sends = refl
+quiet_sends old flights n next (Some m) quiet sends =
+    let flies = sent_flies old (mail_of flights) n next m sends in
+    absurd (none-some flies.1 (sym (ap (λ (fs : List Flight). flight_at fs flies.0) quiet) ∙ flies.2))
 
 -- where nothing was in flight, and one message is sent, it is all that is in flight
-module _ (old : Mail) (empty : (key : ℕ) → old key ≡ None) (flights : List (Option Flight)) (n next : ℕ) (m : Message) where
-  -- it is under its key
-  module _ (key : ℕ) (f : Flight) (new : mail_of flights ≡ put_at key (Some f) old) where
-    here : slice_index_or flights key None ≡ Some f
-    here = ap (λ (mail : Mail). mail key) new ∙ put_there key (Some f) old
+module _ (old : Mail) (empty : (number : ℕ) → old number ≡ None) (flights : List Flight) (order : AreInOrder flights) (n next : ℕ) (m : Message) (sends : SendsOn old n (m ∷ []) (mail_of flights) next) where
+  all_now : (f : Flight) × (flights ≡ f ∷ []) × (shown_message f.message ≡ m) × (next ≡ number_after n) × ((n < number_after n) → f.number ≡ n)
+  all_now = by sends
+    where
+      by : SendsOn old n (m ∷ []) (mail_of flights) next → (f : Flight) × (flights ≡ f ∷ []) × (shown_message f.message ≡ m) × (next ≡ number_after n) × ((n < number_after n) → f.number ≡ n)
+      by (number, f, is_next, is, has, (new, last)) =
+          (f, alone_is old flights f number empty order has new, is, last, λ goes_on. has ∙ next_is old n number goes_on (λ some. let no : IsSome {T = Flight} None = subst (λ (o : Option Flight). IsSome o) (empty n) some in cc) is_next)
 
-    -- nothing is under another
-    elsewhere : (other : ℕ) → other ≢ key → slice_index_or flights other None ≡ None
-    elsewhere other ne = ap (λ (mail : Mail). mail other) new ∙ put_elsewhere key other (Some f) old ne ∙ empty other
-
-    -- it alone is counted
-    counted : (p : Option Flight → Bool) → p None ≡ false → count_by p flights ≡ one_if (p (Some f))
-    counted p none = one_counted p none flights key (λ other ne. ap p (elsewhere other ne) ∙ none) ∙ ap (λ (o : Option Flight). one_if (p o)) here
-
-    -- what is in flight is it
-    only : (other : ℕ) (a : Message) → in_flight flights other ≡ Some a → shown_message f.message ≡ a
-    only other a at = by (other == key) refl
-      where
-        shows : Option Flight → Option Message
-        shows o = option_map shown_message (option_map (λ (x : Flight). x.message) o)
-
-        by : (b : Bool) → other == key ≡ b → shown_message f.message ≡ a
-        by true same = same_Some (shown_message f.message) a (sym (ap shows (ap (mail_of flights) (one_number other key same) ∙ here)) ∙ at)
-        by false apart = absurd (none-some a (sym (ap shows (elsewhere other (two_numbers other key apart))) ∙ at))
-
-  -- it alone counts as sent
-  sums_now : SendsOn old n (m ∷ []) (mail_of flights) next → (s : Sum) → count_by (was_sent n s) flights ≡ one_if (is_same s (sum_of_message m))
-  sums_now (key, f, lowest, is, number, (new, last)) s =
-      let passes : nat_le n f.number ≡ true = le-leb n f.number (omega (arith, number)) in
-      counted key f new (was_sent n s) refl ∙ ap (λ (b : Bool). one_if (b && is_same s (sum_of_message (shown_message f.message)))) passes
-      ∙ ap (λ (x : Message). one_if (is_same s (sum_of_message x))) is
+  -- it alone counts as sent, until numbers end
+  sums_now : n < next → (s : Sum) → count_by (was_sent n s) flights ≡ one_if (is_same s (sum_of_message m))
+  sums_now goes_on s = by all_now
+    where
+      by : (f : Flight) × (flights ≡ f ∷ []) × (shown_message f.message ≡ m) × (next ≡ number_after n) × ((n < number_after n) → f.number ≡ n) → count_by (was_sent n s) flights ≡ one_if (is_same s (sum_of_message m))
+      by (f, all, is, last, number) =
+          let first : f.number ≡ n = number (subst (λ (k : ℕ). n < k) last goes_on) in
+          let one : count_by (was_sent n s) (f ∷ []) ≡ one_if (was_sent n s f) + 0 = counted_first (was_sent n s) f [] in
+          let counts : one_if (was_sent n s f) ≡ one_if (is_same s (sum_of_message m)) =
+          late_one n s f (omega (arith, first)) ∙ ap (λ (x : Message). one_if (is_same s (sum_of_message x))) is in
+          let same : count_by (was_sent n s) flights ≡ count_by (was_sent n s) (f ∷ []) = ap (λ (fs : List Flight). count_by (was_sent n s) fs) all in
+          omega (arith, one, counts, same)
 
   -- one is in flight
-  flying_now : SendsOn old n (m ∷ []) (mail_of flights) next → count_by is_some flights ≡ 1
-  flying_now (key, f, lowest, is, number, (new, last)) = counted key f new is_some refl
+  flying_now : length flights ≡ 1
+  flying_now = ap (λ (fs : List Flight). length fs) all_now.1
 
   -- a message that is in flight is it
-  message_now : SendsOn old n (m ∷ []) (mail_of flights) next → (other : ℕ) (a : Message) → in_flight flights other ≡ Some a → a ≡ m
-  message_now (key, f, lowest, is, number, (new, last)) other a at = sym (only key f new other a at) ∙ is
+  message_now : (other : ℕ) (a : Message) → in_flight flights other ≡ Some a → a ≡ m
+  message_now other a at = by all_now
+    where
+      shows : Option Flight → Option Message
+      shows o = option_map shown_message (option_map (λ (x : Flight). x.message) o)
+
+      by : (f : Flight) × (flights ≡ f ∷ []) × (shown_message f.message ≡ m) × (next ≡ number_after n) × ((n < number_after n) → f.number ≡ n) → a ≡ m
+      by (f, all, is, last, number) = by_number (f.number == other) (sym (ap (λ (fs : List Flight). in_flight fs other) all) ∙ at)
+        where
+          by_number : (b : Bool) → shows (cond b (Some f) None) ≡ Some a → a ≡ m
+          by_number true there = sym (same_Some (shown_message f.message) a there) ∙ is
+          by_number false there = absurd (none-some a there)
 
 -- ---- a step of a hart's core
 
@@ -321,14 +321,14 @@ record MakesRow (sets : ℕ) (v : State) (i : ℕ) (e : Option Entry) (w : State
   entry : e ≡ result.entry
   harts : hart_at sets w.seats ≡ put_at i result.hart (hart_at sets v.seats)
   left : Mail
-  stays : (key : ℕ) (f : Flight) → left key ≡ Some f → mail_of v.flights key ≡ Some f
+  stays : (number : ℕ) (f : Flight) → left number ≡ Some f → mail_of v.flights number ≡ Some f
   sends : SendsOn left v.sent (option_to_list result.sent) (mail_of w.flights) w.sent
 
--- what a hart asked for in a step of its core: just its Get was sent, and is all that is in flight
+-- what a hart asked for in a step of its core: just its Get was sent, and is all that is in flight. Once numbers have come to their end they don't tell that it was sent
 pub record GetIsSent (sets : ℕ) (v : State) (i : ℕ) (r : Request) (w : State) : Type 0 where
-  pub sums : (s : Sum) → count_by (was_sent v.sent s) w.flights ≡ one_if (is_same s (Sent sort.Get))
-  pub flying : count_by is_some w.flights ≡ 1
-  pub message : (key : ℕ) (m : Message) → in_flight w.flights key ≡ Some m → (stamp : Option Stamp) × (m ≡ Get i r.block r.kind stamp)
+  pub sums : v.sent < w.sent → (s : Sum) → count_by (was_sent v.sent s) w.flights ≡ one_if (is_same s (Sent sort.Get))
+  pub flying : length w.flights ≡ 1
+  pub message : (number : ℕ) (m : Message) → in_flight w.flights number ≡ Some m → (stamp : Option Stamp) × (m ≡ Get i r.block r.kind stamp)
 
 module _ (g : Geometry) (v w : State) (i : ℕ) (e : Option Entry) (step : MakesStep g v (Core i) e w) where
   -- the row of its core
@@ -390,7 +390,7 @@ module _ (g : Geometry) (v w : State) (i : ℕ) (e : Option Entry) (step : Makes
       by_row made (inl (none, inl stale)) = subst IsFree (sym (hart_now made)) (none, stale)
       by_row made (inl (none, inr (untold, same))) = subst IsFree (sym (hart_now made ∙ same)) free
       by_row made (inr (r, is, (stamp, sent), entry, fresh)) =
-          absurd (none-some _ (sym (quiet_sends made.left (mail_of w.flights) v.sent w.sent made.result.sent quiet made.sends) ∙ sent))
+          absurd (none-some _ (sym (quiet_sends made.left w.flights v.sent w.sent made.result.sent quiet made.sends) ∙ sent))
 
       by : Idles g.sets v e w ⊎ MakesRow g.sets v i e w → IsFree (hart_at g.sets w.seats i)
       by (inl idle) = subst IsFree (sym (same_hart idle)) free
@@ -416,15 +416,15 @@ module _ (g : Geometry) (v w : State) (i : ℕ) (e : Option Entry) (step : Makes
       by : Idles g.sets v e w ⊎ MakesRow g.sets v i e w → w.sent ≡ v.sent
       by (inl idle) = idle.sent
       by (inr made) =
-          let none : made.result.sent ≡ None = quiet_sends made.left (mail_of w.flights) v.sent w.sent made.result.sent quiet made.sends in
+          let none : made.result.sent ≡ None = quiet_sends made.left w.flights v.sent w.sent made.result.sent quiet made.sends in
           (subst (λ (o : Option Message). SendsOn made.left v.sent (option_to_list o) (mail_of w.flights) w.sent) none made.sends).1
 
   -- where nothing was in flight, and it has a request behind the step but had none before, it has asked
   pub asked : IsQuiet v → (hart_at g.sets v.seats i).request ≡ None → (r : Request) → (hart_at g.sets w.seats i).request ≡ Some r → GetIsSent g.sets v i r w
   asked quiet free r out = by does
     where
-      nothing : (made : MakesRow g.sets v i e w) (key : ℕ) → made.left key ≡ None
-      nothing made key = nothing_in (made.left key) (λ f at. none-some f (sym (quiet key) ∙ made.stays key f at))
+      nothing : (made : MakesRow g.sets v i e w) (number : ℕ) → made.left number ≡ None
+      nothing made number = nothing_in (made.left number) (λ f at. none-some f (sym (ap (λ (fs : List Flight). flight_at fs number) quiet) ∙ made.stays number f at))
 
       gets : (made : MakesRow g.sets v i e w) (stamp : Option Stamp) → made.result.sent ≡ Some (Get i r.block r.kind stamp) → GetIsSent g.sets v i r w
       gets made stamp sent =
@@ -432,9 +432,9 @@ module _ (g : Geometry) (v w : State) (i : ℕ) (e : Option Entry) (step : Makes
           let sends : SendsOn made.left v.sent (get ∷ []) (mail_of w.flights) w.sent =
           subst (λ (o : Option Message). SendsOn made.left v.sent (option_to_list o) (mail_of w.flights) w.sent) sent made.sends in
           record {
-            sums = sums_now made.left (nothing made) w.flights v.sent w.sent get sends;
-            flying = flying_now made.left (nothing made) w.flights v.sent w.sent get sends;
-            message = λ key m at. (stamp, message_now made.left (nothing made) w.flights v.sent w.sent get sends key m at);
+            sums = sums_now made.left (nothing made) w.flights step.order v.sent w.sent get sends;
+            flying = flying_now made.left (nothing made) w.flights step.order v.sent w.sent get sends;
+            message = λ number m at. (stamp, message_now made.left (nothing made) w.flights step.order v.sent w.sent get sends number m at);
           }
 
       request_now : (made : MakesRow g.sets v i e w) → made.result.hart.request ≡ Some r

@@ -33,6 +33,6 @@ module _ (g : Geometry) where
   }
 
   -- one more message arrived
-  pub arrived_counted : (v u w : State) (number key : ℕ) (t s r : Tally) → ((a : ℕ) → TakesCounted g v a number u a t s) → IsOldestFree (shown g.sets u) u.flights key → MakesCounted g u (Deliver key) w s r
+  pub arrived_counted : (v u w : State) (number flight : ℕ) (t s r : Tally) → ((a : ℕ) → TakesCounted g v a number u a t s) → IsOldestFree (shown g.sets u) u.flights flight → MakesCounted g u (Deliver flight) w s r
       → (a : ℕ) → TakesCounted g v a (number + 1) w a t r
-  arrived_counted v u w number key t s r before oldest made a = both_counted v u w a a a number 1 t s r (before a) (turn_counted u w a (Deliver key) s r oldest made)
+  arrived_counted v u w number flight t s r before oldest made a = both_counted v u w a a a number 1 t s r (before a) (turn_counted u w a (Deliver flight) s r oldest made)

@@ -74,10 +74,10 @@ module _ (g : Geometry) where
       → (hart_at g.sets u.seats j).fresh ≡ (hart_at g.sets v.seats j).fresh
   heard v u a first j b want q stamp is =
       ap (λ (m : Machine). (m.harts j).fresh) (first.turn 0).made.made.machine
-      ∙ ap (λ (o : Option Message). ((delivery first.key o (shown g.sets v)).machine.harts j).fresh) (first.here ∙ ap (λ m. Some m) is)
+      ∙ ap (λ (o : Option Message). ((delivery first.number o (shown g.sets v)).machine.harts j).fresh) (first.here ∙ ap (λ m. Some m) is)
       ∙ by (nat_lt j (length v.seats))
     where
-      by : (c : Bool) → ((cond c (hart_change j (message_row (length v.seats) j (Forward j b want q stamp) (hart_at g.sets v.seats j)) (record (shown g.sets v) { net = taken first.key (shown g.sets v).net })) (no_change (shown g.sets v))).machine.harts j).fresh ≡ (hart_at g.sets v.seats j).fresh
+      by : (c : Bool) → ((cond c (hart_change j (message_row (length v.seats) j (Forward j b want q stamp) (hart_at g.sets v.seats j)) (record (shown g.sets v) { net = taken first.number (shown g.sets v).net })) (no_change (shown g.sets v))).machine.harts j).fresh ≡ (hart_at g.sets v.seats j).fresh
       by true =
           ap (λ (h : Hart). h.fresh) (put_there j (message_row (length v.seats) j (Forward j b want q stamp) (hart_at g.sets v.seats j)).hart (hart_at g.sets v.seats))
           ∙ forward_keeps (length v.seats) j b want q stamp (hart_at g.sets v.seats j)

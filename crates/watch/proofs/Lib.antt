@@ -16,6 +16,7 @@ mod Few
 mod Pending
 mod Plain
 mod Sending
+mod Sent
 mod Tallying
 mod Zeros
 pub mod SameTexts

@@ -1,13 +1,11 @@
 -- Runs that no one tells apart have the same counts.
-use Rattle.std.proofs.Common.{◌≡◌, ◌+◌, ◌++◌, ◌∙◌, ℕ, max, List, [], ◌∷◌, refl, ap}
-use Rattle.std.specs.Prelude.{count_by, is_some}
+use Rattle.std.proofs.Common.{◌≡◌, ◌+◌, ◌++◌, ℕ, max, List, [], ◌∷◌, refl, ap}
+use Rattle.std.specs.Prelude.{count_by, length}
 use Rattle.std.proofs.Math.Path.{fun_ext}
 use Rattle.protocol.specs.Caches.{Geometry}
-use Rattle.machine.specs.Mail.{Mail}
 use Rattle.machine.proofs.TwinReads.{as_many_kept}
 use Rattle.schedule.specs.Moments.{Moment}
 use Rattle.schedule.specs.Twins.{AreTwinMoments, AreTwinRuns}
-use Rattle.schedule.proofs.SameFlights.{AreAlike, same_count}
 use Rattle.watch.specs.declared.kinds.Kind.{Kind}
 use Rattle.watch.specs.declared.figures.Sum.{Sum}
 use Rattle.watch.specs.declared.figures.Figure.{Figure}
@@ -16,9 +14,6 @@ use Rattle.watch.specs.Kinds.{Fresh, none_fresh, one_if, counts_if, counts_asked
 use Rattle.watch.specs.Traffic.{was_sent, is_same, sum_of_step, total, in_flight, in_use, most, capped, figure_of}
 
 module _ (g : Geometry) where
-  flights_alike : (m n : Moment) → AreTwinMoments g m n → AreAlike m.after.flights n.after.flights
-  flights_alike m n twins key = ap (λ (mail : Mail). mail key) twins.after.mail
-
   -- of each hart, where the same harts were fresh before the first moment
   same_from : (h : ℕ) (k : Kind) (one other : Fresh) → one ≡ other → (ms ns : List Moment) → AreTwinRuns g ms ns → number_from g.sets h k one ms ≡ number_from g.sets h k other ns
   same_from h k one other same [] [] twins = refl
@@ -39,9 +34,7 @@ module _ (g : Geometry) where
   same_total s [] (n ∷ ns) twins = absurd twins
   same_total s (m ∷ ms) [] twins = absurd twins
   same_total s (m ∷ ms) (n ∷ ns) (first, rest) =
-      let sent : count_by (was_sent m.sent s) m.after.flights ≡ count_by (was_sent n.sent s) n.after.flights =
-      (λ i. count_by (was_sent (first.sent i) s) m.after.flights) ∙ same_count (was_sent n.sent s) refl m.after.flights n.after.flights (flights_alike m n first) in
-      λ i. (one_if (is_same s (sum_of_step (first.step i))) + sent i) + same_total s ms ns rest i
+      λ i. (one_if (is_same s (sum_of_step (first.step i))) + count_by (was_sent (first.sent i) s) (first.after.flights i)) + same_total s ms ns rest i
 
   same_most : (level : Moment → ℕ) → ((m n : Moment) → AreTwinMoments g m n → level m ≡ level n) → (ms ns : List Moment) → AreTwinRuns g ms ns → most level ms ≡ most level ns
   same_most level same [] [] twins = refl
@@ -51,7 +44,7 @@ module _ (g : Geometry) where
 
   same_figure : (ms ns : List Moment) → AreTwinRuns g ms ns → (f : Figure) → figure_of ms f ≡ figure_of ns f
   same_figure ms ns twins (figure.Sum s) = ap capped (same_total s ms ns twins)
-  same_figure ms ns twins figure.MostInFlight = same_most in_flight (λ m n first. same_count is_some refl m.after.flights n.after.flights (flights_alike m n first)) ms ns twins
+  same_figure ms ns twins figure.MostInFlight = same_most in_flight (λ m n first. λ i. length (first.after.flights i)) ms ns twins
   same_figure ms ns twins figure.MostInUse = same_most in_use (λ m n first. as_many_kept g m.after n.after first.after) ms ns twins
 
   -- of the machine

@@ -1,8 +1,7 @@
 -- A request that is served at once, counted: what its messages count as, one after another, is what is told of it.
 use Rattle.std.proofs.Common.{◌≡◌, ◌≢◌, ◌≤◌, ◌<◌, ◌+◌, ◌-◌, ◌*◌, ◌++◌, ◌∙◌, ◌&&◌, ℕ, zero, suc, Bool, true, false, not, nat_lt, List, [], ◌∷◌, length, map, Option, Some, None, cond, inl, inr, arith, refl, sym, ap, subst, subst₂}
-use Rattle.std.specs.Prelude.{◌==◌, ◌||◌, ⊤, count_by, is_some, if◌then◌else◌, max}
+use Rattle.std.specs.Prelude.{◌==◌, ◌||◌, ⊤, count_by, if◌then◌else◌, max}
 use Rattle.std.specs.Option.{option_map, option_map_or}
-use Rattle.std.specs.List.{slice_index_or}
 use Rattle.std.proofs.lemmas.Bool.{cases_eq, lt-ltb, eq-eqb}
 use Rattle.std.proofs.lemmas.List.Sums.{sum_by-cons}
 use Rattle.std.proofs.lemmas.Option.{same_Some, none-some}
@@ -16,7 +15,7 @@ use Rattle.hart.specs.declared.reply.Settled.{Settled}
 use Rattle.hart.specs.declared.reply.Settled.TheVariants as request
 use Rattle.hart.specs.Rows.{refusal_of}
 use Rattle.network.specs.declared.net.Flight.{Flight}
-use Rattle.network.specs.Flights.{AreNumbered}
+use Rattle.network.specs.Flights.{AreInOrder, AreNumbered, flight_at}
 use Rattle.protocol.specs.Hart.{Hart}
 use Rattle.protocol.specs.Caches.{Geometry}
 use Rattle.protocol.specs.Messages.{Message, Granted, Get, shown as shown_message}
@@ -38,7 +37,6 @@ use Rattle.watch.specs.Kinds.{Fresh, Grows, asked_by, asks_if, count_at, counts_
 use Rattle.watch.specs.Traffic.{capped, in_flight, in_use, is_same, most, served_as, sum_at, total}
 use Rattle.watch.specs.Runs.{Adds, CountsEntry, NotesServed, TakesCounted}
 use Rattle.watch.proofs.Arrivals.{AskNothing, IsPlainly, ToHarts, all_sent, arriving_both, as_many, ask_nothing_both, entries_both, entry_number, freshened, hears, hears_both, levels, moments_of, number_arriving, number_sent, numbered, numbers, plainly_both, to_harts_both, took, tops, totals}
-use Rattle.watch.proofs.Sending.{one_counted}
 use Rattle.watch.proofs.Tallying.{grown, no_more}
 
 -- What they send, and how often they arrive
@@ -404,23 +402,27 @@ module _ (g : Geometry) (v w : State) (x : Service) (xs : List (ℕ × ForwardAn
   asks_for None m there = absurd (none-some m there)
   asks_for (Some f) m there = ap asked_by (same_Some (shown_message f.message) m there)
 
-  module _ (below_next : (key : ℕ) (f : Flight) → slice_index_or v.flights key None ≡ Some f → f.number < v.sent) where
+  -- the request is alone in flight
+  in_order : AreInOrder v.flights
+  in_order = subst AreInOrder (sym is.only.1) ((λ number f at. absurd (none-some f at)), tt)
+
+  module _ (below_next : (number : ℕ) (f : Flight) → flight_at v.flights number ≡ Some f → f.number < v.sent) where
     sent_first : nat_lt v.sent is.mid.sent ≡ true
     sent_first =
-        let next = (numbered g v (get_arrival q is.granted xs ∷ []) is.mid (is.mid, is.first, refl) below_next (omega (arith, few_sent))).0 in
+        let next = (numbered g v (get_arrival q is.granted xs ∷ []) is.mid (is.mid, is.first, refl) in_order below_next (omega (arith, few_sent))).0 in
         lt-ltb v.sent is.mid.sent (omega (arith, next))
 
-    held : (h : ℕ) (k : Kind) (fresh : Fresh) → number_in h k (counts_in g.sets fresh (moment v (Deliver is.first.key) None is.mid)) ≡ number_in h k (held_behind (shown g.sets w) q.requester q.block most_harts)
+    held : (h : ℕ) (k : Kind) (fresh : Fresh) → number_in h k (counts_in g.sets fresh (moment v (Deliver is.first.number) None is.mid)) ≡ number_in h k (held_behind (shown g.sets w) q.requester q.block most_harts)
     held h k fresh =
         let same : (i : ℕ) → i ≢ q.requester → ((shown g.sets w).harts i).request ≡ ((shown g.sets is.mid).harts i).request =
         λ i ne. is.waits i ne ∙ sym (ap (λ (t : Hart). t.request) (is.first.others i (λ e. none-some i e))) in
-        ap (λ c. number_in h k (if c then counts_served (shown g.sets is.mid) (asks_if (slice_index_or v.flights is.first.key None)) else [])) sent_first
-        ∙ ap (λ o. number_in h k (counts_served (shown g.sets is.mid) o)) (asks_for (slice_index_or v.flights is.first.key None) (Get q.requester q.block q.kind q.stamp) is.first.here)
+        ap (λ c. number_in h k (if c then counts_served (shown g.sets is.mid) (asks_if (flight_at v.flights is.first.number)) else [])) sent_first
+        ∙ ap (λ o. number_in h k (counts_served (shown g.sets is.mid) o)) (asks_for (flight_at v.flights is.first.number) (Get q.requester q.block q.kind q.stamp) is.first.here)
         ∙ ap (number_in h k) (held_alike (shown g.sets is.mid) (shown g.sets w) q.requester q.block same most_harts)
 
     all_numbers : (h : ℕ) (k : Kind) (fresh : Fresh) → number_from g.sets h k fresh at ≡ entry_number h k (forward_arrivals q xs) + number_in h k (held_behind (shown g.sets w) q.requester q.block most_harts)
     all_numbers h k fresh =
-        let m : Moment = moment v (Deliver is.first.key) None is.mid in
+        let m : Moment = moment v (Deliver is.first.number) None is.mid in
         let first : number_in h k (counts_in g.sets fresh m) ≡ number_in h k (held_behind (shown g.sets w) q.requester q.block most_harts) = held h k fresh in
         let later : number_from g.sets h k (fresh_behind g.sets fresh m) (moments_of g is.mid behind w is.rest) ≡ entry_number h k behind =
         numbers g is.mid behind w is.rest (behind_ask q is.granted xs is.settled) (behind_alike q is.granted xs is.settled) h k (fresh_behind g.sets fresh m) in
@@ -431,8 +433,8 @@ module _ (g : Geometry) (v w : State) (x : Service) (xs : List (ℕ × ForwardAn
     -- how many are in flight, and in use
     flying : most in_flight at ≡ 1 + x.answers
     flying =
-        let one : count_by is_some v.flights ≡ 1 = one_counted is_some refl v.flights is.key (λ other ne. ap is_some (is.only.none other ne)) ∙ ap (λ o. one_if (is_some o)) is.only.here in
-        levels g v every w gone ∙ ap (λ n. tops n every) one ∙ highest q is.granted xs is.settled ∙ ap (λ n. 1 + n) (sym is.told.number_is)
+        let one : length v.flights ≡ 1 = ap (λ (fs : List Flight). length fs) is.only.1 in
+        levels g v every w gone in_order below_next few_sent ∙ ap (λ n. tops n every) one ∙ highest q is.granted xs is.settled ∙ ap (λ n. 1 + n) (sym is.told.number_is)
 
     using : most in_use at ≡ max x.used (length w.directory.kept)
     using =
@@ -450,7 +452,7 @@ module _ (g : Geometry) (v w : State) (x : Service) (xs : List (ℕ × ForwardAn
       fresh = λ i. notes.fresh i ∙ (λ k. if (is.requester k == i) || is.told.asked_is i k then (hart_at g.sets w.seats i).fresh else names (rest k).fresh i)
           ∙ sym (freshened g v every w gone (names t.fresh) i ∙ ap (λ b. if b then (hart_at g.sets w.seats i).fresh else names t.fresh i) (heard_by q i is.granted xs is.settled));
       sums = λ s low.
-          let same : served_as s x ≡ total s at = sym (totals g v every w gone below_next few_sent s ∙ counted_so s q is.granted xs is.settled x is.told.number_is is.told.refusals_is is.ended) in
+          let same : served_as s x ≡ total s at = sym (totals g v every w gone in_order below_next few_sent s ∙ counted_so s q is.granted xs is.settled x is.told.number_is is.told.refusals_is is.ended) in
           notes.sums s ∙ (λ k. capped (sum_at (rest k).machine s + same k));
       most_in_flight = notes.most_in_flight ∙ (λ k. max (rest k).machine.most_in_flight (sym flying k));
       most_in_use =
@@ -476,6 +478,6 @@ served_counted g v w x xs is are t mid u heard notes after = record {
   moments = at g v w x xs is;
   took = served_took g v w x xs is after;
   turns = served_many g v w x xs is;
-  adds = counted g v w x xs is (λ key f there. let low = are key f there in omega (arith, low, is.few)) t mid u
+  adds = counted g v w x xs is are t mid u
       (subst₂ (λ (r b : ℕ). HearsReplies CountsEntry r b t xs mid) is.requester is.block heard) notes;
 }

@@ -145,7 +145,7 @@ counts_served w (Some ask) = held_behind w ask.0 ask.1 most_harts
 abbrev pub counts_step : Machine → Option (ℕ × ℕ) → Step → List (ℕ × Kind)
 counts_step w ask (Core i) = counts_request w i (w.harts i).request
 counts_step w ask (Evict i b) = []
-counts_step w ask (Deliver key) = counts_served w ask
+counts_step w ask (Deliver number) = counts_served w ask
 
 -- what is asked for in a step, where so many messages had been sent before it and behind it. A request that was refused and is asked again counts again
 abbrev pub counts_asked : Machine → ℕ → ℕ → Option (ℕ × ℕ) → Step → List (ℕ × Kind)
@@ -168,7 +168,7 @@ fresh_at w (Some i) fresh = put_at i (w.harts i).fresh fresh
 abbrev pub fresh_by : Machine → Option ℕ → Step → Fresh → Fresh
 fresh_by w to (Core i) fresh = put_at i false fresh
 fresh_by w to (Evict i b) fresh = fresh
-fresh_by w to (Deliver key) fresh = fresh_at w to fresh
+fresh_by w to (Deliver number) fresh = fresh_at w to fresh
 
 -- behind a moment, and behind some
 abbrev pub fresh_behind : ℕ → Fresh → Moment → Fresh

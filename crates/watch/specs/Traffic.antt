@@ -1,5 +1,5 @@
 -- What the steps of a run and its messages count as, and how much was in flight and in use.
-use Rattle.std.specs.Prelude.{ℕ, ◌≡◌, ◌≤◌, ◌+◌, ◌-◌, ◌*◌, ◌==◌, ◌&&◌, min, max, nat_le, Bool, false, List, [], ◌∷◌, length, count_by, is_some, Option, Some, None, get_or}
+use Rattle.std.specs.Prelude.{ℕ, ◌≡◌, ◌≤◌, ◌+◌, ◌-◌, ◌*◌, ◌==◌, ◌&&◌, min, max, nat_le, Bool, List, [], ◌∷◌, length, count_by, get_or}
 use Rattle.words.specs.declared.entry.Step.{Step}
 use Rattle.words.specs.declared.entry.Step.TheVariants.{Core, Evict, Deliver}
 use Rattle.network.specs.declared.net.Flight.{Flight}
@@ -37,15 +37,14 @@ is_same s t = place_of s == place_of t
 abbrev pub sum_of_step : Step → Sum
 sum_of_step (Core i) = Cores
 sum_of_step (Evict i b) = Evictions
-sum_of_step (Deliver key) = Deliveries
+sum_of_step (Deliver number) = Deliveries
 
 abbrev pub sum_of_message : Message → Sum
 sum_of_message m = Sent (name_of m).sort
 
 -- whether a message that counts as this was sent when so many had been before: it is in flight, with a number that none had then
-abbrev pub was_sent : ℕ → Sum → Option Flight → Bool
-was_sent before s None = false
-was_sent before s (Some flight) = nat_le before flight.number && is_same s (sum_of_message (shown flight.message))
+abbrev pub was_sent : ℕ → Sum → Flight → Bool
+was_sent before s flight = nat_le before flight.number && is_same s (sum_of_message (shown flight.message))
 
 -- how often a moment counts as this: its step, and the messages that were sent in it
 abbrev pub number_at : Sum → Moment → ℕ
@@ -55,9 +54,9 @@ abbrev pub total : Sum → List Moment → ℕ
 total s [] = 0
 total s (m ∷ ms) = number_at s m + total s ms
 
--- how many messages were in flight behind a step, and how many entries of the directory in use
+-- how many messages were in flight after a step, and how many entries of the directory in use
 abbrev pub in_flight : Moment → ℕ
-in_flight m = count_by is_some m.after.flights
+in_flight m = length m.after.flights
 
 abbrev pub in_use : Moment → ℕ
 in_use m = length m.after.directory.kept
@@ -109,7 +108,7 @@ figure_at t figure.MostInFlight = t.most_in_flight
 figure_at t figure.MostInUse = t.most_in_use
 
 -- the messages in flight that were sent when so many had been before are counted, each as what it counts as
-abbrev pub AddsSent : ℕ → List (Option Flight) → Traffic → Traffic → Type 0
+abbrev pub AddsSent : ℕ → List Flight → Traffic → Traffic → Type 0
 AddsSent before flights old new = (s : Sum) → Rises (sum_at old s) (count_by (was_sent before s) flights) (sum_at new s)
 
 -- how often the messages of a request that was served at once count as this: all of them arrive; and a grant, forwards, answers and an end are sent

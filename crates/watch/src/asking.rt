@@ -56,7 +56,7 @@ pub(crate) fn arriving<const SETS: usize, const WAYS: usize>(
     ensures to { result.1 ≡ goes_to (arrival_of machine.now step.now) }
 {
     match step {
-        Step::Deliver(key) => match machine.peek_flight(*key) {
+        Step::Deliver(number) => match machine.peek_flight(*number as u64) {
             Some(flight) => (asked_by(&flight.message), receiver(&flight.message)),
             None => (None, None),
         },

@@ -74,7 +74,7 @@ pub(crate) fn serve_counted<const SETS: usize, const WAYS: usize>(
     ensures most { result ≤ most }
 {
     // So those that are sent have higher numbers.
-    machine.are_numbered();
+    machine.are_in_order();
     match serve(machine, most, tally) {
         Some(service) => {
             note_served(&service, machine, tally);
@@ -144,7 +144,7 @@ pub(crate) fn ask<const SETS: usize, const WAYS: usize>(
     let kind = kind_asked(machine, hart, asked.kind, asked.block);
     tally.harts.add(hart, kind);
     tally.machine.note_request(machine.used());
-    machine.are_numbered();
+    machine.are_in_order();
     let Some(turns) = serve_asked(machine, most, tally) else {
         tally.harts.note_busy(hart, asked.block, machine);
         return 0;

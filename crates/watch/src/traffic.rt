@@ -1,4 +1,4 @@
-ghost use Rattle.std.specs.Prelude.{◌≡◌, ◌≤◌, ◌<◌, ◌+◌, ◌*◌, ℕ, length, get_or, max, count_by, is_some};
+ghost use Rattle.std.specs.Prelude.{◌≡◌, ◌≤◌, ◌<◌, ◌+◌, ◌*◌, ℕ, length, get_or, max, count_by};
 ghost use Rattle.watch.specs.Kinds.{one_if};
 ghost use Rattle.watch.specs.Traffic.{AddsSent, Rises, capped, figure_at, is_same, nothing, served_as, sum_at, sum_in, sum_of_step, sum_with, told, was_sent};
 ghost use Rattle.watch.specs.declared.figures.Figure.{Figure as FigureValue};
@@ -92,12 +92,12 @@ impl Traffic {
     ) -> usize
         ensures added { AddsSent sent machine.now.flights self.old self.new }
         ensures rest { self.new ≡ record self.old { sums = self.new.sums } }
-        ensures flying { result ≡ count_by is_some machine.now.flights }
+        ensures flying { result ≡ length machine.now.flights }
     {
         let next = machine.sent();
         if next < u64::MAX {
             // Where nothing was sent, each has a lower number.
-            machine.are_numbered();
+            machine.are_in_order();
             if next == sent {
                 return machine.in_flight();
             }
@@ -121,14 +121,15 @@ impl Traffic {
         ensures added { AddsSent sent machine.now.flights self.old self.new }
         ensures rest { self.new ≡ record self.old { sums = self.new.sums } }
     {
-        if let Some(key) = machine.newest() {
-            if let Some(flight) = machine.peek_flight(key) {
+        machine.are_in_order();
+        if let Some(number) = machine.newest() {
+            if let Some(flight) = machine.peek_flight(number) {
                 self.add(Sum::of_message(&flight.message), 1);
             }
         }
     }
 
-    /// Counts the messages that a step sent, by a look at all that are in flight.
+    /// Counts the messages that a step sent, by a look at each of them, in the order of sending.
     #[inline(never)]
     fn add_all<const SETS: usize, const WAYS: usize>(
         &mut self,
@@ -137,24 +138,16 @@ impl Traffic {
     ) -> usize
         ensures added { AddsSent sent machine.now.flights self.old self.new }
         ensures rest { self.new ≡ record self.old { sums = self.new.sums } }
-        ensures flying { result ≡ count_by is_some machine.now.flights }
+        ensures flying { result ≡ length machine.now.flights }
     {
-        let flying = machine.in_flight();
-        let keys = machine.keys();
-        let mut left = flying;
-        let mut key = 0;
-        while left > 0 {
-            // One that was not met yet lies under a higher key.
-            prove!(key < keys);
-            if let Some(flight) = machine.peek_flight(key) {
-                left -= 1;
-                if flight.number >= sent {
-                    self.add(Sum::of_message(&flight.message), 1);
-                }
-            }
-            key += 1;
+        machine.are_in_order();
+        let _next = machine.sent();
+        let mut number = sent;
+        while let Some(flight) = machine.next_from(number) {
+            self.add(Sum::of_message(&flight.message), 1);
+            number = flight.number + 1;
         }
-        flying
+        machine.in_flight()
     }
 
     /// Counts what a step did, before which so many messages had been sent.
@@ -166,7 +159,7 @@ impl Traffic {
         machine: &Machine<SETS, WAYS>,
     )
         ensures sums { (s : SumValue) → Rises (sum_at self.old s) (one_if (is_same s (sum_of_step step.now)) + count_by (was_sent sent s) machine.now.flights) (sum_at self.new s) }
-        ensures most_in_flight { self.new.most_in_flight ≡ max self.old.most_in_flight (count_by is_some machine.now.flights) }
+        ensures most_in_flight { self.new.most_in_flight ≡ max self.old.most_in_flight (length machine.now.flights) }
         ensures most_in_use { self.new.most_in_use ≡ max self.old.most_in_use (length machine.now.directory.kept) }
     {
         self.add(Sum::of_step(step), 1);

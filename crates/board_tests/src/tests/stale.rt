@@ -21,10 +21,11 @@ const READS_AND_WRITES: [u32; 4] = [
 /// So many messages arrive, the oldest first, or fewer if there are no more.
 fn deliver<'p>(rt: &impl Abort, board: &mut Small<'p>, most: usize) {
     for _ in 0..most {
-        let Some(key) = board.machine().next_message(None) else {
+        let Some(oldest) = board.machine().next_from(0) else {
             return;
         };
-        make(rt, board, Step::Deliver(key));
+        let number = oldest.number;
+        make(rt, board, Step::Deliver(number as usize));
     }
 }
 

@@ -48,8 +48,8 @@ fn ask(machine: &mut Machine<2, 1>) -> Result<(), Fail> {
             make(machine, Step::Core(HartId::new(number)))?;
         }
     }
-    let oldest = machine.next_message(None).ok_or("no message")?;
-    make(machine, Step::Deliver(oldest))?;
+    let oldest = machine.next_from(0).ok_or("no message")?.number;
+    make(machine, Step::Deliver(oldest as usize))?;
     Ok(())
 }
 

@@ -1,16 +1,28 @@
-use Rattle.std.proofs.Common.{arith, sym, ap, ◌∙◌}
-use Rattle.std.specs.Option.{option_map, option_and_then}
-use Rattle.protocol.specs.Messages.{shown}
+use Rattle.std.proofs.Common.{arith, sym, ◌∙◌}
 use Rattle.protocol.specs.Values.{done_content}
-use Rattle.machine.specs.Mail.{in_flight}
-use Rattle.machine.proofs.Scans.{first_found, first_none}
+use Rattle.machine.proofs.Scans.{found_from, next_below, none_left, none_on}
 use Rattle.machine.proofs.flights.finished.Goals as goal
 
 pub returns-in-Some-done_content : goal.returns-in-Some-done_content
 returns-in-Some-done_content c =
-    first_found (in_flight c.args.net.now.slots) (done_content c.args.block) c.loop-key.key c.in-Some-done_content.content c.loop-key.invariant
-    (ap (λ o. option_and_then (done_content c.args.block) (option_map shown o)) (sym c.get.ensures ∙ c.in-Some.is) ∙ sym c.done_content.ensures ∙ c.in-Some-done_content.is)
+    found_from c.args.net.now.flights (done_content c.args.block) c.loop-flight.number c.loop-flight.invariant c.in-Some.flight.now c.are_in_order.ensures.order (sym c.in-Some.ensures)
+    c.in-Some-done_content.content (sym c.done_content.ensures ∙ c.in-Some-done_content.is)
 
 pub returns : goal.returns
-returns c = first_none (in_flight c.args.net.now.slots) (done_content c.args.block) c.loop-key.key c.loop-key.invariant
-    (λ key le. ap (λ o. option_map shown (option_map (λ f. f.message) o)) (c.keys-key-end.ensures key (omega (arith, le, c.loop-key-test.false))))
+returns c = none_left c.args.net.now.flights (done_content c.args.block) c.loop-flight.number c.loop-flight.invariant (sym c.in_default.ensures)
+
+-- the number that comes next
+pub overflow_add-number : goal.overflow_add-number
+overflow_add-number c =
+    let next = next_below c.args.net.now.flights c.loop-flight.number c.args.net.now.next c.in-Some.flight.now c.are_in_order.ensures.numbered (sym c.in-Some.ensures) in
+    omega (arith, next.1, c.are_in_order.ensures.range)
+
+pub loop-flight-smaller : goal.loop-flight-smaller
+loop-flight-smaller c =
+    let next = next_below c.args.net.now.flights c.loop-flight.number c.args.net.now.next c.in-Some.flight.now c.are_in_order.ensures.numbered (sym c.in-Some.ensures) in
+    omega (arith, next.0, next.1)
+
+pub loop-flight-preserved : goal.loop-flight-preserved
+loop-flight-preserved c =
+    none_on c.args.net.now.flights (done_content c.args.block) c.loop-flight.number c.loop-flight.invariant c.in-Some.flight.now c.are_in_order.ensures.order (sym c.in-Some.ensures)
+    (sym c.done_content.ensures ∙ c.in_default-done_content.is)

@@ -103,18 +103,18 @@ pub(crate) fn entry<const SETS: usize, const WAYS: usize>(
     machine.entry(block)
 }
 
-pub(crate) fn message<const SETS: usize, const WAYS: usize>(
+/// The first message in flight that has this number or a greater one, and its number.
+pub(crate) fn next_from<const SETS: usize, const WAYS: usize>(
     machine: &Machine<SETS, WAYS>,
-    key: usize,
-) -> Option<Message> {
-    machine.message(key)
+    number: u64,
+) -> Option<(u64, Message)> {
+    let flight = machine.next_from(number)?;
+    Some((flight.number, flight.message))
 }
 
-pub(crate) fn next_message<const SETS: usize, const WAYS: usize>(
-    machine: &Machine<SETS, WAYS>,
-    key: Option<usize>,
-) -> Option<usize> {
-    machine.next_message(key)
+/// The number that the next message gets.
+pub(crate) fn sent<const SETS: usize, const WAYS: usize>(machine: &Machine<SETS, WAYS>) -> u64 {
+    machine.sent()
 }
 
 pub(crate) fn next_turn<const SETS: usize, const WAYS: usize>(

@@ -1,8 +1,6 @@
 //! Schedules that a simulator wouldn't choose.
 
-use super::machines::{
-    all_stopped, entry, harts, has_line, make, message, next_message, next_turn,
-};
+use super::machines::{all_stopped, entry, harts, has_line, make, next_from, next_turn, sent};
 use loader::read_elf;
 use machine::Machine;
 use reference::{Machine as Checker, elf_file};
@@ -22,8 +20,8 @@ pub(crate) enum Schedule {
     Evictions(u32),
     /// The newest message that isn't held arrives first; a core goes on where there is none.
     Newest,
-    /// In each round every key up to 15 is tried, held and absent ones too, and then each core.
-    Keys,
+    /// In each round every number from the oldest message's on is tried, those of held and absent ones too, and then each core.
+    Numbers,
 }
 
 /// The plain machine after these entries, where it accepts them all.
@@ -98,20 +96,18 @@ fn is_held<const SETS: usize, const WAYS: usize>(
     }
 }
 
-/// The key of the newest message that isn't held, of the oldest thousand.
-fn newest<const SETS: usize, const WAYS: usize>(machine: &Machine<SETS, WAYS>) -> Option<usize> {
-    let mut last = None;
+/// The number of the newest message that isn't held, of the oldest thousand.
+fn newest<const SETS: usize, const WAYS: usize>(machine: &Machine<SETS, WAYS>) -> Option<u64> {
+    let mut from = 0;
     let mut newest = None;
     for _ in 0..1000 {
-        last = next_message(machine, last);
-        let Some(key) = last else {
+        let Some((number, message)) = next_from(machine, from) else {
             break;
         };
-        if let Some(message) = message(machine, key) {
-            if !is_held(machine, &message) {
-                newest = Some(key);
-            }
+        if !is_held(machine, &message) {
+            newest = Some(number);
         }
+        from = number.saturating_add(1);
     }
     newest
 }
@@ -125,7 +121,7 @@ fn take_newest<const SETS: usize, const WAYS: usize>(
     let mut last = machine.last_hart();
     for _ in 0..most {
         let turn = match newest(machine) {
-            Some(key) => Step::Deliver(key),
+            Some(number) => Step::Deliver(number as usize),
             None => match next_turn(machine, last) {
                 Some(turn) => turn,
                 None => break,
@@ -139,8 +135,8 @@ fn take_newest<const SETS: usize, const WAYS: usize>(
     Ok(())
 }
 
-/// Goes on in rounds, so many at most, each of every key up to 15 and then each core, until no hart runs.
-fn try_keys<const SETS: usize, const WAYS: usize>(
+/// Goes on in rounds, so many at most, each of every number from the oldest message's on and then each core, until no hart runs.
+fn try_numbers<const SETS: usize, const WAYS: usize>(
     machine: &mut Machine<SETS, WAYS>,
     most: u32,
     entries: &mut Vec<Entry>,
@@ -149,8 +145,10 @@ fn try_keys<const SETS: usize, const WAYS: usize>(
         if all_stopped(machine) {
             break;
         }
-        for key in 0..16 {
-            make(machine, Step::Deliver(key), entries)?;
+        if let Some((oldest, _)) = next_from(machine, 0) {
+            for number in oldest..=sent(machine) {
+                make(machine, Step::Deliver(number as usize), entries)?;
+            }
         }
         for number in 0..harts(machine) {
             if let Some(hart) = HartId::try_new(number) {
@@ -172,6 +170,6 @@ pub(crate) fn play<const SETS: usize, const WAYS: usize>(
         Schedule::Turns => take_turns(machine, 0, most, entries),
         Schedule::Evictions(blocks) => take_turns(machine, blocks, most, entries),
         Schedule::Newest => take_newest(machine, most, entries),
-        Schedule::Keys => try_keys(machine, most, entries),
+        Schedule::Numbers => try_numbers(machine, most, entries),
     }
 }

@@ -63,7 +63,7 @@ fn schedules(blocks: u32) -> [Schedule; 4] {
         Schedule::Turns,
         Schedule::Evictions(blocks),
         Schedule::Newest,
-        Schedule::Keys,
+        Schedule::Numbers,
     ]
 }
 

@@ -1,11 +1,14 @@
-use Rattle.std.proofs.Common.{Ok, take}
-use Rattle.std.specs.List.{flat_map}
+use Rattle.std.proofs.Common.{◌-◌, Ok}
 use Rattle.texts.specs.Puts.{Puts}
+use Rattle.network.proofs.Walks.{text_before}
 use Rattle.pages.specs.Flights.{flight_item}
 use Rattle.pages.proofs.flights.put_flights.Given as goal
 
--- what lies under the first keys was put
-abbrev pub invariant-loop-key : goal.invariant-loop-key
-invariant-loop-key g l =
+-- those with lower numbers were put
+abbrev pub invariant-loop-flight : goal.invariant-loop-flight
+invariant-loop-flight g l =
     Puts (g.S.Sink.state l.initial.sink) (g.S.Sink.state l.sink)
-    (flat_map (flight_item l.sent) (take l.key l.machine.flights)) (Ok tt)
+    (text_before (flight_item l.from) l.number l.machine.flights) (Ok tt)
+
+abbrev pub decreases-loop-flight : goal.decreases-loop-flight
+decreases-loop-flight g l = l.machine.sent - l.number

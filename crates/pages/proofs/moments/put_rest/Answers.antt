@@ -1,14 +1,14 @@
 use Rattle.std.proofs.Common.{◌++◌, codes}
 use Rattle.std.specs.List.{flat_map}
 use Rattle.texts.proofs.Putting.{puts-both, puts-cut}
-use Rattle.pages.specs.Flights.{flight_item}
+use Rattle.pages.specs.Flights.{flight_item, first_told}
 use Rattle.pages.specs.Memory.{word_item}
 use Rattle.pages.proofs.moments.put_rest.Goals as goal
 
 pub returns-in_err-put_all : goal.returns-in_err-put_all
 returns-in_err-put_all g c =
     let m = c.args.machine.now in
-    puts-cut (flat_map (flight_item c.args.sent) m.flights ++ (codes "],words:[" ++ (flat_map (word_item g.row.SETS m) c.args.words.now ++ codes "]},\n"))) c.in_err-put_all.was c.put_all.ensures c.from_residual.ensures.0
+    puts-cut (flat_map (flight_item (first_told c.args.sent m.sent)) m.flights ++ (codes "],words:[" ++ (flat_map (word_item g.row.SETS m) c.args.words.now ++ codes "]},\n"))) c.in_err-put_all.was c.put_all.ensures c.from_residual.ensures.0
 
 pub returns-in_err-put_flights : goal.returns-in_err-put_flights
 returns-in_err-put_flights g c =

@@ -10,5 +10,5 @@ pub returns-clause-within : goal.returns-clause-within
 returns-clause-within g c = (
   omega (arith, c.index-few.ensures.value, c.index-few.ensures.bound),
   subst (λ (n : Name). LiesInMemory (setting_of c.args.machine.now) n.block) (sym c.name_of-name.ensures)
-      (message_within g.row.SETS g.row.WAYS c.args.machine.now c.keeps.ensures c.args.key (shown_message c.in_ok-message.message) (sym c.in_ok-message.ensures.value)),
+      (message_within g.row.SETS g.row.WAYS c.args.machine.now c.keeps.ensures c.args.number (shown_message c.in_ok-message.message) (sym c.in_ok-message.ensures.value)),
 )

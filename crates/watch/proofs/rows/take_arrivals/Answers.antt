@@ -11,6 +11,6 @@ pub loop-taken-preserved : goal.loop-taken-preserved
 loop-taken-preserved g c =
     let so_far = c.loop-taken.invariant in (
       omega (arith, c.loop-taken-test.true),
-      arrived_counted (geometry g.row.SETS g.row.WAYS) c.args.machine.now c.loop-taken.machine c.make.new.machine c.loop-taken.taken c.in-Some.key c.args.tally.now c.loop-taken.tally c.make.new.tally so_far.1
+      arrived_counted (geometry g.row.SETS g.row.WAYS) c.args.machine.now c.loop-taken.machine c.make.new.machine c.loop-taken.taken c.in-Some.number c.args.tally.now c.loop-taken.tally c.make.new.tally so_far.1
           c.in-Some.ensures.some c.in-Ok.ensures.made,
     )

@@ -1,5 +1,5 @@
-use Rattle.std.proofs.Common.{arith, ◌+◌, ◌∙◌, List, Option, ap, refl, subst, subst₂, sym}
-use Rattle.std.specs.Prelude.{count_by, is_some, max}
+use Rattle.std.proofs.Common.{arith, ◌+◌, ◌∙◌, List, ap, refl, subst, subst₂, sym}
+use Rattle.std.specs.Prelude.{length, max}
 use Rattle.network.specs.declared.net.Flight.{Flight}
 use Rattle.machine.specs.States.{State, geometry}
 use Rattle.watch.specs.Runs.{HasAsked, HasStepped, TakesCounted}
@@ -89,7 +89,7 @@ returns-then-go_on-clause-quiescent g c = λ _.
     let stepped : HasStepped G v c.args.after i w t c.hear_turn.new.tally = c.in-Some.ensures.turn in
     let has : HasAsked G v c.args.after i (1 + c.ask-turns.result) z t y = c.ask-turns.ensures.asked v c.args.after t stepped c.sent-sent.ensures in
     let step = c.if-go_on.ensures.some refl in
-    let quiet = ap (λ (flights : List (Option Flight)). count_by is_some flights) c.go_on.ensures.flights ∙ (c.if-go_on.ensures.due refl).1 in
+    let quiet = ap (λ (flights : List Flight). length flights) c.go_on.ensures.flights ∙ (c.if-go_on.ensures.due refl).1 in
     quiet_free g.row.SETS c.go_on.new.machine quiet (all_free_behind G v z c.go_on.new.machine c.args.after i (1 + c.ask-turns.result) step.0 t y c.go_on.new.tally has step.1)
 
 pub returns-then-go_on-clause-again : goal.returns-then-go_on-clause-again
@@ -104,7 +104,7 @@ returns-then-go_on-clause-again g c = λ _.
     let stepped : HasStepped G v c.args.after i w t c.hear_turn.new.tally = c.in-Some.ensures.turn in
     let has : HasAsked G v c.args.after i (1 + c.ask-turns.result) z t y = c.ask-turns.ensures.asked v c.args.after t stepped c.sent-sent.ensures in
     let step = c.if-go_on.ensures.some refl in
-    let quiet = ap (λ (flights : List (Option Flight)). count_by is_some flights) c.go_on.ensures.flights ∙ (c.if-go_on.ensures.due refl).1 in
+    let quiet = ap (λ (flights : List Flight). length flights) c.go_on.ensures.flights ∙ (c.if-go_on.ensures.due refl).1 in
     let free = all_free_behind G v z c.go_on.new.machine c.args.after i (1 + c.ask-turns.result) step.0 t y c.go_on.new.tally has step.1 in
     (quiet_free g.row.SETS c.go_on.new.machine quiet free, c.go_on.ensures.stale, free)
 

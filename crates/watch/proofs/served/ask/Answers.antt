@@ -59,4 +59,4 @@ returns-clause-asked g c = λ v after before has sent.
     (one_more h k (i, c.kind_asked-kind.result) (count_at mid.harts h k) (count_at u.harts h k) (c.add.ensures h k)) in
     let counted = asked_counted G v w after i before mid has u r.0 r.1 more get harts (λ j. refl) c.note_request.ensures.sums c.note_request.ensures.most_in_flight
     (c.note_request.ensures.most_in_use ∙ (λ j. max mid.machine.most_in_use (c.used.ensures.count j))) in
-    service_counted G v w z after i c.in-Some-serve_asked.turns r.0 get before u c.serve_asked.new.tally serves counted (others_free G v w after i before mid has) (stale_now G v w after i before mid has) c.are_numbered.ensures
+    service_counted G v w z after i c.in-Some-serve_asked.turns r.0 get before u c.serve_asked.new.tally serves counted (others_free G v w after i before mid has) (stale_now G v w after i before mid has) c.are_in_order.ensures.numbered

@@ -1,38 +1,46 @@
-use Rattle.std.proofs.Common.{None, refl}
+use Rattle.std.proofs.Common.{◌+◌, Ok, refl, sym, arith}
 use Rattle.std.specs.List.{flat_map}
+use Rattle.texts.proofs.Putting.{puts-nothing, puts-same, puts-both, puts-cut}
+use Rattle.network.proofs.Walks.{text_from, none_met, one_met, all_met, met_and_left, goes_on}
 use Rattle.debugger.specs.Looks.{flight_line}
-use Rattle.debugger.proofs.Lists.{up_to-start, up_to-more, up_to-cut, up_to-end}
-use Rattle.debugger.proofs.Sent.{rest, rest-begins, rest-ends, left-falls}
+use Rattle.debugger.proofs.Held.{line_is}
 use Rattle.debugger.proofs.commands.flights.put_messages.Goals as goal
 
-pub loop-key-init : goal.loop-key-init
-loop-key-init g c = up_to-start (flight_line g.row.SETS c.args.machine.now) (rest c.args.machine.now.flights None).0 (rest c.args.machine.now.flights None).0 _ refl
+pub loop-flight-init : goal.loop-flight-init
+loop-flight-init g c = puts-same {r = Ok tt} (none_met (flight_line g.row.SETS c.args.machine.now) c.args.machine.now.flights) (puts-nothing _)
 
 pub returns-in_err-put_message : goal.returns-in_err-put_message
 returns-in_err-put_message g c =
-    let flights = c.args.machine.now.flights in
-    let line = flight_line g.row.SETS c.args.machine.now in
+    let m = c.args.machine.now in
+    let text = flight_line g.row.SETS m in
+    let f = c.in-Some.flight.now in
+    let line = puts-same (line_is g.row.SETS m c.loop-flight.number f c.is_held.result c.in-Some.ensures c.is_held.ensures) c.put_message.ensures in
     record {
-      text = flat_map line (rest flights None).0;
-      is = ((rest flights None).0, (rest flights None).1, refl);
-      puts = up_to-cut line (rw (rest-begins flights c.loop-key.last c.in-Some.key c.in-Some.ensures.some) at c.loop-key.invariant) c.in_err-put_message.was c.put_message.ensures c.from_residual.ensures.0;
+      text = flat_map text m.flights;
+      is = refl;
+      puts = puts-same (met_and_left text c.loop-flight.number m.flights f c.are_in_order.ensures.order c.in-Some.ensures)
+          (puts-cut (text_from text (f.number + 1) m.flights) c.in_err-put_message.was (puts-both c.loop-flight.invariant line) c.from_residual.ensures.0);
     }
 
-pub loop-key-preserved : goal.loop-key-preserved
-loop-key-preserved g c =
-    let flights = c.args.machine.now.flights in
-    let line = flight_line g.row.SETS c.args.machine.now in
-    up_to-more line (rw (rest-begins flights c.loop-key.last c.in-Some.key c.in-Some.ensures.some) at c.loop-key.invariant) c.in_ok-put_message.ensures
+pub loop-flight-preserved : goal.loop-flight-preserved
+loop-flight-preserved g c =
+    let m = c.args.machine.now in
+    let f = c.in-Some.flight.now in
+    let line = puts-same {r = Ok tt} (line_is g.row.SETS m c.loop-flight.number f c.is_held.result c.in-Some.ensures c.is_held.ensures) c.in_ok-put_message.ensures in
+    puts-same {r = Ok tt} (one_met (flight_line g.row.SETS m) c.loop-flight.number m.flights f c.are_in_order.ensures.order c.in-Some.ensures) (puts-both c.loop-flight.invariant line)
 
-pub loop-key-smaller : goal.loop-key-smaller
-loop-key-smaller g c = left-falls c.args.machine.now.flights c.loop-key.last c.in-Some.key c.in-Some.ensures.some
+pub overflow_add-number : goal.overflow_add-number
+overflow_add-number g c =
+    let on = goes_on c.loop-flight.number c.args.machine.now.sent c.args.machine.now.flights c.in-Some.flight.now c.are_in_order.ensures.numbered (sym c.in-Some.ensures) in
+    omega (arith, on.1, c.sent-next.ensures)
+
+pub loop-flight-smaller : goal.loop-flight-smaller
+loop-flight-smaller g c =
+    let on = goes_on c.loop-flight.number c.args.machine.now.sent c.args.machine.now.flights c.in-Some.flight.now c.are_in_order.ensures.numbered (sym c.in-Some.ensures) in
+    omega (arith, on.0, on.1)
 
 pub returns : goal.returns
 returns g c =
-    let flights = c.args.machine.now.flights in
-    let line = flight_line g.row.SETS c.args.machine.now in
-    record {
-      text = flat_map line (rest flights None).0;
-      is = ((rest flights None).0, (rest flights None).1, refl);
-      puts = up_to-end line (rw (rest-ends flights c.loop-key.last c.in_default.ensures.none) at c.loop-key.invariant);
-    }
+    let m = c.args.machine.now in
+    let text = flight_line g.row.SETS m in
+    record { text = flat_map text m.flights; is = refl; puts = puts-same {r = Ok tt} (all_met text c.loop-flight.number m.flights c.in_default.ensures) c.loop-flight.invariant }

@@ -12,19 +12,19 @@ use Rattle.debugger.proofs.commands.looking.look.Goals.{in-Regs+in_ok-hart_of-in
 
 pub put_found-put-requires : goal.put_found-put-requires
 put_found-put-requires g c =
-    found_there c.args.names.now g.row.SETS c.args.machine.now (λ keys. peek keys (shown g.row.SETS c.args.machine.now)) c.in_ok-addr-in-Word.addr
+    found_there c.args.names.now g.row.SETS c.args.machine.now (λ bound. peek bound (shown g.row.SETS c.args.machine.now)) c.in_ok-addr-in-Word.addr
     (readable (setting_of c.args.machine.now) c.in-Word.addr _ c.word_at.result c.in_ok-addr-in-Word.was c.word_at.ensures) c.peek.result c.peek.ensures.value
 
 pub put_found-put-requires-in-Raw : goal.put_found-put-requires-in-Raw
 put_found-put-requires-in-Raw g c =
-    found_there c.args.names.now g.row.SETS c.args.machine.now (λ keys. raw keys (shown g.row.SETS c.args.machine.now)) c.in_ok-addr-in-Raw.addr
+    found_there c.args.names.now g.row.SETS c.args.machine.now (λ bound. raw bound (shown g.row.SETS c.args.machine.now)) c.in_ok-addr-in-Raw.addr
     (readable (setting_of c.args.machine.now) c.in-Raw.addr _ c.word_at-in-Raw.result c.in_ok-addr-in-Raw.was c.word_at-in-Raw.ensures) c.raw.result c.raw.ensures.value
 
 pub put_found-put-requires-in-View : goal.put_found-put-requires-in-View
 put_found-put-requires-in-View g c =
-    found_there c.args.names.now g.row.SETS c.args.machine.now (λ keys. view keys (shown g.row.SETS c.args.machine.now) c.in_ok-hart-in-View.hart) c.in_ok-addr-in-View.addr
+    found_there c.args.names.now g.row.SETS c.args.machine.now (λ bound. view bound (shown g.row.SETS c.args.machine.now) c.in_ok-hart-in-View.hart) c.in_ok-addr-in-View.addr
     (readable (setting_of c.args.machine.now) c.in-View.addr _ c.word_at-in-View.result c.in_ok-addr-in-View.was c.word_at-in-View.ensures) c.view.result
-    (λ keys below. c.view.ensures.value keys below ∙ seen keys (shown g.row.SETS c.args.machine.now) c.in_ok-hart-in-View.hart c.in_ok-addr-in-View.addr
+    (λ bound below. c.view.ensures.value bound below ∙ seen bound (shown g.row.SETS c.args.machine.now) c.in_ok-hart-in-View.hart c.in_ok-addr-in-View.addr
     (is_hart (setting_of c.args.machine.now) c.in-View.hart _ c.hart_of-in-View.result c.in_ok-hart-in-View.was c.hart_of-in-View.ensures))
 
 pub returns-clause-shown : goal.returns-clause-shown
@@ -37,14 +37,14 @@ returns-clause-shown g c = λ fine. elim c.match-look.branch [
   | in-Word+in_ok-addr-in-Word w ↦ rw w.sink-is (
     w.put_found-put.result,
     shows-same (look-one Word (word_fault (setting_of c.args.machine.now) w.in-Word.addr) w.in-Word.addr _ _ _ w.in-Word.is w.in_ok-addr-in-Word.was w.word_at.ensures)
-        (shows_found c.args.names.now g.row.SETS c.args.machine.now (λ keys. peek keys (shown g.row.SETS c.args.machine.now)) w.in_ok-addr-in-Word.addr (readable (setting_of c.args.machine.now) w.in-Word.addr _ w.word_at.result w.in_ok-addr-in-Word.was w.word_at.ensures)
+        (shows_found c.args.names.now g.row.SETS c.args.machine.now (λ bound. peek bound (shown g.row.SETS c.args.machine.now)) w.in_ok-addr-in-Word.addr (readable (setting_of c.args.machine.now) w.in-Word.addr _ w.word_at.result w.in_ok-addr-in-Word.was w.word_at.ensures)
         w.peek.result w.peek.ensures.value (λ t is. is) w.put_found-put.ensures),
     c.told.ensures ∙ ap told w.put-is,
   )
   | in-Raw+in_ok-addr-in-Raw w ↦ rw w.sink-is (
     w.put_found-put-in-Raw.result,
     shows-same (look-one Raw (word_fault (setting_of c.args.machine.now) w.in-Raw.addr) w.in-Raw.addr _ _ _ w.in-Raw.is w.in_ok-addr-in-Raw.was w.word_at-in-Raw.ensures)
-        (shows_found c.args.names.now g.row.SETS c.args.machine.now (λ keys. raw keys (shown g.row.SETS c.args.machine.now)) w.in_ok-addr-in-Raw.addr (readable (setting_of c.args.machine.now) w.in-Raw.addr _ w.word_at-in-Raw.result w.in_ok-addr-in-Raw.was w.word_at-in-Raw.ensures)
+        (shows_found c.args.names.now g.row.SETS c.args.machine.now (λ bound. raw bound (shown g.row.SETS c.args.machine.now)) w.in_ok-addr-in-Raw.addr (readable (setting_of c.args.machine.now) w.in-Raw.addr _ w.word_at-in-Raw.result w.in_ok-addr-in-Raw.was w.word_at-in-Raw.ensures)
         w.raw.result w.raw.ensures.value (λ t is. is) w.put_found-put-in-Raw.ensures),
     c.told.ensures ∙ ap told w.put-is,
   )
@@ -52,9 +52,9 @@ returns-clause-shown g c = λ fine. elim c.match-look.branch [
     w.put_found-put-in-View.result,
     shows-same (look-two View (hart_fault (setting_of c.args.machine.now) w.in-View.hart) (word_fault (setting_of c.args.machine.now) w.in-View.addr) w.in-View.hart _ w.in-View.addr _ _ _ _
         w.in-View.is w.in_ok-hart-in-View.was w.hart_of-in-View.ensures w.in_ok-addr-in-View.was w.word_at-in-View.ensures)
-        (shows_found c.args.names.now g.row.SETS c.args.machine.now (λ keys. view keys (shown g.row.SETS c.args.machine.now) w.in_ok-hart-in-View.hart) w.in_ok-addr-in-View.addr
+        (shows_found c.args.names.now g.row.SETS c.args.machine.now (λ bound. view bound (shown g.row.SETS c.args.machine.now) w.in_ok-hart-in-View.hart) w.in_ok-addr-in-View.addr
         (readable (setting_of c.args.machine.now) w.in-View.addr _ w.word_at-in-View.result w.in_ok-addr-in-View.was w.word_at-in-View.ensures) w.view.result
-        (λ keys below. w.view.ensures.value keys below ∙ seen keys (shown g.row.SETS c.args.machine.now) w.in_ok-hart-in-View.hart w.in_ok-addr-in-View.addr
+        (λ bound below. w.view.ensures.value bound below ∙ seen bound (shown g.row.SETS c.args.machine.now) w.in_ok-hart-in-View.hart w.in_ok-addr-in-View.addr
         (is_hart (setting_of c.args.machine.now) w.in-View.hart _ w.hart_of-in-View.result w.in_ok-hart-in-View.was w.hart_of-in-View.ensures)) (λ t is. is) w.put_found-put-in-View.ensures),
     c.told.ensures ∙ ap told w.put-is,
   )

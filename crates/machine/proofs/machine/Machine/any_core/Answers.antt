@@ -22,10 +22,10 @@ returns-then-i-len-clause-steps g c =
 
 -- the machine before and after
 abbrev before : (g : Over) (c : goal.After-note g) → State
-before g c = record { program = c.self.inside.program; seats = c.self.inside.seats.items; directory = c.self.inside.directory; flights = c.self.inside.net.slots; sent = c.self.inside.net.next; stamps = c.self.inside.stamps }
+before g c = record { program = c.self.inside.program; seats = c.self.inside.seats.items; directory = c.self.inside.directory; flights = c.self.inside.net.flights; sent = c.self.inside.net.next; stamps = c.self.inside.stamps }
 
 abbrev after : (g : Over) (c : goal.After-note g) → State
-after g c = record (before g c) { seats = slice_set (before g c).seats c.index-i.result c.core_step.new.self; flights = c.note.new.net.slots; sent = c.note.new.net.next; stamps = c.note.new.stamps }
+after g c = record (before g c) { seats = slice_set (before g c).seats c.index-i.result c.core_step.new.self; flights = c.note.new.net.flights; sent = c.note.new.net.next; stamps = c.note.new.stamps }
 
 makes : (g : Over) (c : goal.After-note g)
     → MakesStep (geometry g.row.SETS g.row.WAYS) (before g c) (Core c.index-i.result) c.in-Some.made.entry (after g c) × IsSound g.row.SETS g.row.WAYS (after g c)
@@ -43,7 +43,7 @@ makes g c =
     (subst (λ segments. MakesOf g.row.SETS segments (before g c).stamps c.index_mut.result.now c.core_step.new.self c.in_ok-core_step.field-0) c.text.ensures c.in_ok-core_step.ensures.row) in
     core_makes g.row.SETS g.row.WAYS c.index-i.result (before g c) (after g c) c.index_mut.result.now c.core_step.new.self c.self.invariant acts c.in-Some.made c.in_ok-core_step.ensures.victim c.core_step.ensures.ways row
     c.note.ensures.stamps
-    (subst₂ (λ f n. SendsOn (mail_of f) n (option_to_list (option_map shown_message c.in-Some.made.message)) (mail_of (after g c).flights) (after g c).sent) c.reserve.ensures.same c.reserve.ensures.number c.note.ensures.sent)
+    (subst₂ (λ f n. SendsOn (mail_of f) n (option_to_list (option_map shown_message c.in-Some.made.message)) (mail_of (after g c).flights) (after g c).sent) c.reserve.ensures.same c.reserve.ensures.number c.note.ensures.sent) c.note.ensures.order
 
 pub invariant_of-self-in-Some : goal.invariant_of-self-in-Some
 invariant_of-self-in-Some g c = (makes g c).1
@@ -57,8 +57,8 @@ returns-in-Some-clause-steps g c =
 
 pub invariant_of-self-in_err-core_step : goal.invariant_of-self-in_err-core_step
 invariant_of-self-in_err-core_step g c =
-    let v : State = record { program = c.self.inside.program; seats = c.self.inside.seats.items; directory = c.self.inside.directory; flights = c.self.inside.net.slots; sent = c.self.inside.net.next; stamps = c.self.inside.stamps } in
-    let w : State = record v { seats = slice_set v.seats c.index-i.result c.core_step.new.self; flights = c.reserve.new.self.slots; sent = c.reserve.new.self.next } in
+    let v : State = record { program = c.self.inside.program; seats = c.self.inside.seats.items; directory = c.self.inside.directory; flights = c.self.inside.net.flights; sent = c.self.inside.net.next; stamps = c.self.inside.stamps } in
+    let w : State = record v { seats = slice_set v.seats c.index-i.result c.core_step.new.self; flights = c.reserve.new.self.flights; sent = c.reserve.new.self.next } in
     let acts : Acts c.index-i.result v w c.index_mut.result.now c.core_step.new.self = record {
       number = omega (arith, c.len.ensures, c.if-i-len.false);
       before = c.index_mut.ensures.value;
@@ -73,10 +73,10 @@ invariant_of-self-in_err-core_step g c =
 -- No step is enabled
 
 abbrev still : (g : Over) (c : goal.In-None g) → State
-still g c = record { program = c.self.inside.program; seats = c.self.inside.seats.items; directory = c.self.inside.directory; flights = c.self.inside.net.slots; sent = c.self.inside.net.next; stamps = c.self.inside.stamps }
+still g c = record { program = c.self.inside.program; seats = c.self.inside.seats.items; directory = c.self.inside.directory; flights = c.self.inside.net.flights; sent = c.self.inside.net.next; stamps = c.self.inside.stamps }
 
 abbrev left : (g : Over) (c : goal.In-None g) → State
-left g c = record (still g c) { seats = slice_set (still g c).seats c.index-i.result c.core_step.new.self; flights = c.reserve.new.self.slots; sent = c.reserve.new.self.next }
+left g c = record (still g c) { seats = slice_set (still g c).seats c.index-i.result c.core_step.new.self; flights = c.reserve.new.self.flights; sent = c.reserve.new.self.next }
 
 acts_none : (g : Over) (c : goal.In-None g) → Acts c.index-i.result (still g c) (left g c) c.index_mut.result.now c.core_step.new.self
 acts_none g c = record {

@@ -19,10 +19,10 @@ use Rattle.machine.proofs.machine.Machine.common_seated.Goals as goal
 
 -- the machine before and after
 abbrev before : (g : Over) (c : goal.After-take_stamp g) → State
-before g c = record { program = c.self.inside.program; seats = c.self.inside.seats.items; directory = c.self.inside.directory; flights = c.self.inside.net.slots; sent = c.self.inside.net.next; stamps = c.self.inside.stamps }
+before g c = record { program = c.self.inside.program; seats = c.self.inside.seats.items; directory = c.self.inside.directory; flights = c.self.inside.net.flights; sent = c.self.inside.net.next; stamps = c.self.inside.stamps }
 
 abbrev after : (g : Over) (c : goal.After-take_stamp g) → State
-after g c = record (before g c) { seats = slice_set (before g c).seats c.index-i.result c.common_step.new.self; flights = c.ask.new.net.slots; sent = c.ask.new.net.next; stamps = c.take_stamp.new.stamps }
+after g c = record (before g c) { seats = slice_set (before g c).seats c.index-i.result c.common_step.new.self; flights = c.ask.new.net.flights; sent = c.ask.new.net.next; stamps = c.take_stamp.new.stamps }
 
 makes : (g : Over) (c : goal.After-take_stamp g)
     → MakesStep (geometry g.row.SETS g.row.WAYS) (before g c) (Core c.index-i.result) c.in-Some.made.entry (after g c) × IsSound g.row.SETS g.row.WAYS (after g c)
@@ -44,7 +44,8 @@ makes g c =
     let stamp = ap (λ (s : Seat). stamp_of (shown_tx s.hart.tx)) c.seat.view_is in
     common_makes S g.row.WAYS c.index-i.result (before g c) (after g c) old new c.self.invariant acts made c.common_step.ensures.victim c.common_step.ensures.ways row c.take_stamp.ensures
     (subst₂ (λ f n. SendsOn (mail_of f) n (option_to_list (option_map (asking c.index-i.result (stamp_of (shown_tx new.hart.tx))) made.asked)) (mail_of (after g c).flights) (after g c).sent) c.reserve.ensures.same c.reserve.ensures.number
-    (subst₂ (λ i s. SendsOn (mail_of c.reserve.new.self.slots) c.reserve.new.self.next (option_to_list (option_map (asking i s) made.asked)) (mail_of (after g c).flights) (after g c).sent) (sym c.index-i.ensures.value) stamp c.ask.ensures))
+    (subst₂ (λ i s. SendsOn (mail_of c.reserve.new.self.flights) c.reserve.new.self.next (option_to_list (option_map (asking i s) made.asked)) (mail_of (after g c).flights) (after g c).sent) (sym c.index-i.ensures.value) stamp c.ask.ensures.sent))
+    c.ask.ensures.order
 
 pub invariant_of-self-2 : goal.invariant_of-self-2
 invariant_of-self-2 g c = (makes g c).1
@@ -57,10 +58,10 @@ returns-clause-steps g c =
 -- No step is enabled
 
 abbrev still : (g : Over) (c : goal.After-self-1 g) → State
-still g c = record { program = c.self.inside.program; seats = c.self.inside.seats.items; directory = c.self.inside.directory; flights = c.self.inside.net.slots; sent = c.self.inside.net.next; stamps = c.self.inside.stamps }
+still g c = record { program = c.self.inside.program; seats = c.self.inside.seats.items; directory = c.self.inside.directory; flights = c.self.inside.net.flights; sent = c.self.inside.net.next; stamps = c.self.inside.stamps }
 
 abbrev left : (g : Over) (c : goal.After-self-1 g) → State
-left g c = record (still g c) { seats = slice_set (still g c).seats c.index-i.result c.common_step.new.self; flights = c.reserve.new.self.slots; sent = c.reserve.new.self.next }
+left g c = record (still g c) { seats = slice_set (still g c).seats c.index-i.result c.common_step.new.self; flights = c.reserve.new.self.flights; sent = c.reserve.new.self.next }
 
 -- so the machine stays as it is
 stays : (g : Over) (c : goal.After-self-1 g) → left g c ≡ still g c

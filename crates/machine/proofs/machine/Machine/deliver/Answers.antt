@@ -11,12 +11,12 @@ use Rattle.machine.proofs.machine.Machine.deliver.Goals.{in-Grant, in-PutAck, in
 
 pub returns-in_default-clause-steps : goal.returns-in_default-clause-steps
 returns-in_default-clause-steps g c =
-    arrives_none g.row.SETS g.row.WAYS c.args.key c.args.self.now (subst (IsSound g.row.SETS g.row.WAYS) c.self.view_is c.self.invariant)
-    (ap (λ (m : State). in_flight m.flights c.args.key) (sym c.self.view_is) ∙ ap (option_map shown_message) (sym c.in_default.ensures))
+    arrives_none g.row.SETS g.row.WAYS c.args.number c.args.self.now (subst (IsSound g.row.SETS g.row.WAYS) c.self.view_is c.self.invariant)
+    (ap (λ (m : State). in_flight m.flights c.args.number) (sym c.self.view_is) ∙ ap (option_map shown_message) (sym c.in_default.ensures))
 
 pub returns-clause-steps : goal.returns-clause-steps
 returns-clause-steps g c =
-    let made = λ (w : State). MakesStep (geometry g.row.SETS g.row.WAYS) c.args.self.now (Deliver c.args.key) None w in
+    let made = λ (w : State). MakesStep (geometry g.row.SETS g.row.WAYS) c.args.self.now (Deliver c.args.number) None w in
     elim c.match-message.branch [
       | in-Grant w ↦ subst made (sym w.self-is) w.grant_arrives.ensures
       | in-PutAck w ↦ subst made (sym w.self-is) w.put_ack_arrives.ensures

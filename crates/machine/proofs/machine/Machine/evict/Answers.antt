@@ -2,6 +2,7 @@ use Rattle.std.proofs.Common.{◌≡◌, ◌≤◌, arith, length, None, get_or,
 use Rattle.std.specs.Prelude.{slice_set}
 use Rattle.words.specs.declared.entry.Step.TheVariants.{Evict}
 use Rattle.directory.specs.Blocks.{KeepsUsed}
+use Rattle.network.specs.Flights.{AreInOrder}
 use Rattle.machine.specs.Making.{MakesStep}
 use Rattle.machine.specs.States.{State, Seat, geometry, IsSound}
 use Rattle.machine.proofs.Acting.{Acts, rests_still}
@@ -19,11 +20,11 @@ returns-then-i-len-clause-steps g c =
     let v : State = c.args.self.now in
     let count : length c.self.inside.seats.items ≡ length v.seats = ap (λ (m : State). length m.seats) c.self.view_is in
     let past : length v.seats ≤ c.args.id = omega (arith, c.len.ensures, c.index-i.ensures.value, c.if-i-len.true, count) in
-    record { may = tt {0}; made = of_none g.row.SETS c.args.id v _ past; ways = seats_stay g.row.SETS v v refl; logs = logs_stay v v refl; kept = subst (λ (m : State). KeepsUsed m.directory) c.self.view_is c.self.invariant.kept }
+    record { may = tt {0}; made = of_none g.row.SETS c.args.id v _ past; ways = seats_stay g.row.SETS v v refl; logs = logs_stay v v refl; kept = subst (λ (m : State). KeepsUsed m.directory) c.self.view_is c.self.invariant.kept; order = subst (λ (m : State). AreInOrder m.flights) c.self.view_is c.self.invariant.order }
 
 -- the machine before and after, and the seat
 abbrev before : (g : Over) (c : goal.After-send g) → State
-before g c = record { program = c.self.inside.program; seats = c.self.inside.seats.items; directory = c.self.inside.directory; flights = c.self.inside.net.slots; sent = c.self.inside.net.next; stamps = c.self.inside.stamps }
+before g c = record { program = c.self.inside.program; seats = c.self.inside.seats.items; directory = c.self.inside.directory; flights = c.self.inside.net.flights; sent = c.self.inside.net.next; stamps = c.self.inside.stamps }
 
 abbrev old_seat : (g : Over) (c : goal.After-send g) → Seat
 old_seat g c = record { hart = c.behind-self.inside.hart; output = c.behind-self.inside.output.items }
@@ -32,7 +33,7 @@ abbrev new_seat : (g : Over) (c : goal.After-send g) → Seat
 new_seat g c = record { hart = c.evict.new.self; output = c.behind-self.inside.output.items }
 
 abbrev after : (g : Over) (c : goal.After-send g) → State
-after g c = record (before g c) { seats = slice_set (before g c).seats c.index-i.result (new_seat g c); flights = c.send.new.net.slots; sent = c.send.new.net.next }
+after g c = record (before g c) { seats = slice_set (before g c).seats c.index-i.result (new_seat g c); flights = c.send.new.net.flights; sent = c.send.new.net.next }
 
 -- the line is given up
 gives_up : (g : Over) (c : goal.After-send g) → MakesStep (geometry g.row.SETS g.row.WAYS) (before g c) (Evict c.index-i.result c.args.block) c.in-Some.reply.entry (after g c) × IsSound g.row.SETS g.row.WAYS (after g c)
@@ -46,7 +47,7 @@ gives_up g c =
       stays = c.evict.ensures.stays;
     } in
     evicts g.row.SETS g.row.WAYS c.index-i.result c.args.block (before g c) (after g c) (old_seat g c) (new_seat g c) c.in-Some.reply c.self.invariant acts refl refl c.evict.ensures.ways c.in-Some.ensures.row
-    (subst₂ (λ f n. SendsOn (mail_of f) n (option_to_list (option_map shown_message c.in-Some.reply.message)) (mail_of (after g c).flights) (after g c).sent) c.reserve.ensures.same c.reserve.ensures.number c.send.ensures)
+    (subst₂ (λ f n. SendsOn (mail_of f) n (option_to_list (option_map shown_message c.in-Some.reply.message)) (mail_of (after g c).flights) (after g c).sent) c.reserve.ensures.same c.reserve.ensures.number c.send.ensures.sent) c.send.ensures.order
 
 pub invariant_of-self-in-Some : goal.invariant_of-self-in-Some
 invariant_of-self-in-Some g c = (gives_up g c).1
@@ -60,7 +61,7 @@ returns-in-Some-clause-steps g c =
 
 -- the machine, the seats, and the machine that is left
 abbrev still : (g : Over) (c : goal.In-None g) → State
-still g c = record { program = c.self.inside.program; seats = c.self.inside.seats.items; directory = c.self.inside.directory; flights = c.self.inside.net.slots; sent = c.self.inside.net.next; stamps = c.self.inside.stamps }
+still g c = record { program = c.self.inside.program; seats = c.self.inside.seats.items; directory = c.self.inside.directory; flights = c.self.inside.net.flights; sent = c.self.inside.net.next; stamps = c.self.inside.stamps }
 
 abbrev seat : (g : Over) (c : goal.In-None g) → Seat
 seat g c = record { hart = c.behind-self.inside.hart; output = c.behind-self.inside.output.items }
@@ -69,7 +70,7 @@ abbrev seat_left : (g : Over) (c : goal.In-None g) → Seat
 seat_left g c = record { hart = c.evict.new.self; output = c.behind-self.inside.output.items }
 
 abbrev left : (g : Over) (c : goal.In-None g) → State
-left g c = record (still g c) { seats = slice_set (still g c).seats c.index-i.result (seat_left g c); flights = c.reserve.new.self.slots; sent = c.reserve.new.self.next }
+left g c = record (still g c) { seats = slice_set (still g c).seats c.index-i.result (seat_left g c); flights = c.reserve.new.self.flights; sent = c.reserve.new.self.next }
 
 acts_none : (g : Over) (c : goal.In-None g) → Acts c.index-i.result (still g c) (left g c) (seat g c) (seat_left g c)
 acts_none g c = record {

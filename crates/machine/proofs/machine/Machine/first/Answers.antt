@@ -11,8 +11,8 @@ use Rattle.isolation.specs.Belongs.{Belongs}
 use Rattle.isolation.proofs.Belongs.Belonging.{belongs_start}
 use Rattle.isolation.proofs.Words.Bytes.{words_same}
 use Rattle.machine.specs.States.{State, shown, geometry, words_of, setting_of}
-use Rattle.std.specs.Option.{option_map}
-use Rattle.protocol.specs.Messages.{shown as shown_message}
+use Rattle.network.specs.Flights.{AreInOrder}
+use Rattle.machine.specs.Mail.{in_flight}
 use Rattle.machine.proofs.Beginning.{Begins, begins, all_fit, whole_blocks}
 use Rattle.machine.proofs.machine.Machine.first.Given.{Over}
 use Rattle.machine.proofs.machine.Machine.first.Goals as goal
@@ -22,7 +22,7 @@ image-requires g c = all_fit c.args.program.segments c.args.harts c.args.size c.
 
 -- the machine that is made
 abbrev made : (g : Over) (c : goal.After-new-3 g) → State
-made g c = record { program = c.in_ok-program.program; seats = c.in_ok-seats.seats.items; directory = c.new-2.result; flights = c.new-3.result.slots; sent = c.new-3.result.next; stamps = 0 }
+made g c = record { program = c.in_ok-program.program; seats = c.in_ok-seats.seats.items; directory = c.new-2.result; flights = c.new-3.result.flights; sent = c.new-3.result.next; stamps = 0 }
 
 is_first : (g : Over) (c : goal.After-new-3 g) → Begins g.row.SETS c.args.program c.args.harts c.args.size (made g c)
 is_first g c = record {
@@ -35,7 +35,7 @@ is_first g c = record {
       ∙ c.in_ok-memory.ensures.words b
       ∙ words_same (mem_of c.deref.result.now) (image_at c.args.program.segments) b (λ a at. ap (λ bytes. mem_of bytes a) c.deref.ensures.value ∙ c.in_ok-bytes.ensures.memory a);
   entries = c.new-2.ensures.entries;
-  flights = λ key. ap (λ o. option_map shown_message (option_map (λ f. f.message) o)) (c.new-3.ensures.empty key);
+  flights = λ number. ap (λ flights. in_flight flights number) c.new-3.ensures.empty;
   stamps = refl;
 }
 
@@ -54,6 +54,7 @@ invariant_of-result g c = record {
       let b : Begins g.row.SETS c.args.program c.args.harts c.args.size (made g c) = is_first g c in
       c.in_ok-seats.ensures.seated (setting_of (made g c)) j x b.blocks b.count at;
   kept = none_used c.new-2.result c.new-2.ensures.entries;
+  order = subst AreInOrder (sym c.new-3.ensures.empty) tt;
   flat = booted c.args.program.segments c.args.program.entry c.args.harts c.args.size;
   belongs = belongs g c;
 }

@@ -18,14 +18,14 @@ returns-then-i-len g c =
     let a = c.in-Some-Forward in
     let v : State = c.args.self.now in
     let m : Told = Forward a.to a.block a.kind a.requester a.stamp in
-    let here : in_flight v.flights c.args.key ≡ Some m = ap (λ (w : State). in_flight w.flights c.args.key) (sym c.self.view_is) ∙ peeked c.self.inside.net.slots c.args.key _ _ a.ensures a.field-0-is in
+    let here : in_flight v.flights c.args.number ≡ Some m = ap (λ (w : State). in_flight w.flights c.args.number) (sym c.self.view_is) ∙ peeked c.self.inside.net.flights c.args.number _ _ a.ensures a.field-0-is in
     let count : length c.self.inside.seats.items ≡ length v.seats = ap (λ (m : State). length m.seats) c.self.view_is in
     let past : length v.seats ≤ a.to = omega (arith, c.len.ensures, c.index-i.ensures.value, c.if-i-len.true, count) in
-    arrives_nowhere g.row.SETS g.row.WAYS c.args.key a.to v m (subst (IsSound g.row.SETS g.row.WAYS) c.self.view_is c.self.invariant) here refl past
+    arrives_nowhere g.row.SETS g.row.WAYS c.args.number a.to v m (subst (IsSound g.row.SETS g.row.WAYS) c.self.view_is c.self.invariant) here refl past
 
 -- the machine before and after, and the hart's seat
 abbrev before : (g : Over) (c : goal.After-answer_forward g) → State
-before g c = record { program = c.self.inside.program; seats = c.self.inside.seats.items; directory = c.self.inside.directory; flights = c.self.inside.net.slots; sent = c.self.inside.net.next; stamps = c.self.inside.stamps }
+before g c = record { program = c.self.inside.program; seats = c.self.inside.seats.items; directory = c.self.inside.directory; flights = c.self.inside.net.flights; sent = c.self.inside.net.next; stamps = c.self.inside.stamps }
 
 abbrev old_seat : (g : Over) (c : goal.After-answer_forward g) → Seat
 old_seat g c = record { hart = c.behind-self.inside.hart; output = c.behind-self.inside.output.items }
@@ -34,11 +34,11 @@ abbrev new_seat : (g : Over) (c : goal.After-answer_forward g) → Seat
 new_seat g c = record { hart = c.on_forward-reply.new.self; output = c.behind-self.inside.output.items }
 
 abbrev after : (g : Over) (c : goal.After-answer_forward g) → State
-after g c = record (before g c) { seats = slice_set (before g c).seats c.index-i.result (new_seat g c); flights = c.answer_forward.new.net.slots; sent = c.answer_forward.new.net.next }
+after g c = record (before g c) { seats = slice_set (before g c).seats c.index-i.result (new_seat g c); flights = c.answer_forward.new.net.flights; sent = c.answer_forward.new.net.next }
 
 -- it arrives
 arrives : (g : Over) (c : goal.After-answer_forward g)
-    → MakesStep (geometry g.row.SETS g.row.WAYS) (before g c) (Deliver c.args.key) c.answer_forward.result (after g c) × IsSound g.row.SETS g.row.WAYS (after g c)
+    → MakesStep (geometry g.row.SETS g.row.WAYS) (before g c) (Deliver c.args.number) c.answer_forward.result (after g c) × IsSound g.row.SETS g.row.WAYS (after g c)
 arrives g c =
     let a = c.in-Some-Forward in
     let acts : Acts c.index-i.result (before g c) (after g c) (old_seat g c) (new_seat g c) = record {
@@ -53,13 +53,13 @@ arrives g c =
     let is : c.index-i.result ≡ a.to = c.index-i.ensures.value in
     let answer = c.on_forward-reply.result in
     let entry : refusal_of c.index-i.result a.requester a.block answer ≡ c.answer_forward.result = ap (λ n. refusal_of n a.requester a.block answer) is ∙ sym c.answer_forward.ensures.entry in
-    subst (λ e. MakesStep (geometry g.row.SETS g.row.WAYS) (before g c) (Deliver c.args.key) e (after g c) × IsSound g.row.SETS g.row.WAYS (after g c)) entry
-    (arrives_at_hart g.row.SETS g.row.WAYS c.args.key c.index-i.result (before g c) (after g c) (old_seat g c) (new_seat g c) m (λ n. Some (answer_of n a.requester a.block answer)) (λ n. refusal_of n a.requester a.block answer) c.self.invariant acts refl refl
-    (peeked c.self.inside.net.slots c.args.key _ _ a.ensures a.field-0-is) (ap (λ n. Some n) (sym is)) c.on_forward-reply.ensures.ways (λ output. c.on_forward-reply.ensures.row output a.requester)
-    (subst (λ n. SendsOn (put_at c.args.key None (mail_of (before g c).flights)) (before g c).sent (answer_of n a.requester a.block answer ∷ []) (mail_of (after g c).flights) (after g c).sent) (sym is) c.answer_forward.ensures.sent))
+    subst (λ e. MakesStep (geometry g.row.SETS g.row.WAYS) (before g c) (Deliver c.args.number) e (after g c) × IsSound g.row.SETS g.row.WAYS (after g c)) entry
+    (arrives_at_hart g.row.SETS g.row.WAYS c.args.number c.index-i.result (before g c) (after g c) (old_seat g c) (new_seat g c) m (λ n. Some (answer_of n a.requester a.block answer)) (λ n. refusal_of n a.requester a.block answer) c.self.invariant acts refl refl
+    (peeked c.self.inside.net.flights c.args.number _ _ a.ensures a.field-0-is) (ap (λ n. Some n) (sym is)) c.on_forward-reply.ensures.ways (λ output. c.on_forward-reply.ensures.row output a.requester)
+    (subst (λ n. SendsOn (put_at c.args.number None (mail_of (before g c).flights)) (before g c).sent (answer_of n a.requester a.block answer ∷ []) (mail_of (after g c).flights) (after g c).sent) (sym is) c.answer_forward.ensures.sent) c.answer_forward.ensures.order)
 
 pub invariant_of-self : goal.invariant_of-self
 invariant_of-self g c = (arrives g c).1
 
 pub returns : goal.returns
-returns g c = subst (λ m. MakesStep (geometry g.row.SETS g.row.WAYS) m (Deliver c.args.key) c.answer_forward.result (after g c)) c.self.view_is (arrives g c).0
+returns g c = subst (λ m. MakesStep (geometry g.row.SETS g.row.WAYS) m (Deliver c.args.number) c.answer_forward.result (after g c)) c.self.view_is (arrives g c).0

@@ -19,14 +19,14 @@ returns-then-i-len g c =
     let a = c.in-Some-Grant in
     let v : State = c.args.self.now in
     let m : Told = Grant a.to a.block (record { give = a.give; content = a.content; expect = names a.expect }) in
-    let here : in_flight v.flights c.args.key ≡ Some m = ap (λ (w : State). in_flight w.flights c.args.key) (sym c.self.view_is) ∙ peeked c.self.inside.net.slots c.args.key _ _ a.ensures a.field-0-is in
+    let here : in_flight v.flights c.args.number ≡ Some m = ap (λ (w : State). in_flight w.flights c.args.number) (sym c.self.view_is) ∙ peeked c.self.inside.net.flights c.args.number _ _ a.ensures a.field-0-is in
     let count : length c.self.inside.seats.items ≡ length v.seats = ap (λ (m : State). length m.seats) c.self.view_is in
     let past : length v.seats ≤ a.to = omega (arith, c.len.ensures, c.index-i.ensures.value, c.if-i-len.true, count) in
-    arrives_nowhere g.row.SETS g.row.WAYS c.args.key a.to v m (subst (IsSound g.row.SETS g.row.WAYS) c.self.view_is c.self.invariant) here refl past
+    arrives_nowhere g.row.SETS g.row.WAYS c.args.number a.to v m (subst (IsSound g.row.SETS g.row.WAYS) c.self.view_is c.self.invariant) here refl past
 
 -- the machine before and after, and the hart's seat
 abbrev before : (g : Over) (c : goal.After-answer_done g) → State
-before g c = record { program = c.self.inside.program; seats = c.self.inside.seats.items; directory = c.self.inside.directory; flights = c.self.inside.net.slots; sent = c.self.inside.net.next; stamps = c.self.inside.stamps }
+before g c = record { program = c.self.inside.program; seats = c.self.inside.seats.items; directory = c.self.inside.directory; flights = c.self.inside.net.flights; sent = c.self.inside.net.next; stamps = c.self.inside.stamps }
 
 abbrev old_seat : (g : Over) (c : goal.After-answer_done g) → Seat
 old_seat g c = record { hart = c.behind-self.inside.hart; output = c.behind-self.inside.output.items }
@@ -35,11 +35,11 @@ abbrev new_seat : (g : Over) (c : goal.After-answer_done g) → Seat
 new_seat g c = record { hart = c.on_grant-settled.new.self; output = c.behind-self.inside.output.items }
 
 abbrev after : (g : Over) (c : goal.After-answer_done g) → State
-after g c = record (before g c) { seats = slice_set (before g c).seats c.index-i.result (new_seat g c); flights = c.answer_done.new.net.slots; sent = c.answer_done.new.net.next }
+after g c = record (before g c) { seats = slice_set (before g c).seats c.index-i.result (new_seat g c); flights = c.answer_done.new.net.flights; sent = c.answer_done.new.net.next }
 
 -- it arrives
 arrives : (g : Over) (c : goal.After-answer_done g)
-    → MakesStep (geometry g.row.SETS g.row.WAYS) (before g c) (Deliver c.args.key) None (after g c) × IsSound g.row.SETS g.row.WAYS (after g c)
+    → MakesStep (geometry g.row.SETS g.row.WAYS) (before g c) (Deliver c.args.number) None (after g c) × IsSound g.row.SETS g.row.WAYS (after g c)
 arrives g c =
     let a = c.in-Some-Grant in
     let acts : Acts c.index-i.result (before g c) (after g c) (old_seat g c) (new_seat g c) = record {
@@ -52,12 +52,12 @@ arrives g c =
     } in
     let m : Told = Grant a.to a.block (record { give = a.give; content = a.content; expect = names a.expect }) in
     let is : c.index-i.result ≡ a.to = c.index-i.ensures.value in
-    arrives_at_hart g.row.SETS g.row.WAYS c.args.key c.index-i.result (before g c) (after g c) (old_seat g c) (new_seat g c) m (λ n. done_of n c.on_grant-settled.result) (λ n. None) c.self.invariant acts refl refl
-    (peeked c.self.inside.net.slots c.args.key _ _ a.ensures a.field-0-is) (ap (λ n. Some n) (sym is)) c.on_grant-settled.ensures.ways c.on_grant-settled.ensures.row
-    (subst (λ n. SendsOn (put_at c.args.key None (mail_of (before g c).flights)) (before g c).sent (option_to_list (done_of n c.on_grant-settled.result)) (mail_of (after g c).flights) (after g c).sent) (sym is) c.answer_done.ensures)
+    arrives_at_hart g.row.SETS g.row.WAYS c.args.number c.index-i.result (before g c) (after g c) (old_seat g c) (new_seat g c) m (λ n. done_of n c.on_grant-settled.result) (λ n. None) c.self.invariant acts refl refl
+    (peeked c.self.inside.net.flights c.args.number _ _ a.ensures a.field-0-is) (ap (λ n. Some n) (sym is)) c.on_grant-settled.ensures.ways c.on_grant-settled.ensures.row
+    (subst (λ n. SendsOn (put_at c.args.number None (mail_of (before g c).flights)) (before g c).sent (option_to_list (done_of n c.on_grant-settled.result)) (mail_of (after g c).flights) (after g c).sent) (sym is) c.answer_done.ensures.sent) c.answer_done.ensures.order
 
 pub invariant_of-self : goal.invariant_of-self
 invariant_of-self g c = (arrives g c).1
 
 pub returns : goal.returns
-returns g c = subst (λ m. MakesStep (geometry g.row.SETS g.row.WAYS) m (Deliver c.args.key) None (after g c)) c.self.view_is (arrives g c).0
+returns g c = subst (λ m. MakesStep (geometry g.row.SETS g.row.WAYS) m (Deliver c.args.number) None (after g c)) c.self.view_is (arrives g c).0

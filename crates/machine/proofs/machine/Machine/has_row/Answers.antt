@@ -11,25 +11,25 @@ use Rattle.machine.proofs.machine.Machine.has_row.Goals as goal
 
 pub returns-in-None : goal.returns-in-None
 returns-in-None g c =
-    let here : State = record { program = c.self.inside.program; seats = c.self.inside.seats.items; directory = c.self.inside.directory; flights = c.self.inside.net.slots; sent = c.self.inside.net.next; stamps = c.self.inside.stamps } in
+    let here : State = record { program = c.self.inside.program; seats = c.self.inside.seats.items; directory = c.self.inside.directory; flights = c.self.inside.net.flights; sent = c.self.inside.net.next; stamps = c.self.inside.stamps } in
     subst (λ (s : Step). IsEnabledByRule (geometry g.row.SETS g.row.WAYS) c.args.self.now s false) (sym c.in-Deliver.is)
-    (subst (λ (m : State). IsEnabledByRule (geometry g.row.SETS g.row.WAYS) m (Deliver c.in-Deliver.key) false) c.self.view_is
-    (no_message g.row.SETS g.row.WAYS c.in-Deliver.key here (ap (option_map shown_message) (sym c.in-None.ensures))))
+    (subst (λ (m : State). IsEnabledByRule (geometry g.row.SETS g.row.WAYS) m (Deliver c.in-Deliver.number) false) c.self.view_is
+    (no_message g.row.SETS g.row.WAYS c.in-Deliver.number here (ap (option_map shown_message) (sym c.in-None.ensures))))
 
 pub returns-in-Some-receiver : goal.returns-in-Some-receiver
 returns-in-Some-receiver g c =
-    let here : State = record { program = c.self.inside.program; seats = c.self.inside.seats.items; directory = c.self.inside.directory; flights = c.self.inside.net.slots; sent = c.self.inside.net.next; stamps = c.self.inside.stamps } in
+    let here : State = record { program = c.self.inside.program; seats = c.self.inside.seats.items; directory = c.self.inside.directory; flights = c.self.inside.net.flights; sent = c.self.inside.net.next; stamps = c.self.inside.stamps } in
     subst (λ (s : Step). IsEnabledByRule (geometry g.row.SETS g.row.WAYS) c.args.self.now s (nat_lt c.index.result c.harts.result)) (sym c.in-Deliver.is)
-    (subst (λ (m : State). IsEnabledByRule (geometry g.row.SETS g.row.WAYS) m (Deliver c.in-Deliver.key) (nat_lt c.index.result c.harts.result)) c.self.view_is
-    (arrives_if g.row.SETS g.row.WAYS c.in-Deliver.key here (shown_message c.in-Some.message.now) (Some c.in-Some-receiver.id) _ (ap (option_map shown_message) (sym c.in-Some.ensures)) (sym c.in-Some-receiver.ensures)
+    (subst (λ (m : State). IsEnabledByRule (geometry g.row.SETS g.row.WAYS) m (Deliver c.in-Deliver.number) (nat_lt c.index.result c.harts.result)) c.self.view_is
+    (arrives_if g.row.SETS g.row.WAYS c.in-Deliver.number here (shown_message c.in-Some.message.now) (Some c.in-Some-receiver.id) _ (ap (option_map shown_message) (sym c.in-Some.ensures)) (sym c.in-Some-receiver.ensures)
     (λ k. nat_lt (c.index.ensures.value k) ((c.harts.ensures.value ∙ sym c.self.invariant.count) k))))
 
 pub returns-in-None-receiver : goal.returns-in-None-receiver
 returns-in-None-receiver g c =
-    let here : State = record { program = c.self.inside.program; seats = c.self.inside.seats.items; directory = c.self.inside.directory; flights = c.self.inside.net.slots; sent = c.self.inside.net.next; stamps = c.self.inside.stamps } in
+    let here : State = record { program = c.self.inside.program; seats = c.self.inside.seats.items; directory = c.self.inside.directory; flights = c.self.inside.net.flights; sent = c.self.inside.net.next; stamps = c.self.inside.stamps } in
     subst (λ (s : Step). IsEnabledByRule (geometry g.row.SETS g.row.WAYS) c.args.self.now s (not c.is_held.result)) (sym c.in-Deliver.is)
-    (subst (λ (m : State). IsEnabledByRule (geometry g.row.SETS g.row.WAYS) m (Deliver c.in-Deliver.key) (not c.is_held.result)) c.self.view_is
-    (arrives_if g.row.SETS g.row.WAYS c.in-Deliver.key here (shown_message c.in-Some.message.now) None _ (ap (option_map shown_message) (sym c.in-Some.ensures)) (sym c.in-None-receiver.ensures)
+    (subst (λ (m : State). IsEnabledByRule (geometry g.row.SETS g.row.WAYS) m (Deliver c.in-Deliver.number) (not c.is_held.result)) c.self.view_is
+    (arrives_if g.row.SETS g.row.WAYS c.in-Deliver.number here (shown_message c.in-Some.message.now) None _ (ap (option_map shown_message) (sym c.in-Some.ensures)) (sym c.in-None-receiver.ensures)
     (ap not (c.is_held.ensures (setting_of here).count ((shown g.row.SETS here).memory (block_of (shown_message c.in-Some.message.now)))))))
 
 pub returns-in-Core : goal.returns-in-Core

@@ -12,7 +12,7 @@ use Rattle.machine.proofs.machine.Machine.is_core_enabled.Goals as goal
 
 pub returns-in-Some-glance : goal.returns-in-Some-glance
 returns-in-Some-glance g c =
-    let here : State = record { program = c.self.inside.program; seats = c.self.inside.seats.items; directory = c.self.inside.directory; flights = c.self.inside.net.slots; sent = c.self.inside.net.next; stamps = c.self.inside.stamps } in
+    let here : State = record { program = c.self.inside.program; seats = c.self.inside.seats.items; directory = c.self.inside.directory; flights = c.self.inside.net.flights; sent = c.self.inside.net.next; stamps = c.self.inside.stamps } in
     let s : Seat = c.in-Some.seat.now in
     let at : slice_get here.seats c.args.id ≡ Some s = seat_here here c.deref.result.now c.index.result c.args.id s c.deref.ensures.value c.index.ensures.value c.in-Some.ensures.lookup.3.0 c.in-Some.ensures.lookup.1 in
     subst (λ (m : State). IsEnabledByRule (geometry g.row.SETS g.row.WAYS) m (Core c.args.id) c.in-Some-glance.known) c.self.view_is
@@ -20,7 +20,7 @@ returns-in-Some-glance g c =
 
 pub returns-in-None-glance : goal.returns-in-None-glance
 returns-in-None-glance g c =
-    let here : State = record { program = c.self.inside.program; seats = c.self.inside.seats.items; directory = c.self.inside.directory; flights = c.self.inside.net.slots; sent = c.self.inside.net.next; stamps = c.self.inside.stamps } in
+    let here : State = record { program = c.self.inside.program; seats = c.self.inside.seats.items; directory = c.self.inside.directory; flights = c.self.inside.net.flights; sent = c.self.inside.net.next; stamps = c.self.inside.stamps } in
     let s : Seat = c.in-Some.seat.now in
     let at : slice_get here.seats c.args.id ≡ Some s = seat_here here c.deref.result.now c.index.result c.args.id s c.deref.ensures.value c.index.ensures.value c.in-Some.ensures.lookup.3.0 c.in-Some.ensures.lookup.1 in
     subst (λ (m : State). IsEnabledByRule (geometry g.row.SETS g.row.WAYS) m (Core c.args.id) c.has_step.result) c.self.view_is
@@ -30,6 +30,6 @@ returns-in-None-glance g c =
 
 pub returns-in-None : goal.returns-in-None
 returns-in-None g c =
-    let here : State = record { program = c.self.inside.program; seats = c.self.inside.seats.items; directory = c.self.inside.directory; flights = c.self.inside.net.slots; sent = c.self.inside.net.next; stamps = c.self.inside.stamps } in
+    let here : State = record { program = c.self.inside.program; seats = c.self.inside.seats.items; directory = c.self.inside.directory; flights = c.self.inside.net.flights; sent = c.self.inside.net.next; stamps = c.self.inside.stamps } in
     subst (λ (m : State). IsEnabledByRule (geometry g.row.SETS g.row.WAYS) m (Core c.args.id) false) c.self.view_is
     (no_core g.row.SETS g.row.WAYS c.args.id here c.self.invariant (none_here here c.deref.result.now c.index.result c.args.id c.deref.ensures.value c.index.ensures.value c.in-None.ensures.lookup.3))

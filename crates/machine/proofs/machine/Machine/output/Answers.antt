@@ -6,7 +6,7 @@ use Rattle.machine.proofs.machine.Machine.output.Goals as goal
 
 -- the machine, and the seat that is read
 abbrev here : (g : Over) (c : goal.After-deref g) → State
-here g c = record { program = c.self.inside.program; seats = c.self.inside.seats.items; directory = c.self.inside.directory; flights = c.self.inside.net.slots; sent = c.self.inside.net.next; stamps = c.self.inside.stamps }
+here g c = record { program = c.self.inside.program; seats = c.self.inside.seats.items; directory = c.self.inside.directory; flights = c.self.inside.net.flights; sent = c.self.inside.net.next; stamps = c.self.inside.stamps }
 
 abbrev seat : (g : Over) (c : goal.After-deref g) → Seat
 seat g c = record { hart = c.behind-self.inside.hart; output = c.behind-self.inside.output.items }

@@ -9,7 +9,7 @@ use Rattle.machine.proofs.machine.Machine.regs.Goals as goal
 
 -- the machine
 abbrev here : (g : Over) (c : goal.After-regs_in g) → State
-here g c = record { program = c.self.inside.program; seats = c.self.inside.seats.items; directory = c.self.inside.directory; flights = c.self.inside.net.slots; sent = c.self.inside.net.next; stamps = c.self.inside.stamps }
+here g c = record { program = c.self.inside.program; seats = c.self.inside.seats.items; directory = c.self.inside.directory; flights = c.self.inside.net.flights; sent = c.self.inside.net.next; stamps = c.self.inside.stamps }
 
 pub returns-clause-value : goal.returns-clause-value
 returns-clause-value g c =

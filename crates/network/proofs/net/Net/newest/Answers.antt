@@ -1,27 +1,23 @@
-use Rattle.std.proofs.Common.{◌≡◌, ◌<◌, ◌-◌, arith, subst, ap}
-use Rattle.std.specs.Prelude.{IfSome, IfNone}
-use Rattle.network.specs.Slots.{count_of}
-use Rattle.network.specs.Flights.{Flights, AreNumbered, IsNewest, HasNewestArrived}
-use Rattle.network.proofs.Order.{newest_here, newest_arrived}
+use Rattle.std.proofs.Common.{◌<◌, ◌-◌, arith, subst}
+use Rattle.network.specs.Flights.{Flights, IsNewest, HasNewestArrived}
+use Rattle.network.proofs.Sorted.{numbered}
+use Rattle.network.proofs.Newest.{newest_here, newest_arrived}
 use Rattle.network.proofs.net.Net.newest.Goals as goal
 
 -- nothing was sent
 pub returns-then-self-eq0-clause-none : goal.returns-then-self-eq0-clause-none
-returns-then-self-eq0-clause-none c = λ range key f at.
-    let next : c.self.inside.next ≡ c.args.self.now.next = ap (λ (v : Flights). v.next) c.self.view_is in
-    let below = subst (λ (v : Flights). AreNumbered v.slots v.next) c.self.view_is c.self.invariant.1 in
-    absurd (omega (arith, next, below key f at, c.if-self-eq0.true, range))
-
-pub returns-clause-some : goal.returns-clause-some
-returns-clause-some c =
+returns-then-self-eq0-clause-none c range =
     let net = c.self.inside in
-    let inner : Flights = record { slots = net.slots.items; next = net.next; room = net.slots.capacity - count_of net.slots } in
-    subst (λ (v : Flights). v.next < 18446744073709551615 → IfSome c.key_of.result (IsNewest v.slots v.next)) c.self.view_is
-    (λ range. newest_here inner net.first net.keys range c.self.invariant.1 c.self.invariant.2 (net.next - 1) (omega (arith, c.if-self-eq0.false)) c.key_of.result c.key_of.ensures.some)
+    subst (λ (v : Flights). HasNewestArrived v.flights v.next) c.self.view_is (λ number f at. absurd (omega (arith, numbered net.flights.slots net.next c.self.invariant.1.below number f at, c.if-self-eq0.true)))
 
-pub returns-clause-none : goal.returns-clause-none
-returns-clause-none c =
+pub returns-in-Some-clause-some : goal.returns-in-Some-clause-some
+returns-in-Some-clause-some c range =
     let net = c.self.inside in
-    let inner : Flights = record { slots = net.slots.items; next = net.next; room = net.slots.capacity - count_of net.slots } in
-    subst (λ (v : Flights). v.next < 18446744073709551615 → IfNone c.key_of.result (HasNewestArrived v.slots v.next)) c.self.view_is
-    (λ range. newest_arrived inner net.first net.keys range c.self.invariant.1 c.self.invariant.2 (net.next - 1) (omega (arith, c.if-self-eq0.false)) c.key_of.result c.key_of.ensures.none)
+    subst (λ (v : Flights). IsNewest v.flights v.next (net.next - 1)) c.self.view_is
+    (newest_here net.flights.slots net.next net.keys c.self.invariant.1 (net.next - 1) (omega (arith, c.if-self-eq0.false)) c.in-Some.field-0 c.in-Some.ensures.some)
+
+pub returns-in-None-clause-none : goal.returns-in-None-clause-none
+returns-in-None-clause-none c =
+    let net = c.self.inside in
+    subst (λ (v : Flights). v.next < 18446744073709551615 → HasNewestArrived v.flights v.next) c.self.view_is
+    (λ range. newest_arrived net.flights.slots net.next net.keys c.self.invariant.1 (net.next - 1) (omega (arith, c.if-self-eq0.false)) range c.in-None.ensures.none)

@@ -1,30 +1,49 @@
-use Rattle.std.proofs.Common.{◌≤◌, ℕ, Bool, false, arith, refl, ap, subst}
-use Rattle.std.specs.Option.{option_map}
+use Rattle.std.proofs.Common.{ℕ, Bool, false, arith, refl, sym, subst}
 use Rattle.words.specs.declared.entry.Step.TheVariants.{Deliver}
-use Rattle.protocol.specs.Messages.{shown as shown_message}
 use Rattle.machine.specs.States.{geometry}
 use Rattle.machine.specs.Watch.{IsEnabledByRule}
-use Rattle.schedule.proofs.Drawing.{draws_it, draws_on, draws_none, none_drawn}
-use Rattle.schedule.proofs.Resting.{nothing_under}
+use Rattle.network.proofs.Walks.{goes_on}
+use Rattle.schedule.proofs.Drawing.{Draws, draws_it, draws_none, draws_on, draws_past, none_drawn}
+use Rattle.schedule.proofs.Resting.{nothing_numbered}
+use Rattle.schedule.proofs.Walking.{over, walked_all, walked_to}
 use Rattle.schedule.proofs.chance.Chance.draw_arriving.Goals as goal
-use Rattle.schedule.proofs.chance.Chance.draw_arriving.Goals.{then-can_arrive+then-below-eq0, then-can_arrive+else-below-eq0, else-can_arrive}
+use Rattle.schedule.proofs.chance.Chance.draw_arriving.Goals.{then-is_enabled+then-below-eq0, then-is_enabled+else-below-eq0, else-is_enabled}
 
-pub loop-key-preserved : goal.loop-key-preserved
-loop-key-preserved g c =
-    let test : ℕ → Bool → Type 0 = λ key. IsEnabledByRule (geometry g.row.SETS g.row.WAYS) c.args.machine.now (Deliver key) in
-    let drawn = c.loop-key.drawn in
-    let arriving = c.loop-key.arriving in
-    let n = c.loop-key.key in
-    elim c.if-can_arrive.branch [
-      | then-can_arrive+then-below-eq0 w ↦ rw (w.drawn-is, w.arriving-is) (draws_it test drawn arriving n c.loop-key.invariant n refl (subst (test n) w.if-can_arrive.true c.can_arrive.ensures))
-      | then-can_arrive+else-below-eq0 w ↦ rw (w.drawn-is, w.arriving-is) (draws_on test drawn arriving n c.loop-key.invariant w.below.result (w.below.ensures (omega arith)) w.if-below-eq0.false)
-      | else-can_arrive w ↦ rw (w.drawn-is, w.arriving-is) (draws_none test drawn arriving n c.loop-key.invariant n refl (subst (test n) w.if-can_arrive.false c.can_arrive.ensures))
+-- no more can arrive than have lower numbers
+pub overflow_add-arriving : goal.overflow_add-arriving
+overflow_add-arriving g c =
+    let on = goes_on c.loop-flight.number c.args.machine.now.sent c.args.machine.now.flights c.in-Some.flight.now c.are_in_order.ensures.numbered (sym c.in-Some.ensures) in
+    omega (arith, on.0, on.1, c.loop-flight.invariant.few, c.sent-next.ensures)
+
+pub overflow_add-number : goal.overflow_add-number
+overflow_add-number g c =
+    let on = goes_on c.loop-flight.number c.args.machine.now.sent c.args.machine.now.flights c.in-Some.flight.now c.are_in_order.ensures.numbered (sym c.in-Some.ensures) in
+    omega (arith, on.1, c.sent-next.ensures)
+
+pub loop-flight-smaller : goal.loop-flight-smaller
+loop-flight-smaller g c =
+    let on = goes_on c.loop-flight.number c.args.machine.now.sent c.args.machine.now.flights c.in-Some.flight.now c.are_in_order.ensures.numbered (sym c.in-Some.ensures) in
+    omega (arith, on.0, on.1)
+
+pub loop-flight-preserved : goal.loop-flight-preserved
+loop-flight-preserved g c =
+    let v = c.args.machine.now in
+    let test : ℕ → Bool → Type 0 = λ number. IsEnabledByRule (geometry g.row.SETS g.row.WAYS) v (Deliver number) in
+    let drawn = c.loop-flight.drawn in
+    let arriving = c.loop-flight.arriving in
+    let n = c.in-Some.flight.now.number in
+    let on = goes_on c.loop-flight.number v.sent v.flights c.in-Some.flight.now c.are_in_order.ensures.numbered (sym c.in-Some.ensures) in
+    let before : Draws test drawn arriving n = draws_past test drawn arriving c.loop-flight.number c.loop-flight.invariant n on.0
+    (λ fails. walked_to (λ k. test k false) v.flights c.loop-flight.number (nothing_numbered g.row.SETS g.row.WAYS v) fails c.in-Some.flight.now c.are_in_order.ensures.order (sym c.in-Some.ensures)) in
+    elim c.if-is_enabled.branch [
+      | then-is_enabled+then-below-eq0 w ↦ rw (w.drawn-is, w.arriving-is) (draws_it test drawn arriving n before n refl (subst (test n) w.if-is_enabled.true c.is_enabled.ensures.rule))
+      | then-is_enabled+else-below-eq0 w ↦ rw (w.drawn-is, w.arriving-is) (draws_on test drawn arriving n before w.below.result (w.below.ensures (omega arith)) w.if-below-eq0.false)
+      | else-is_enabled w ↦ rw (w.drawn-is, w.arriving-is) (draws_none test drawn arriving n before n refl (subst (test n) w.if-is_enabled.false c.is_enabled.ensures.rule))
     ]
 
 pub returns-clause-none : goal.returns-clause-none
 returns-clause-none g c =
-    let test : ℕ → Bool → Type 0 = λ key. IsEnabledByRule (geometry g.row.SETS g.row.WAYS) c.args.machine.now (Deliver key) in
-    let n = c.loop-key.key in
-    let behind : (key : ℕ) → n ≤ key → test key false = λ key past.
-    nothing_under g.row.SETS g.row.WAYS key c.args.machine.now (ap (λ o. option_map shown_message (option_map (λ f. f.message) o)) (c.keys-key-end.ensures key (omega (arith, c.loop-key-test.false, past)))) in
-    none_drawn test c.loop-key.drawn c.loop-key.arriving n c.loop-key.invariant behind
+    let v = c.args.machine.now in
+    let test : ℕ → Bool → Type 0 = λ number. IsEnabledByRule (geometry g.row.SETS g.row.WAYS) v (Deliver number) in
+    none_drawn test c.loop-flight.drawn c.loop-flight.arriving c.loop-flight.number c.loop-flight.invariant
+    (λ fails. walked_all (λ k. test k false) v.flights c.loop-flight.number (nothing_numbered g.row.SETS g.row.WAYS v) fails (over c.loop-flight.number v.flights c.next_from.result c.next_from.ensures c.in_default.not-Some))
