@@ -23,6 +23,7 @@ use Rattle.flat.proofs.Entries.{retired_by, aborted_by, hart_back, others_stay}
 use Rattle.flat.proofs.Runs.{run_more}
 use Rattle.flat.proofs.Apart.{not_both}
 use Rattle.isolation.specs.Moves.{is_access, IsAtAccess, Place, first_place, depths}
+use Rattle.isolation.specs.Footprints.{Footprints, footprints_of}
 use Rattle.isolation.specs.Reasons.{HasReason, HaveReasons}
 use Rattle.isolation.proofs.Pasts.{Agrees, none_agrees, agree_next, not_refused, retired_past, spilled}
 use Rattle.isolation.proofs.Waits.{Reaches, place, Waits, IsOwn, IsDue, own_moves, reach_more, gives_way, waits_on}
@@ -174,15 +175,15 @@ follows_conflict start f g h r i v refused k =
 
 -- All entries
 
-follows_next : (start : Place) (f g : Flat) (h : History) (r : Reservations) (e : Entry) → Follows start f h r → HasReason f h r e → Carries f e g → Follows start g (told h e) (reserved_after (depths_told h) e r)
-follows_next start f g h r (Retire i pc w x l s) v reason k = follows_own start f g h r (Retire i pc w x l s) tt reason v k
-follows_next start f g h r (Abort i Asked) v reason k = follows_own start f g h r (Abort i Asked) tt tt v k
-follows_next start f g h r (Abort i Conflict) v reason k = follows_conflict start f g h r i v reason.1 k
-follows_next start f g h r (Abort i LogFull) v reason k = follows_own start f g h r (Abort i LogFull) tt tt v k
-follows_next start f g h r (Abort i (Trapped c p)) v reason k = follows_own start f g h r (Abort i (Trapped c p)) tt tt v k
-follows_next start f g h r (Trap i c p) v reason k = follows_own start f g h r (Trap i c p) tt tt v k
-follows_next start f g h r (Refuse j i b) v reason k = follows_refusal start f g h r j i b v reason k
-follows_next start f g h r (Spill i b) v reason k = follows_spill start f g h r i b v k
+follows_next : (start : Place) (f g : Flat) (h : History) (r : Reservations) (u : Footprints) (e : Entry) → Follows start f h r → HasReason f h r u e → Carries f e g → Follows start g (told h e) (reserved_after (depths_told h) e r)
+follows_next start f g h r u (Retire i pc w x l s) v reason k = follows_own start f g h r (Retire i pc w x l s) tt reason v k
+follows_next start f g h r u (Abort i Asked) v reason k = follows_own start f g h r (Abort i Asked) tt tt v k
+follows_next start f g h r u (Abort i Conflict) v reason k = follows_conflict start f g h r i v reason.1 k
+follows_next start f g h r u (Abort i LogFull) v reason k = follows_own start f g h r (Abort i LogFull) tt tt v k
+follows_next start f g h r u (Abort i (Trapped c p)) v reason k = follows_own start f g h r (Abort i (Trapped c p)) tt tt v k
+follows_next start f g h r u (Trap i c p) v reason k = follows_own start f g h r (Trap i c p) tt tt v k
+follows_next start f g h r u (Refuse j i b) v reason k = follows_refusal start f g h r j i b v reason k
+follows_next start f g h r u (Spill i b) v reason k = follows_spill start f g h r i b v k
 
 history_more : (h : History) (es : List Entry) (e : Entry) → history_of h (es ++ e ∷ []) ≡ told (history_of h es) e
 history_more h [] e = refl
@@ -198,7 +199,7 @@ follows_all first f g done [] reasons run v k =
     subst (λ z. Reaches (place first no_reservations) (place z (reservations_of (done ++ [])))) (sym k)
     (subst (λ z. Reaches (place first no_reservations) (place f (reservations_of z))) (sym (append-nil done)) v.walk)
 follows_all first f g done (e ∷ rest) reasons run v k =
-    let next = follows_next (place first no_reservations) f k.0 (history_of no_history done) (reservations_of done) e v (reasons done rest e f refl run) k.1 in
+    let next = follows_next (place first no_reservations) f k.0 (history_of no_history done) (reservations_of done) (footprints_of done) e v (reasons done rest e f refl run) k.1 in
     subst (λ z. Reaches (place first no_reservations) (place g (reservations_of z))) (append_assoc done (e ∷ []) rest)
     (follows_all first k.0 g (done ++ e ∷ []) rest
     (subst (HaveReasons first) (sym (append_assoc done (e ∷ []) rest)) reasons)

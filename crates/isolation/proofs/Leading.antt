@@ -7,15 +7,13 @@ use Rattle.table.specs.Program.{AreBytes}
 use Rattle.flat.specs.State.{Setting, Flat}
 use Rattle.flat.specs.Start.{first_state}
 use Rattle.flat.specs.Steps.{IsRun}
-use Rattle.flat.specs.Reasons.{no_history, history_of}
-use Rattle.flat.specs.Reservations.{reservations_of}
 use Rattle.flat.proofs.Runs.{run_then, run_setting}
 use Rattle.protocol.specs.Caches.{Geometry}
 use Rattle.protocol.specs.Machine.{Machine, Steps, Runs}
 use Rattle.protocol.specs.Start.{start}
 use Rattle.protocol.proofs.Splits.{runs_then}
 use Rattle.isolation.specs.Belongs.{Belongs, BelongsAfter}
-use Rattle.isolation.specs.Reasons.{HasReason, HaveReasonsAfter, LeadOn}
+use Rattle.isolation.specs.Reasons.{HasReasonAfter, HaveReasonsAfter, LeadOn}
 use Rattle.isolation.proofs.Belongs.Belonging.{inv_of, belongs_later}
 use Rattle.isolation.proofs.Reached.{reason_among}
 
@@ -54,7 +52,7 @@ module _ (g : Geometry) (v w : Machine) (steps : List Step) (es : List Entry) (r
   reasons : HaveReasonsAfter past f es
   reasons before after e h split run =
       let all : b.entries ++ es ≡ (b.entries ++ before) ++ e ∷ after = ap (λ z. b.entries ++ z) split ∙ sym (append_assoc b.entries before (e ∷ after)) in
-      subst (λ z. HasReason h (history_of no_history (z ++ before)) (reservations_of (z ++ before)) e) is
+      subst (λ z. HasReasonAfter (z ++ before) h e) is
       (reason_among g b.setting b.entry (b.steps ++ steps) w (b.entries ++ before) after e h b.bytes
       (subst (λ z. Runs g (start b.setting b.entry) (b.steps ++ steps) z w) all whole)
       (run_then (first_state b.setting b.entry) f h b.entries before b.flat_run run))

@@ -22,4 +22,7 @@ pub mod Reached
 pub mod Leading
 pub mod Reserving
 pub mod Reserved
+pub mod Losing
+pub mod Lost
+pub mod Footprints
 pub mod Sparing

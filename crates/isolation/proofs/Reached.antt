@@ -1,15 +1,14 @@
 -- An end of the coherent machine is the end of a walk in order.
 use Rattle.std.proofs.Common.{◌≡◌, ◌≢◌, ◌<◌, ℕ, List, ◌∷◌, ◌++◌, ◌∙◌, subst}
 use Rattle.words.specs.declared.cause.Status.TheVariants.{Running}
-use Rattle.words.specs.declared.cause.AbortCause.TheVariants.{Conflict}
+use Rattle.words.specs.declared.cause.AbortCause.TheVariants.{Conflict, LogFull}
 use Rattle.words.specs.declared.entry.Entry.{Entry}
-use Rattle.words.specs.declared.entry.Entry.TheVariants.{Retire, Abort, Refuse}
+use Rattle.words.specs.declared.entry.Entry.TheVariants.{Retire, Abort, Refuse, Spill}
 use Rattle.words.specs.declared.entry.Step.{Step}
 use Rattle.table.specs.Program.{AreBytes}
 use Rattle.flat.specs.State.{Setting, Flat}
 use Rattle.flat.specs.Start.{first_state}
 use Rattle.flat.specs.Steps.{IsRun}
-use Rattle.flat.specs.Reasons.{no_history, history_of}
 use Rattle.flat.proofs.Runs.{run_setting}
 use Rattle.protocol.specs.Caches.{Geometry}
 use Rattle.protocol.specs.Machine.{Machine, Runs}
@@ -19,17 +18,20 @@ use Rattle.isolation.proofs.Belongs.Belonging.{belongs_after, answers_after, ref
 use Rattle.isolation.proofs.Rooms.StepsExist.{keys_of}
 use Rattle.isolation.specs.Moves.{first_place}
 use Rattle.isolation.specs.Walks.{IsEnded, WalksInOrder}
-use Rattle.isolation.specs.Reasons.{HasReason, HaveReasons}
+use Rattle.isolation.specs.Reasons.{HasReasonAfter, HaveReasons}
 use Rattle.flat.specs.Reservations.{reservations_of}
 use Rattle.isolation.proofs.Reserved.{store_among}
+use Rattle.isolation.proofs.Footprints.Reasoned.{spill_among, full_log_among}
 use Rattle.isolation.proofs.InOrder.{in_order}
 use Rattle.isolation.proofs.Beside.{walk_there}
 
 -- each entry of the coherent machine's has its reason
 pub reason_among : (g : Geometry) (s : Setting) (entry : ℕ) (steps : List Step) (w : Machine) (before after : List Entry) (e : Entry) (f : Flat)
-    → AreBytes s.segments → Runs g (start s entry) steps (before ++ e ∷ after) w → IsRun (first_state s entry) before f → HasReason f (history_of no_history before) (reservations_of before) e
+    → AreBytes s.segments → Runs g (start s entry) steps (before ++ e ∷ after) w → IsRun (first_state s entry) before f → HasReasonAfter before f e
 reason_among g s entry steps w before after (Refuse j i b) f bytes runs run = refusal_among g s entry steps before after f w j i b bytes runs run
 reason_among g s entry steps w before after (Abort i Conflict) f bytes runs run = conflict_among g s entry steps before after w i bytes runs
+reason_among g s entry steps w before after (Spill i b) f bytes runs run = spill_among g s entry bytes steps before after f w i b runs run
+reason_among g s entry steps w before after (Abort i LogFull) f bytes runs run = full_log_among g s entry bytes steps before after f w i runs run
 reason_among g s entry steps w before after (Retire i pc word write load store) f bytes runs run = store_among g s entry bytes steps before after w i pc word write load store runs
 reason_among g s entry steps w before after e f bytes runs run = tt
 

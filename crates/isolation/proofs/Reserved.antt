@@ -1,5 +1,5 @@
 -- Each hart's reservation is one that the entries know of, after each step; and each conditional store that succeeds has its reason.
-use Rattle.std.proofs.Common.{append-nil, append_assoc, ◌≡◌, ◌≢◌, ◌<◌, ◌++◌, ◌∙◌, ◌/◌, ◌==◌, ℕ, Bool, true, false, List, [], ◌∷◌, Option, None, Some, cond, nat_lt, refl, sym, ap, subst, arith}
+use Rattle.std.proofs.Common.{append-nil, append_assoc, ◌≡◌, ◌≢◌, ◌<◌, ◌++◌, ◌∙◌, ◌==◌, ℕ, Bool, true, false, List, [], ◌∷◌, Option, None, Some, cond, nat_lt, refl, sym, ap, subst, arith}
 use Rattle.std.specs.Prelude.{option_to_list, IsSome}
 use Rattle.std.proofs.lemmas.Bool.{ltb-true}
 use Rattle.std.proofs.lemmas.Bool.Decides.{nat_tests}
@@ -10,16 +10,14 @@ use Rattle.words.specs.declared.entry.Step.{Step}
 use Rattle.words.specs.declared.entry.Step.TheVariants.{Core, Evict, Deliver}
 use Rattle.table.specs.Program.{AreBytes}
 use Rattle.table.specs.Table.{decoded}
-use Rattle.flat.specs.State.{Setting, Flat}
-use Rattle.flat.specs.Start.{first_state}
-use Rattle.flat.specs.Steps.{IsRun}
+use Rattle.flat.specs.State.{Setting}
 use Rattle.flat.specs.Bytes.{put_at}
-use Rattle.flat.specs.Reasons.{History, Past, no_history, told, history_of}
+use Rattle.flat.specs.Reasons.{History, no_history, told, history_of}
 use Rattle.flat.specs.Reservation.{without_block}
 use Rattle.flat.specs.Reservations.{Reservations, no_reservations, block_of, reserved_by, reserved_beside, reserved_after, depths_told, reservations_from, reservations_of, StoreHasReason}
 use Rattle.flat.proofs.Maps.{one_number, two_numbers, put_there, put_elsewhere}
 use Rattle.protocol.specs.Messages.{Message, block_of as block_about, receiver_of}
-use Rattle.protocol.specs.Hart.{Hart, Transaction, HartResult}
+use Rattle.protocol.specs.Hart.{Hart, HartResult}
 use Rattle.protocol.specs.Lines.{Line}
 use Rattle.protocol.specs.Caches.{Geometry}
 use Rattle.protocol.specs.Core.{core_row}
@@ -39,7 +37,7 @@ use Rattle.isolation.proofs.Consequences.ValueInPlace.{in_place_is}
 use Rattle.isolation.proofs.Consequences.LineLaws.{lines_agree}
 use Rattle.isolation.proofs.Belongs.Belonging.{world, inv_after, belongs_after}
 use Rattle.isolation.proofs.Rooms.StepsExist.{keys_of}
-use Rattle.isolation.proofs.Reserving.{own_after, Holds, IsOwning, StoresWell, TellsWell, Keeps, core_keeps, evict_keeps, message_keeps}
+use Rattle.isolation.proofs.Reserving.{own_after, Holds, StoresWell, TellsWell, Keeps, core_keeps, evict_keeps, message_keeps}
 
 -- each hart's reservation is known, and its block has a line
 abbrev pub AllHold : Machine → Reservations → Type 0
@@ -178,7 +176,7 @@ module _ (x : World) (inv : Inv x) (r : Reservations) (keys : ℕ) (agree : Line
 
 -- Runs
 
-more_told : (h : History) (r : Reservations) (es : List Entry) (e : Option Entry) → reservations_from h r (es ++ option_to_list e) ≡ reserved_some (history_of h es) e (reservations_from h r es)
+pub more_told : (h : History) (r : Reservations) (es : List Entry) (e : Option Entry) → reservations_from h r (es ++ option_to_list e) ≡ reserved_some (history_of h es) e (reservations_from h r es)
 more_told h r [] None = refl
 more_told h r [] (Some e) = refl
 more_told h r (d ∷ es) e = more_told (told h d) (reserved_after (depths_told h) d r) es e

@@ -4,5 +4,7 @@ pub mod Facts
 pub mod Memory
 pub mod Moves
 pub mod Walks
+pub mod Footprints
 pub mod Reasons
 pub mod Earliest
+pub mod FailedStores

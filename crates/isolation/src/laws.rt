@@ -1,12 +1,13 @@
-ghost use Rattle.std.specs.Prelude.{◌≡◌, ◌<◌, ◌++◌, ◌∷◌, ℕ, List, [], Option, Some, None, IsSome, option_to_list};
+ghost use Rattle.std.specs.Prelude.{◌≡◌, ◌<◌, ◌++◌, ◌∷◌, ℕ, List, [], Option, Some, None, IsSome, IsOkAnd, option_to_list};
 ghost use Rattle.words.specs.declared.entry.Entry.{Entry};
-ghost use Rattle.words.specs.declared.entry.Entry.TheVariants.{Retire, Abort, Refuse};
+ghost use Rattle.words.specs.declared.entry.Entry.TheVariants.{Retire, Abort, Refuse, Spill};
 ghost use Rattle.words.specs.declared.entry.Access.{Access};
 ghost use Rattle.words.specs.declared.entry.Step.{Step};
-ghost use Rattle.words.specs.declared.cause.AbortCause.TheVariants.{Conflict};
+ghost use Rattle.words.specs.declared.cause.AbortCause.TheVariants.{Conflict, LogFull};
 ghost use Rattle.table.specs.declared.effect.Effect.{Effect};
 ghost use Rattle.flat.specs.State.{Setting, Flat};
 ghost use Rattle.flat.specs.Start.{first_state};
+ghost use Rattle.flat.specs.Causes.{next_of};
 ghost use Rattle.flat.specs.Steps.{CarriesSome, IsRun};
 ghost use Rattle.flat.specs.Reasons.{no_history, history_of, RefusalHasReason, ConflictHasReason};
 ghost use Rattle.flat.specs.Reservations.{reservations_of, StoreHasReason};
@@ -16,7 +17,9 @@ ghost use Rattle.protocol.specs.Network.{LiesBelow};
 ghost use Rattle.protocol.specs.Start.{start};
 ghost use Rattle.table.specs.Program.{AreBytes};
 ghost use Rattle.isolation.specs.Belongs.{Belongs, BelongsAfter};
-ghost use Rattle.isolation.specs.Reasons.{LeadOn};
+ghost use Rattle.isolation.specs.Footprints.{footprints_of};
+ghost use Rattle.isolation.specs.FailedStores.{StoresIfReserved, FailureHasReason};
+ghost use Rattle.isolation.specs.Reasons.{LeadOn, SpillHasReason, FullLogHasReason};
 ghost use Rattle.isolation.specs.Answers.{AnswersAs, IsRow};
 
 /// Isolation: for every program, number of harts and size of memory, and for every list of core, eviction and delivery steps, the
@@ -50,7 +53,7 @@ pub fn retirements_are_rows()
 {}
 
 /// Each entry is led to by those before it: what a step gives, and what steps give from any machine, carries each flat state that belongs to the machine on to
-/// one that belongs to the machine behind it, and has its reasons behind the entries that have led there.
+/// one that belongs to the machine after it, and has its reasons after the entries that have led there.
 pub fn entries_lead_on_with_reasons()
     ensures start { (g : Geometry) (s : Setting) (entry : ℕ) → AreBytes s.segments → BelongsAfter g [] (first_state s entry) (start s entry) }
     ensures step { (g : Geometry) (v w : Machine) (s : Step) (e : Option Entry) → Steps g v s e w → LeadOn g v (option_to_list e) w }
@@ -79,6 +82,19 @@ pub fn conditional_stores_have_reasons()
         Steps g v next (Some (Retire i pc word write load store)) w → StoreHasReason (reservations_of es) i word store }
 {}
 
+/// A conditional store (SC) that fails has its reason: its block isn't reserved, by the entries before; or in a step since the hart's last LR its line was taken, by an
+/// eviction or by the request of another hart that wanted to store. Only the steps show which, since no entry tells of an unmarked line that is given up. So it is of
+/// each among the entries of a run, at the machine to which the steps before it have led, and of one that the next step gives.
+pub fn failed_stores_have_reasons()
+    ensures each { (g : Geometry) (s : Setting) (entry : ℕ) (steps : List Step) (before after : List Entry) (f : Flat) (w : Machine) (i pc word : ℕ) (write : Option (ℕ × ℕ)) (load : Option Access) (b : ℕ) →
+        AreBytes s.segments → Runs g (start s entry) steps (before ++ Retire i pc word write load None ∷ after) w → IsRun (first_state s entry) before f →
+        IsOkAnd (next_of f.setting (f.hart i)) (λ e. StoresIfReserved b e.act) →
+        (earlier : List Step) × (later : List Step) × (v : Machine) × (steps ≡ earlier ++ later) × Runs g (start s entry) earlier before v × FailureHasReason g (start s entry) earlier before v i b }
+    ensures next { (g : Geometry) (s : Setting) (entry : ℕ) (steps : List Step) (es : List Entry) (f : Flat) (v w : Machine) (next : Step) (i pc word : ℕ) (write : Option (ℕ × ℕ)) (load : Option Access) (b : ℕ) →
+        AreBytes s.segments → Runs g (start s entry) steps es v → IsRun (first_state s entry) es f → Steps g v next (Some (Retire i pc word write load None)) w →
+        IsOkAnd (next_of f.setting (f.hart i)) (λ e. StoresIfReserved b e.act) → FailureHasReason g (start s entry) steps es v i b }
+{}
+
 /// A hart's reservation is one that the entries so far know of, and its block has a line.
 pub fn reservations_are_known()
     ensures { (g : Geometry) (s : Setting) (entry : ℕ) (steps : List Step) (es : List Entry) (w : Machine) (i b : ℕ) →
@@ -94,4 +110,26 @@ pub fn conflicts_have_reasons()
     ensures next { (g : Geometry) (s : Setting) (entry : ℕ) (steps : List Step) (es : List Entry) (v w : Machine) (next : Step) (i : ℕ) →
         AreBytes s.segments → Runs g (start s entry) steps es v →
         Steps g v next (Some (Abort i Conflict)) w → ConflictHasReason (history_of no_history es) i }
+{}
+
+/// Each Spill has its reason: its hart is in a transaction that has loaded from or stored to the block; or that has given a Spill before, so that its lines are marked
+/// as they are filled, and the word at its pc accesses the block. So it is of each among the entries of a run, and of one that the next step gives.
+pub fn spills_have_reasons()
+    ensures each { (g : Geometry) (s : Setting) (entry : ℕ) (steps : List Step) (before after : List Entry) (f : Flat) (w : Machine) (i b : ℕ) →
+        AreBytes s.segments → Runs g (start s entry) steps (before ++ Spill i b ∷ after) w → IsRun (first_state s entry) before f →
+        SpillHasReason f (history_of no_history before) (footprints_of before) i b }
+    ensures next { (g : Geometry) (s : Setting) (entry : ℕ) (steps : List Step) (es : List Entry) (f : Flat) (v w : Machine) (next : Step) (i b : ℕ) →
+        AreBytes s.segments → Runs g (start s entry) steps es v → IsRun (first_state s entry) es f →
+        Steps g v next (Some (Spill i b)) w → SpillHasReason f (history_of no_history es) (footprints_of es) i b }
+{}
+
+/// A transaction that aborts for a full log has made 113 stores since its begin that were each the first to their block, or the first since the block's last Spill;
+/// and the word at its pc is one more such store. So it is of each such abort among the entries of a run, and of one that the next step gives.
+pub fn full_logs_have_reasons()
+    ensures each { (g : Geometry) (s : Setting) (entry : ℕ) (steps : List Step) (before after : List Entry) (f : Flat) (w : Machine) (i : ℕ) →
+        AreBytes s.segments → Runs g (start s entry) steps (before ++ Abort i LogFull ∷ after) w → IsRun (first_state s entry) before f →
+        FullLogHasReason f (footprints_of before) i }
+    ensures next { (g : Geometry) (s : Setting) (entry : ℕ) (steps : List Step) (es : List Entry) (f : Flat) (v w : Machine) (next : Step) (i : ℕ) →
+        AreBytes s.segments → Runs g (start s entry) steps es v → IsRun (first_state s entry) es f →
+        Steps g v next (Some (Abort i LogFull)) w → FullLogHasReason f (footprints_of es) i }
 {}
