@@ -1,6 +1,8 @@
 pub mod Mail
 pub mod Sorts
 pub mod States
+pub mod Seats
+pub mod Lends
 pub mod Making
 pub mod Twins
 pub mod Rows

@@ -1,5 +1,5 @@
 -- A step of the machine: one of the protocol, in which the cache's rules say which line makes way and where lines stand, the bytes of undo logs change by their records, each message
--- that is sent has the next number, and stands behind those that were sent before, and the directory keeps just the entries in use.
+-- that is sent has the next number, and stands after those that were sent before, and the directory keeps just the entries in use.
 use Rattle.std.specs.Prelude.{ℕ, ◌≡◌, Option, Some, None, slice_get}
 use Rattle.std.specs.Option.{option_and_then}
 use Rattle.words.specs.declared.entry.Entry.{Entry}

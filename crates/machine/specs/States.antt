@@ -1,5 +1,5 @@
 -- What contracts see of the machine, and the protocol's machine that it is.
-use Rattle.std.specs.Prelude.{ℕ, ◌≡◌, ◌<◌, ◌*◌, ◌-◌, ◌+◌, ◌^◌, List, length, replicate, Option, Some, slice_get}
+use Rattle.std.specs.Prelude.{ℕ, ◌≡◌, ◌<◌, ◌*◌, ◌-◌, ◌+◌, ◌^◌, List, length, replicate, Some, slice_get}
 use Rattle.std.specs.Option.{option_map_or}
 use Rattle.std.specs.List.{slice_index_or}
 use Rattle.words.specs.Limits.{block_bytes, block_words, log_bytes}

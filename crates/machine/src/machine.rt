@@ -1,5 +1,5 @@
 use crate::loaded::Loaded;
-use crate::seat::Seat;
+use crate::seating::Seats;
 use directory::Directory;
 use network::Net;
 use std::marker::Model;
@@ -8,7 +8,7 @@ use std::marker::Model;
 #[derive(Drop)]
 pub struct Machine<const SETS: usize, const WAYS: usize> {
     pub(crate) program: Loaded,
-    pub(crate) seats: Vec<Seat<SETS, WAYS>>,
+    pub(crate) seats: Seats<SETS, WAYS>,
     pub(crate) directory: Directory,
     pub(crate) net: Net,
     pub(crate) stamps: u64,

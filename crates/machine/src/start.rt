@@ -14,6 +14,7 @@ ghost use Rattle.machine.specs.Unused.{IsUnused};
 use crate::loaded::Loaded;
 use crate::machine::Machine;
 use crate::seat::{HOST_LINE, Seat};
+use crate::seating::Seats;
 use directory::Directory;
 use flat::BootFault;
 use hart::Hart;
@@ -88,21 +89,21 @@ impl<const SETS: usize, const WAYS: usize> Machine<SETS, WAYS> {
         harts: usize,
         size: usize,
         entry: Addr,
-    ) -> Result<Vec<Seat<SETS, WAYS>>, AllocError>
+    ) -> Result<Seats<SETS, WAYS>, AllocError>
         requires sets { 0 < SETS }
         requires ways { 0 < WAYS }
         requires lines { SETS * WAYS < 2 ^ 32 }
         requires few { harts ≤ most_harts }
         requires size { size < 2 ^ 32 }
-        ensures count { IfOk result (λ v. vec_len v ≡ harts) }
+        ensures count { IfOk result (λ v. length v.items ≡ harts) }
         ensures harts { IfOk result (λ v. (s : Setting) (j : ℕ) → s.size ≡ size → s.count ≡ harts → hart_at SETS v.items j ≡ (start s entry).harts j) }
         ensures seated { IfOk result (λ v. (s : Setting) (j : ℕ) (x : SeatValue) → s.size ≡ size → s.count ≡ harts → slice_get v.items j ≡ Some x → IsSeated s j x.hart) }
         ensures caches { IfOk result (λ v. (j : ℕ) (x : SeatValue) → slice_get v.items j ≡ Some x → x.hart.cache ≡ replicate SETS (replicate WAYS None)) }
         ensures logs { IfOk result (λ v. (j : ℕ) (x : SeatValue) → slice_get v.items j ≡ Some x → x.hart.tx.log ≡ empty_log (size - log_bytes * (j + 1))) }
     {
-        let mut seats = Vec::with_capacity(alloc, harts)?;
+        let mut seats = Seats::new(alloc)?;
         for i in 0..harts {
-            seats.push(Seat::first(alloc, i, harts, size, entry))?;
+            seats.push(Seat::first(alloc, i, harts, size, entry));
         }
         Ok(seats)
     }

@@ -27,7 +27,7 @@ made g c = record { program = c.in_ok-program.program; seats = c.in_ok-seats.sea
 is_first : (g : Over) (c : goal.After-new-3 g) → Begins g.row.SETS c.args.program c.args.harts c.args.size (made g c)
 is_first g c = record {
   program = c.in_ok-program.ensures;
-  count = sym c.in_ok-seats.seats.ok.0 ∙ c.in_ok-seats.ensures.count;
+  count = c.in_ok-seats.ensures.count;
   harts = λ set j size count. c.in_ok-seats.ensures.harts set j size count ∙ ap (λ e. (start set e).harts j) c.entry.ensures.value;
   blocks = ap (λ n. block_bytes * n) (ap length c.new-2.ensures.memory ∙ sym c.in_ok-memory.memory.ok.0 ∙ c.in_ok-memory.ensures.count) ∙ whole_blocks c.args.program.segments c.args.harts c.args.size c.requires.bootable;
   words = λ b.
@@ -49,7 +49,7 @@ pub invariant_of-result : goal.invariant_of-result
 invariant_of-result g c = record {
   some_way = c.requires.ways;
   fits = c.requires.lines;
-  count = sym c.in_ok-seats.seats.ok.0 ∙ c.in_ok-seats.ensures.count ∙ sym c.new-2.ensures.harts;
+  count = c.in_ok-seats.ensures.count ∙ sym c.new-2.ensures.harts;
   seats = λ j x at.
       let b : Begins g.row.SETS c.args.program c.args.harts c.args.size (made g c) = is_first g c in
       c.in_ok-seats.ensures.seated (setting_of (made g c)) j x b.blocks b.count at;

@@ -16,8 +16,8 @@ loop-i-preserved g c =
     let x : Seat = c.first.result in
     let one : IsFirst g.row.SETS g.row.WAYS c.args.size c.args.harts c.args.entry (length before) x =
     subst (λ n. IsFirst g.row.SETS g.row.WAYS c.args.size c.args.harts c.args.entry n x) (sym c.loop-i.invariant.0) (record { hart = c.first.ensures.start; seated = c.first.ensures.seated; cache = c.first.ensures.cache; log = c.first.ensures.log }) in (
-      ap length c.in_ok-push.ensures.items ∙ length-append before (x ∷ []) ∙ ap (λ n. n + 1) c.loop-i.invariant.0,
-      subst (AreFirst g.row.SETS g.row.WAYS c.args.size c.args.harts c.args.entry) (sym c.in_ok-push.ensures.items) (first_more g.row.SETS g.row.WAYS c.args.size c.args.harts c.args.entry before x c.loop-i.invariant.1 one),
+      ap length c.push.ensures.items ∙ length-append before (x ∷ []) ∙ ap (λ n. n + 1) c.loop-i.invariant.0,
+      subst (AreFirst g.row.SETS g.row.WAYS c.args.size c.args.harts c.args.entry) (sym c.push.ensures.items) (first_more g.row.SETS g.row.WAYS c.args.size c.args.harts c.args.entry before x c.loop-i.invariant.1 one),
     )
 
 -- all harts stand
@@ -25,7 +25,7 @@ many : (g : Over) (c : goal.After-loop-i g) → length c.loop-i.seats.items ≡ 
 many g c = omega (arith, c.loop-i-test.false, c.loop-i.auto.i-end, c.loop-i.invariant.0)
 
 pub returns-clause-count : goal.returns-clause-count
-returns-clause-count g c = c.loop-i.seats.ok.0 ∙ many g c
+returns-clause-count g c = many g c
 
 pub returns-clause-harts : goal.returns-clause-harts
 returns-clause-harts g c = λ s j size count. harts_first g.row.SETS g.row.WAYS c.args.size c.args.harts c.args.entry c.loop-i.seats.items s j c.loop-i.invariant.1 (many g c) size count

@@ -1,4 +1,4 @@
-use Rattle.std.proofs.Common.{length, sym, ◌∙◌}
+use Rattle.std.proofs.Common.{sym, ◌∙◌}
 use Rattle.protocol.specs.Values.{in_place}
 use Rattle.machine.specs.States.{shown, geometry, setting_of}
 use Rattle.network.proofs.OneOrder.{past}

@@ -96,8 +96,8 @@ answers g c = is_asked g.row.SETS g.row.WAYS (asked g c) c.self.inside.directory
 pub all_of : (n : ℕ) (xs rest : List Seat) → length xs ≡ n → take n (xs ++ rest) ≡ xs
 all_of n xs rest long = subst (λ k. take k (xs ++ rest) ≡ xs) long (take-append_seam xs rest)
 
-all : (g : Over) (c : After-pass g) → take c.self.inside.seats.len (c.ask.new.seats ++ drop (length c.ask.new.seats) c.self.inside.seats.items) ≡ c.ask.new.seats
-all g c = all_of c.self.inside.seats.len c.ask.new.seats (drop (length c.ask.new.seats) c.self.inside.seats.items) (c.ask.auto.seats ∙ c.deref_mut.ensures.len)
+all : (g : Over) (c : After-pass g) → take (length c.self.inside.seats.items) (c.ask.new.seats ++ drop (length c.ask.new.seats) c.self.inside.seats.items) ≡ c.ask.new.seats
+all g c = all_of (length c.self.inside.seats.items) c.ask.new.seats (drop (length c.ask.new.seats) c.self.inside.seats.items) (c.ask.auto.seats ∙ c.deref_mut.ensures.len)
 
 abbrev last : (g : Over) (c : After-pass g) → State
 last g c = record (first g c) { seats = c.ask.new.seats; directory = c.end-ended.new.directory; flights = c.pass.new.self.flights; sent = c.pass.new.self.next }
