@@ -1,26 +1,23 @@
 -- Where clap takes the words, they ask for a subcommand, and give it each argument that it has to have.
-use Rattle.std.proofs.Common.{◌≡◌, ◌≢◌, ◌∙◌, ◌&&◌, ⊎_elim, inl, inr, Bool, true, false, not, refl, sym, ap, true≢false, IfSome, cond, List, [], ◌∷◌, Option, Some, None, Result, Ok, Err, MatchResult, codes, is_some, option_map, unwrap_or}
+use Rattle.std.proofs.Common.{◌≡◌, ◌∙◌, ◌&&◌, ⊎_elim, inl, inr, Bool, true, false, not, refl, sym, ap, subst, true≢false, IfSome, cond, List, [], ◌∷◌, Option, Some, None, Result, Ok, Err, MatchResult, codes, is_some, option_map, unwrap_or}
 use Rattle.std.specs.List.{find, slice_index_or}
 use Rattle.std.specs.Box.{box_value}
 use Rattle.std.specs.Prelude.{Box}
 use Rattle.clap.specs.Words.{App, HasMatchesOf, Row, Shape, Text, built, fault_of, found_of, is_simple, kind_of, rows_of, subcommand_name_of, subcommand_of}
-use Rattle.clap.specs.Words.{subcommand_rows, subcommand_rows_of, IsAmong, HasKind}
+use Rattle.clap.specs.Words.{subcommand_rows, subcommand_rows_of, HasKind}
 use Rattle.clap.specs.declared.error.Error.{Error}
-use Rattle.clap.specs.declared.error.kind.ErrorKind.{ErrorKind}
 use Rattle.clap.specs.declared.error.kind.ErrorKind.TheVariants.{OutOfMemory}
 use Rattle.clap.specs.declared.parser.matches.ArgMatches.{ArgMatches}
 use Rattle.clap.specs.declared.parser.matches.ArgMatches.TheViews.{out-ArgMatches, out-SubCommand}
 use Rattle.clap.specs.declared.parser.matches.SubCommand.{SubCommand}
 use Rattle.clap.specs.Faults.{entered_fault, is_simple_and_free, level_fault}
-use Rattle.clap.specs.Kinds.{Kinds}
 use Rattle.clap.specs.Simple.{argument_words, entered, label_of, names_of, rows_at}
 use Rattle.clap.specs.Walk.{answers_to, finished, nothing_held, rows_after, stop_after, walk}
 use Rattle.command_line.specs.Command.{asm, debug, dis, logtm, outcomes, run}
-use Rattle.command_line.specs.Reading.{AsksFor, IsComplete, IsFaultOf, IsReadingFault, IsReadingOf, IsRefusal, IsRequestOf}
+use Rattle.command_line.specs.Reading.{AsksFor, IsComplete, IsFaultOf, IsReadingFault, IsReadingOf, IsToldBy, IsRequestOf}
 use Rattle.command_line.specs.declared.fault.OrderFault.{OrderFault}
-use Rattle.command_line.specs.declared.fault.OrderFault.TheVariants.{NoMemory, Refused, ThreadsAlone, MixAlone, TwoFiles, TwoViews, LongPicture, LongPage, Value}
+use Rattle.command_line.specs.declared.fault.OrderFault.TheVariants.{NoMemory, Asked, Refused, ThreadsAlone, MixAlone, TwoFiles, TwoViews, LongPicture, LongPage, Value}
 use Rattle.command_line.specs.declared.request.Request.{Request}
-use Rattle.command_line.proofs.Filled.{is_none}
 use Rattle.command_line.proofs.Levels.{both_there, given_first, lacks_nothing, level_passes, subcommand_checked, value_there}
 
 -- ---- the subcommands
@@ -187,29 +184,34 @@ abbrev is_no_memory : OrderFault → Bool
 is_no_memory NoMemory = true
 is_no_memory other = false
 
-among_some : (k : ErrorKind) (kinds : Kinds) → IsAmong k kinds → kinds ≢ []
-among_some k [] among e = among
-among_some k (x ∷ xs) among e = true≢false (sym (ap is_none e))
-
--- clap's error is the fault that the words have
+-- clap's error is what the words ask for, or why they are refused
 pub refused_words : (words : List Text) (a : App) (error : Error) (fault : OrderFault) → a ≡ logtm → (is_simple_and_free a ≡ true → HasKind (fault_of a words) error)
-    → (kind_of error ≡ OutOfMemory → fault ≡ NoMemory) → IsRefusal fault → IsFaultOf words fault
-refused_words words a error (Refused text) is fails memory refusal =
-    ⊎_elim (λ out. absurd (true≢false (sym (ap is_no_memory (memory out))))) (λ among e. among_some _ _ among (ap (λ b. fault_of b words) is ∙ e)) (fails (ap is_simple_and_free is))
-refused_words words a error (Value argument value) is fails memory refusal = absurd refusal
-refused_words words a error TwoViews is fails memory refusal = absurd refusal
-refused_words words a error LongPicture is fails memory refusal = absurd refusal
-refused_words words a error LongPage is fails memory refusal = absurd refusal
-refused_words words a error ThreadsAlone is fails memory refusal = absurd refusal
-refused_words words a error MixAlone is fails memory refusal = absurd refusal
-refused_words words a error TwoFiles is fails memory refusal = absurd refusal
-refused_words words a error NoMemory is fails memory refusal = tt
+    → (kind_of error ≡ OutOfMemory → fault ≡ NoMemory) → IsToldBy (kind_of error) fault → IsFaultOf words fault
+refused_words words a error fault is fails memory told = go fault memory told
+  where
+    kinds : HasKind (fault_of logtm words) error
+    kinds = subst (λ b. HasKind (fault_of b words) error) is (fails (ap is_simple_and_free is))
+
+    go : (fault : OrderFault) → (kind_of error ≡ OutOfMemory → fault ≡ NoMemory) → IsToldBy (kind_of error) fault → IsFaultOf words fault
+    go (Asked text) memory told = ⊎_elim (λ out. absurd (true≢false (sym (ap is_no_memory (memory out))))) (λ among. (kind_of error, among, told)) kinds
+    go (Refused text) memory told = ⊎_elim (λ out. absurd (true≢false (sym (ap is_no_memory (memory out))))) (λ among. (kind_of error, among, told)) kinds
+    go (Value argument value) memory told = absurd told
+    go TwoViews memory told = absurd told
+    go LongPicture memory told = absurd told
+    go LongPage memory told = absurd told
+    go ThreadsAlone memory told = absurd told
+    go MixAlone memory told = absurd told
+    go TwoFiles memory told = absurd told
+    go NoMemory memory told = tt
 
 -- ---- the reading of the values is what the words ask for
 
 pub read_words : (words : List Text) (name : Text) (rows : List Row) (r : Result Request OrderFault) → AsksFor name words rows
     → MatchResult r (IsReadingOf name rows) (IsReadingFault name rows) → MatchResult r (IsRequestOf words) (IsFaultOf words)
 read_words words name rows (Ok request) asks read = (name, rows, asks, read)
+read_words words name rows (Err (Asked text)) asks bad =
+    ⊎_elim (λ run. ⊎_elim (λ first. absurd first) (λ options. ⊎_elim (λ show. absurd show) (λ threads. absurd threads.2) options.2) run.1)
+    (⊎_elim (λ debug. absurd debug.1) (λ outcomes. absurd outcomes.1)) bad
 read_words words name rows (Err (Refused text)) asks bad =
     ⊎_elim (λ run. ⊎_elim (λ first. absurd first) (λ options. ⊎_elim (λ show. absurd show) (λ threads. absurd threads.2) options.2) run.1)
     (⊎_elim (λ debug. absurd debug.1) (λ outcomes. absurd outcomes.1)) bad

@@ -14,7 +14,7 @@ use Rattle.command_line.specs.Reading.{AreWordsOf, HasBoth, HasValue, IsWitnessO
 use Rattle.command_line.specs.declared.argument.Argument.{Argument}
 use Rattle.command_line.specs.declared.argument.Argument.TheVariants as argument
 use Rattle.command_line.specs.declared.fault.OrderFault.{OrderFault}
-use Rattle.command_line.specs.declared.fault.OrderFault.TheVariants.{Refused, Value, TwoViews, LongPicture, LongPage, ThreadsAlone, MixAlone, TwoFiles, NoMemory}
+use Rattle.command_line.specs.declared.fault.OrderFault.TheVariants.{Asked, Refused, Value, TwoViews, LongPicture, LongPage, ThreadsAlone, MixAlone, TwoFiles, NoMemory}
 use Rattle.command_line.specs.declared.request.Witness.{Witness}
 use Rattle.command_line.specs.declared.request.Word.{Word}
 
@@ -45,6 +45,7 @@ none_malformed argument read default x (Some text) is = rw is refl
 
 -- the first of some texts is the first of more
 pub first_of_more : (xs ys : List (Argument × Text)) (fault : OrderFault) → NamesFirstOf xs fault → NamesFirstOf (xs ++ ys) fault
+first_of_more xs ys (Asked text) first = absurd first
 first_of_more xs ys (Refused text) first = absurd first
 first_of_more [] ys (Value argument value) first = absurd (cc)
 first_of_more (x ∷ xs) ys (Value argument value) first = first

@@ -1,15 +1,17 @@
 -- What the values that clap found stand for.
-use Rattle.std.specs.Prelude.{ℕ, ◌≡◌, ◌≢◌, ◌⊎◌, ◌||◌, Bool, true, false, IfSome, IsSome, ⊤, List, [], ◌∷◌, ◌++◌, Option, Some, None, codes, drop, filter, if◌then◌else◌, is_some, length, map, not, slice_get, unwrap_or}
+use Rattle.std.specs.Prelude.{ℕ, ◌≡◌, ◌⊎◌, ◌||◌, Bool, true, false, IfSome, IsSome, ⊤, List, [], ◌∷◌, ◌++◌, Option, Some, None, codes, drop, filter, if◌then◌else◌, is_some, length, map, not, slice_get, unwrap_or}
 use Rattle.std.specs.Borrow.{Bor}
 use Rattle.std.specs.Option.{option_map, option_map_or, option_to_list}
 use Rattle.std.specs.Str.{bytes_eq}
-use Rattle.clap.specs.Words.{Row, Text, all_of, fault_of, first_of, subcommand_of}
+use Rattle.clap.specs.Words.{Row, Text, all_of, fault_of, first_of, subcommand_of, IsAmong}
+use Rattle.clap.specs.declared.error.kind.ErrorKind.{ErrorKind}
+use Rattle.clap.specs.declared.error.kind.ErrorKind.TheVariants.{DisplayHelp, DisplayVersion}
 use Rattle.command_line.specs.Command.{logtm}
 use Rattle.texts.specs.Numbers.{number_of}
 use Rattle.command_line.specs.declared.argument.Argument.{Argument}
 use Rattle.command_line.specs.declared.argument.Argument.TheVariants as argument
 use Rattle.command_line.specs.declared.fault.OrderFault.{OrderFault}
-use Rattle.command_line.specs.declared.fault.OrderFault.TheVariants.{Refused, Value, NoMemory}
+use Rattle.command_line.specs.declared.fault.OrderFault.TheVariants.{Asked, Refused, Value, NoMemory}
 use Rattle.command_line.specs.declared.options.Options.{Options}
 use Rattle.command_line.specs.declared.request.Cache.{Cache}
 use Rattle.command_line.specs.declared.request.Cache.TheVariants.{Small, Normal, OneByOne, OneByTwo, TwoByTwo, FourByOne, FourByTwo, EightByTwo, EightByFour, SixtyFourByFour, SixtyFourByEight}
@@ -210,14 +212,20 @@ abbrev pub IsRequestOf : List Text → Request → Type 0
 IsRequestOf words request =
     (name : Text) × (rows : List Row) × AsksFor name words rows × IsReadingOf name rows request
 
--- why the words ask for nothing: clap refuses them, a value is malformed, what is asked for doesn't go together, or memory ran out
+-- clap is asked for help, or for the version
+abbrev pub IsAsking : ErrorKind → Type 0
+IsAsking kind = (kind ≡ DisplayHelp) ⊎ (kind ≡ DisplayVersion)
+
+-- why the words ask for nothing of this program: they ask clap for help or the version, it refuses them, a value is malformed, what is asked for doesn't go together, or memory ran out
 abbrev pub IsFaultOf : List Text → OrderFault → Type 0
-IsFaultOf words (Refused text) = fault_of logtm words ≢ []
+IsFaultOf words (Asked text) = (kind : ErrorKind) × IsAmong kind (fault_of logtm words) × IsAsking kind
+IsFaultOf words (Refused text) = (kind : ErrorKind) × IsAmong kind (fault_of logtm words) × (IsAsking kind → ⊥)
 IsFaultOf words NoMemory = ⊤
 IsFaultOf words other = (name : Text) × (rows : List Row) × AsksFor name words rows × IsReadingFault name rows other
 
--- clap's refusal, or that memory ran out for its text
-abbrev pub IsRefusal : OrderFault → Type 0
-IsRefusal (Refused text) = ⊤
-IsRefusal NoMemory = ⊤
-IsRefusal other = ⊥
+-- what clap has for the user by an error of a kind: what was asked for, or a refusal; or memory ran out for its text
+abbrev pub IsToldBy : ErrorKind → OrderFault → Type 0
+IsToldBy kind (Asked text) = IsAsking kind
+IsToldBy kind (Refused text) = IsAsking kind → ⊥
+IsToldBy kind NoMemory = ⊤
+IsToldBy kind other = ⊥

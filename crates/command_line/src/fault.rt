@@ -5,11 +5,14 @@ use crate::argument::Argument;
 use std::alloc::{AllocError, AllocFailed};
 use thiserror::Error;
 
-/// Why a command line gives no order.
+/// Why a command line gives no order, or what it asks of clap itself.
 #[derive(Debug, Drop, Error)]
 pub enum OrderFault<'a> {
-    /// clap refused the words, or was asked for help: the text that it has for the user. clap has no contract on its
-    /// texts, so none says which text this is.
+    /// The words ask for help or for the version: the text that clap has for the user. clap has no contract on its texts, so none says
+    /// which text this is.
+    #[error("{0}")]
+    Asked(String),
+    /// clap refused the words: the text that it has for the user.
     #[error("{0}")]
     Refused(String),
     /// The first malformed value: what it is for, and how the user wrote it. It is no number below 2^32, for `--cache` and `--stats` the

@@ -4,7 +4,7 @@ ghost use Rattle.clap.specs.declared.builder.command.Command.TheViews.{out-Comma
 ghost use Rattle.clap.specs.declared.error.ErrorKind.TheVariants.{OutOfMemory};
 ghost use Rattle.command_line.specs.Command as spec;
 ghost use Rattle.command_line.specs.Command.{IsApp, Makes, with_rules};
-ghost use Rattle.command_line.specs.Reading.{IsFaultOf, IsRequestOf, IsRefusal};
+ghost use Rattle.command_line.specs.Reading.{IsFaultOf, IsRequestOf, IsToldBy};
 ghost use Rattle.command_line.specs.declared.fault.OrderFault.TheVariants.{NoMemory};
 
 use crate::fault::OrderFault;
@@ -127,7 +127,7 @@ const VERSION: &str = "1.0.0";
 /// What the words of a command line ask for. The first word is the program's name, as in what the
 /// environment gives, and is not read.
 ///
-/// clap says what it refuses, and answers `--help` and `--version` in the same way. Where it takes the words of a
+/// clap says what it refuses, and answers `--help` and `--version`. Where it takes the words of a
 /// run, the values of `--harts`, `--memory`, `--steps`, `--cache`, `--stats`, `--seed` and `--mix` and then the WORDs are read, in
 /// this order, up to the first malformed one; those of `debug` likewise. Then more than one of `--trace`, `--timeline` and `--stats`
 /// is refused; then the value of `--trace` or `--timeline` is malformed where it is the path of a file that the run reads, and that of
@@ -148,7 +148,7 @@ pub fn parse<'a>(alloc: Global, words: &'a [&'a str]) -> Result<Request<'a>, Ord
             Some((name, values)) => read(alloc, name, values),
             None => unreachable!(),
         },
-        Err(error) => Err(refusal(alloc, &error)),
+        Err(error) => Err(told(alloc, &error)),
     }
 }
 
@@ -416,15 +416,17 @@ fn words<'a>(alloc: Global) -> Arg<'a>
         .help("The addresses of words to show at the end")
 }
 
-fn refusal<'a>(alloc: Global, error: &Error) -> OrderFault<'a>
+/// What clap has for the user, who asked for it or whose words it refused.
+fn told<'a>(alloc: Global, error: &Error) -> OrderFault<'a>
     ensures memory { kind_of error.now ≡ OutOfMemory → result ≡ NoMemory }
-    ensures refused { IsRefusal result }
+    ensures told { IsToldBy (kind_of error.now) result }
 {
     if error.kind() == ErrorKind::OutOfMemory {
         return OrderFault::NoMemory;
     }
     match error.to_string(alloc) {
-        Ok(text) => OrderFault::Refused(text),
+        Ok(text) if error.use_stderr() => OrderFault::Refused(text),
+        Ok(text) => OrderFault::Asked(text),
         Err(_) => OrderFault::NoMemory,
     }
 }

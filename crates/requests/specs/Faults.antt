@@ -20,12 +20,13 @@ use Rattle.requests.specs.Quotes.{quotation}
 use Rattle.render.specs.Reports.{line_end}
 use Rattle.requests.specs.declared.fault.Fault.{Fault}
 use Rattle.requests.specs.declared.fault.RefusedLine.{RefusedLine}
-use Rattle.requests.specs.declared.fault.Fault.TheVariants.{NotText, Refused, Value, TwoViews, LongPicture, LongPage, ThreadsAlone, MixAlone, TwoFiles, Unread, TooLong, NotSource, Source, Load, Boot, Word, NotSchedule, Schedule, NoOutcome, Exchanged, Unwritten, Unmade, NoMemory}
+use Rattle.requests.specs.declared.fault.Fault.TheVariants.{NotText, Asked, Refused, Value, TwoViews, LongPicture, LongPage, ThreadsAlone, MixAlone, TwoFiles, Overwrites, Unread, TooLong, NotSource, Source, Load, Boot, Word, NotSchedule, Schedule, NoOutcome, Exchanged, Unwritten, Unmade, NoMemory}
 
--- 2 for the command line, a schedule and an outcome that there isn't, 3 for a file, 4 for what is in the file and for the machine that is asked for, 6 if memory ran out, 7 where the lock gave back
+-- 0 for what clap was asked for, 2 for the command line, a schedule and an outcome that there isn't, 3 for a file, 4 for what is in the file and for the machine that is asked for, 6 if memory ran out, 7 where the lock gave back
 -- another board
 abbrev pub fault_status : Fault → ℕ
 fault_status NotText = 2
+fault_status (Asked text) = 0
 fault_status (Refused text) = 2
 fault_status (Value argument text) = 2
 fault_status TwoViews = 2
@@ -34,6 +35,7 @@ fault_status LongPage = 2
 fault_status ThreadsAlone = 2
 fault_status MixAlone = 2
 fault_status TwoFiles = 2
+fault_status (Overwrites file) = 2
 fault_status (Unread file) = 3
 fault_status (TooLong file) = 3
 fault_status NotSource = 4
@@ -80,6 +82,7 @@ no_outcome_text number = concat (codes "logtm: no outcome " ∷ decimal number �
 -- what the user is told of a fault
 abbrev pub fault_text : Fault → List ℕ
 fault_text NotText = line (codes "an argument is not text") []
+fault_text (Asked text) = concat (string_bytes text ∷ [])
 fault_text (Refused text) = concat (string_bytes text ∷ [])
 fault_text (Value argument text) = value_text text.now (hint_of argument)
 fault_text TwoViews = line (codes "--trace, --timeline and --stats exclude each other") []
@@ -88,6 +91,7 @@ fault_text LongPage = line (codes "a page takes --steps of at most 20000") []
 fault_text ThreadsAlone = line (codes "--threads excludes --schedule, --seed, --trace, --timeline and --stats, and --history needs --threads or --seed") []
 fault_text MixAlone = line (codes "--mix needs --seed") []
 fault_text TwoFiles = line (codes "--history excludes --timeline, and --trace into a file") []
+fault_text (Overwrites file) = line (codes "it would overwrite what it reads: ") file.now
 fault_text (Unread file) = line (codes "cannot read ") file.now
 fault_text (TooLong file) = line (codes "longer than 33554432 bytes: ") file.now
 fault_text NotSource = line (codes "source is not text") []
@@ -105,6 +109,7 @@ fault_text NoMemory = line (codes "no memory") []
 
 -- a line with a text and a name tells of the fault
 abbrev pub IsPlain : Fault → Type 0
+IsPlain (Asked text) = ⊥
 IsPlain (Refused text) = ⊥
 IsPlain (Value argument text) = ⊥
 IsPlain (Source refused) = ⊥
@@ -116,6 +121,7 @@ IsPlain other = Unit {0}
 
 -- the fault of a command line
 abbrev pub of_order : OrderFault → Fault
+of_order (order.Asked text) = Asked text
 of_order (order.Refused text) = Refused text
 of_order (order.Value argument text) = Value argument text
 of_order order.TwoViews = TwoViews

@@ -1,5 +1,5 @@
 -- The files that a request names: which they are, and how they are read and made.
-use Rattle.std.specs.Prelude.{ℕ, ◌≡◌, ◌<◌, ◌≤◌, ◌+◌, ◌⊎◌, List, [], length, Option, Some, None}
+use Rattle.std.specs.Prelude.{ℕ, ◌≡◌, ◌<◌, ◌≤◌, ◌+◌, ◌⊎◌, Bool, true, false, IfSome, List, [], length, Option, Some, None}
 use Rattle.std.specs.Borrow.{Bor}
 use Rattle.words.specs.Sinks.{IsPut, SinkState, TookAll, TookPart}
 use Rattle.command_line.specs.declared.request.Request.{Request}
@@ -10,7 +10,7 @@ use Rattle.command_line.specs.declared.request.Way.{Way}
 use Rattle.command_line.specs.declared.request.Way.TheVariants as way
 use Rattle.command_line.specs.declared.request.Witness.{Witness}
 use Rattle.requests.specs.declared.fault.Fault.{Fault}
-use Rattle.requests.specs.declared.fault.Fault.TheVariants.{Unread, TooLong, Unmade, NoMemory}
+use Rattle.requests.specs.declared.fault.Fault.TheVariants.{Overwrites, Unread, TooLong, Unmade, NoMemory}
 use Rattle.requests.specs.declared.page.Sheet.{Sheet}
 use Rattle.requests.specs.declared.page.Sheet.TheVariants.{Nowhere, Made}
 
@@ -52,6 +52,31 @@ abbrev pub page_of : Request → Option (Bor (List ℕ))
 page_of (request.Run run) = page_in run.way
 page_of (request.Outcomes asked) = witness_in asked.witness
 page_of other = None
+
+-- that which it makes, if it makes one: one of these, or the ELF file of a source
+abbrev pub target_of : Request → Option (Bor (List ℕ))
+target_of (request.Asm source target) = Some target
+target_of other = page_of other
+
+module _ {S : Type 0} (joins : S → List ℕ → List ℕ → Bool → Type 0) (s : S) where
+  -- asked whether a path leads to the same file as another, which may not be there, the store says no
+  abbrev pub IsApart : List ℕ → Option (Bor (List ℕ)) → Type 0
+  IsApart path None = Unit {0}
+  IsApart path (Some other) = joins s path other.now false
+
+  -- or it says yes
+  abbrev pub IsOne : List ℕ → Option (Bor (List ℕ)) → Type 0
+  IsOne path None = ⊥
+  IsOne path (Some other) = joins s path other.now true
+
+  -- what a request makes is none of the files that it reads
+  abbrev pub SparesInputs : Request → Type 0
+  SparesInputs request = IfSome (target_of request) (λ path. IsApart path.now (Some (file_of request)) × IsApart path.now (schedule_of request))
+
+  -- or it is one of them, which is why it isn't made
+  abbrev pub IsOverwriting : Request → Fault → Type 0
+  IsOverwriting request fault = (path : Bor (List ℕ)) × (target_of request ≡ Some path) × (fault ≡ Overwrites path)
+      × (IsOne path.now (Some (file_of request)) ⊎ IsOne path.now (schedule_of request))
 
 -- a file has at most so many bytes: 32 MiB
 abbrev pub most_bytes : ℕ

@@ -31,7 +31,9 @@ pub struct RefusedLine<'a> {
 pub enum Fault<'a> {
     /// A word of the command line isn't text.
     NotText,
-    /// What clap has to say to the user, with its line ends.
+    /// Help or the version, which clap was asked for, with its line ends. It is printed, and no fault.
+    Asked(String),
+    /// What clap has to say to the user of a refusal, with its line ends.
     Refused(String),
     /// The first malformed value: what it is for, and how the user wrote it.
     Value(Argument, &'a str),
@@ -48,6 +50,8 @@ pub enum Fault<'a> {
     MixAlone,
     /// A history is asked for beside another file.
     TwoFiles,
+    /// The path of the file that is to be made, where it leads to one that is read.
+    Overwrites(&'a str),
     /// The path of a file that can't be read.
     Unread(&'a str),
     /// The path of a file that is longer than any that is taken.
@@ -79,15 +83,16 @@ pub enum Fault<'a> {
 }
 
 impl<'a> Fault<'a> {
-    /// The status that the program ends with: 2 for the command line, a schedule and an outcome that there isn't, 3 for a file, 4 for what is in the file and for
+    /// The status that the program ends with: 0 for what clap was asked for, 2 for the command line, a schedule and an outcome that there isn't, 3 for a file, 4 for what is in the file and for
     /// the machine that is asked for, 6 if memory ran out, 7 for what can't be.
     pub fn status(&self) -> u8
         ensures { result ≡ fault_status self.now }
     {
         match self {
+            Fault::Asked(_) => 0,
             Fault::NotText | Fault::Refused(_) | Fault::Value(..) | Fault::Word(_) => 2,
             Fault::TwoViews | Fault::LongPicture | Fault::LongPage | Fault::ThreadsAlone => 2,
-            Fault::MixAlone | Fault::TwoFiles => 2,
+            Fault::MixAlone | Fault::TwoFiles | Fault::Overwrites(_) => 2,
             Fault::NotSchedule | Fault::Schedule(_) | Fault::NoOutcome(_) => 2,
             Fault::Unread(_) | Fault::TooLong(_) | Fault::Unwritten | Fault::Unmade(_) => 3,
             Fault::NotSource | Fault::Source(_) | Fault::Load(_) | Fault::Boot(_) => 4,
@@ -101,7 +106,7 @@ impl<'a> Fault<'a> {
         ensures { Puts (S.state sink.old) (S.state sink.new) (fault_text self.now) result }
     {
         match self {
-            Fault::Refused(text) => put_all(sink, &[text.as_bytes()]),
+            Fault::Asked(text) | Fault::Refused(text) => put_all(sink, &[text.as_bytes()]),
             Fault::Value(argument, text) => put_value(sink, text, hint(*argument)),
             Fault::Source(refused) => put_refused(sink, refused),
             Fault::Load(fault) => put_refusal(sink, b"load ", fault.number(), fault.name()),
@@ -131,6 +136,7 @@ impl<'a> Fault<'a> {
             ),
             Fault::MixAlone => ("--mix needs --seed", ""),
             Fault::TwoFiles => ("--history excludes --timeline, and --trace into a file", ""),
+            Fault::Overwrites(file) => ("it would overwrite what it reads: ", *file),
             Fault::Unread(file) => ("cannot read ", *file),
             Fault::TooLong(file) => ("longer than 33554432 bytes: ", *file),
             Fault::NotSource => ("source is not text", ""),
@@ -158,7 +164,7 @@ impl<'a> Fault<'a> {
 impl fmt::Display for Fault<'_> {
     fn fmt<W: fmt::Write>(&self, f: &mut fmt::Formatter<W>) -> fmt::Result {
         match self {
-            Fault::Refused(text) => f.write_str(text.as_str()),
+            Fault::Asked(text) | Fault::Refused(text) => f.write_str(text.as_str()),
             Fault::Value(_, text) => write!(f, "value {text}"),
             Fault::Source(refused) => write!(f, "{}", refused.why),
             Fault::Load(fault) => write!(f, "load {fault}"),
@@ -282,6 +288,7 @@ impl<'a> From<OrderFault<'a>> for Fault<'a> {
 
     fn from(fault: OrderFault<'a>) -> Fault<'a> {
         match fault {
+            OrderFault::Asked(text) => Fault::Asked(text),
             OrderFault::Refused(text) => Fault::Refused(text),
             OrderFault::Value(argument, text) => Fault::Value(argument, text),
             OrderFault::TwoViews => Fault::TwoViews,

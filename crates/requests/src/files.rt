@@ -2,7 +2,7 @@
 ghost use Rattle.std.specs.Prelude.{◌≡◌, MatchResult};
 ghost use Rattle.std.specs.Option.{option_map};
 ghost use Rattle.texts.specs.Puts.{Puts};
-ghost use Rattle.requests.specs.NamedFiles.{file_of, schedule_of, page_of, IsReadAt, IsUnreadAt, IsReadIf, IsUnreadIf, IsUnbegunAt, IsUnbegunIf, IsSheetFor, IsClosed, IsFileMade, IsFileUnmade, IsImageMade, IsImageUnmade};
+ghost use Rattle.requests.specs.NamedFiles.{file_of, schedule_of, page_of, target_of, SparesInputs, IsOverwriting, IsReadAt, IsUnreadAt, IsReadIf, IsUnreadIf, IsUnbegunAt, IsUnbegunIf, IsSheetFor, IsClosed, IsFileMade, IsFileUnmade, IsImageMade, IsImageUnmade};
 
 use crate::fault::Fault;
 use crate::file_requests::Outcome;
@@ -61,6 +61,32 @@ pub fn page_of<'a>(request: &Request<'a>) -> Option<&'a str>
             None => None,
         },
         _ => None,
+    }
+}
+
+/// The path of the file that a request makes, if it makes one.
+pub fn target_of<'a>(request: &Request<'a>) -> Option<&'a str>
+    ensures { result ≡ target_of request.now }
+{
+    match request {
+        Request::Asm { target, .. } => Some(target),
+        _ => page_of(request),
+    }
+}
+
+/// Refuses a request that would overwrite a file that it reads.
+pub fn spare_inputs<'a, S: Store>(store: &S, request: &Request<'a>) -> Result<(), Fault<'a>>
+    ensures { MatchResult result (λ _. SparesInputs S.joins store.now request.now) (IsOverwriting S.joins store.now request.now) }
+{
+    let Some(target) = target_of(request) else {
+        return Ok(());
+    };
+    if store.is_one_file(target, file_of(request)) {
+        return Err(Fault::Overwrites(target));
+    }
+    match schedule_of(request) {
+        Some(schedule) if store.is_one_file(target, schedule) => Err(Fault::Overwrites(target)),
+        _ => Ok(()),
     }
 }
 

@@ -1,10 +1,11 @@
 //! The files that the program reads and makes, by their paths.
-ghost use Rattle.std.specs.Prelude.{◌≡◌, ⊤, ℕ, List, OnErr, MatchResult};
+ghost use Rattle.std.specs.Prelude.{◌≡◌, ⊤, ℕ, Bool, List, OnErr, MatchResult};
 ghost use Rattle.requests.specs.Stored.{IsRefusedIf};
 
 use crate::page::{Outlet, Page};
 use std::fs::File;
 use std::io::{ErrorKind, Read};
+use std::os::unix::fs::MetadataExt;
 use std::rt::Files;
 use std::{fs, io};
 use thiserror::Error;
@@ -30,6 +31,9 @@ pub trait Store {
     /// A file with a path can't be read, or can't be made.
     ghost refuses: { Self → List ℕ → Type 0 };
 
+    /// Asked whether two paths lead to one file, it answers this.
+    ghost joins: { Self → List ℕ → List ℕ → Bool → Type 0 };
+
     /// A file with a path was begun.
     ghost begins: { Self → List ℕ → Self → Self.Page → Type 0 };
 
@@ -39,6 +43,10 @@ pub trait Store {
     /// Reads a file, and so many bytes of it at most.
     fn read(&self, path: &str, most: usize) -> Result<Vec<u8>, StoreFault>
         ensures { MatchResult result (λ bytes. reads self.now path.now most bytes.items) (IsRefusedIf (refuses self.now path.now)) };
+
+    /// Whether two paths lead to one file, whatever their spelling.
+    fn is_one_file(&self, one: &str, other: &str) -> bool
+        ensures { joins self.now one.now other.now result };
 
     /// Begins a file, which is empty then.
     fn begin(&mut self, path: &str) -> Result<Self::Page, StoreFault>
@@ -63,6 +71,8 @@ impl<R: Files + AllocGlobal> Store for HostFiles<'_, R> {
 
     ghost refuses = { λ _ _. ⊤ };
 
+    ghost joins = { λ _ _ _ _. ⊤ };
+
     ghost begins = { λ s _ t _. t ≡ s };
 
     ghost ends = { λ s _ t. t ≡ s };
@@ -71,6 +81,16 @@ impl<R: Files + AllocGlobal> Store for HostFiles<'_, R> {
         match read_beginning(self.host, path, most) {
             Ok(bytes) => Ok(bytes),
             Err(error) => Err(fault_of(&error)),
+        }
+    }
+
+    /// Two paths do where the host knows both by the same device and inode, and they are no terminals or the like.
+    fn is_one_file(&self, one: &str, other: &str) -> bool {
+        match (fs::metadata(self.host, one), fs::metadata(self.host, other)) {
+            (Ok(one), Ok(other)) => {
+                one.is_file() && one.dev() == other.dev() && one.ino() == other.ino()
+            }
+            _ => false,
         }
     }
 

@@ -1,5 +1,5 @@
 -- What comes of the words of a command line: what is read and made of files, put into standard output and told, and the status.
-use Rattle.std.specs.Prelude.{ℕ, ◌≡◌, ◌⊎◌, List, [], Option}
+use Rattle.std.specs.Prelude.{ℕ, ◌≡◌, ◌⊎◌, Bool, List, [], Option}
 use Rattle.words.specs.Sinks.{IsPut, SinkState, TookAll, TookPart}
 use Rattle.command_line.specs.Reading.{IsRequestOf, IsFaultOf}
 use Rattle.command_line.specs.declared.fault.OrderFault.{OrderFault}
@@ -10,10 +10,10 @@ use Rattle.render.specs.Statuses.{IsReported}
 use Rattle.simulate.specs.Carried.{IsCarriedOut}
 use Rattle.requests.specs.Begins.{CanShow, IsUnready}
 use Rattle.requests.specs.Faults.{fault_status, fault_text, of_order}
-use Rattle.requests.specs.NamedFiles.{file_of, schedule_of, page_of, IsReadAt, IsUnreadAt, IsReadIf, IsUnreadIf, IsUnbegunIf, IsSheetFor, IsClosed, IsImageMade, IsImageUnmade}
+use Rattle.requests.specs.NamedFiles.{file_of, schedule_of, page_of, SparesInputs, IsOverwriting, IsReadAt, IsUnreadAt, IsReadIf, IsUnreadIf, IsUnbegunIf, IsSheetFor, IsClosed, IsImageMade, IsImageUnmade}
 use Rattle.requests.specs.Sheets.{state_of}
 use Rattle.requests.specs.declared.fault.Fault.{Fault}
-use Rattle.requests.specs.declared.fault.Fault.TheVariants.{Unwritten}
+use Rattle.requests.specs.declared.fault.Fault.TheVariants.{Asked, Unwritten}
 use Rattle.requests.specs.declared.page.Sheet.{Sheet}
 
 -- what there is around the program: the files, the input, standard output, and where the user is told of faults
@@ -39,7 +39,20 @@ abbrev pub IsReadyOf : Request → List ℕ → Type 0
 IsReadyOf (request.Run run) file = CanShow run file
 IsReadyOf other file = Unit {0}
 
-module _ {S I P : Type 0} (reads : S → List ℕ → ℕ → List ℕ → Type 0) (refuses : S → List ℕ → Type 0) (begins : S → List ℕ → S → P → Type 0) (ends : S → P → S → Type 0)
+-- the user is told of a fault, and the status is the fault's
+abbrev pub IsTold : Fault → SinkState → ℕ → SinkState → Type 0
+IsTold fault before status after = (status ≡ fault_status fault) × IsPut before after (fault_text fault)
+
+-- standard output takes a text, with status 0; or it can't be written, which the user is told
+abbrev pub IsPrinted : List ℕ → SinkState → SinkState → ℕ → SinkState → SinkState → Type 0
+IsPrinted text output error status printed told = ((status ≡ 0) × TookAll output printed text × (told ≡ error)) ⊎ (TookPart output printed text × IsTold Unwritten error status told)
+
+-- help or the version, which was asked for, is printed; the user is told of any other fault
+abbrev pub IsSaid : Fault → SinkState → SinkState → ℕ → SinkState → SinkState → Type 0
+IsSaid (Asked text) output error status printed told = IsPrinted (fault_text (Asked text)) output error status printed told
+IsSaid fault output error status printed told = IsTold fault error status told × (printed ≡ output)
+
+module _ {S I P : Type 0} (joins : S → List ℕ → List ℕ → Bool → Type 0) (reads : S → List ℕ → ℕ → List ℕ → Type 0) (refuses : S → List ℕ → Type 0) (begins : S → List ℕ → S → P → Type 0) (ends : S → P → S → Type 0)
     (state : P → SinkState) (gives : Giving I) (prompt : List ℕ) where
   module _ (request : Request) (file list : List ℕ) where
     -- it was carried out, with the file of a view, a history or a run begun before and done behind it
@@ -78,15 +91,16 @@ module _ {S I P : Type 0} (reads : S → List ℕ → ℕ → List ℕ → Type 
       × ((IsUnreadIf reads refuses v.store (schedule_of request) fault × IsReadyOf request file × (w ≡ v))
       ⊎ ((list : List ℕ) × IsReadIf reads refuses v.store (schedule_of request) list × IsUnmadeOf request file list v fault w)))
 
-  -- the words say a request, which was served; or why nothing was
+  -- the words say a request, which makes none of the files that it reads, and it was served; or why nothing was
   abbrev pub IsObeyed : List (List ℕ) → World S I → ℕ → World S I → Type 0
-  IsObeyed words v status w = (request : Request) × IsRequestOf words request × IsServed request v status w
+  IsObeyed words v status w = (request : Request) × IsRequestOf words request × SparesInputs joins v.store request × IsServed request v status w
 
   abbrev pub IsDisobeyed : List (List ℕ) → World S I → Fault → World S I → Type 0
   IsDisobeyed words v fault w = ((order : OrderFault) × IsFaultOf words order × (fault ≡ of_order order) × (w ≡ v))
-      ⊎ ((request : Request) × IsRequestOf words request × IsUnserved request v fault w)
+      ⊎ ((request : Request) × IsRequestOf words request
+      × ((IsOverwriting joins v.store request fault × (w ≡ v)) ⊎ (SparesInputs joins v.store request × IsUnserved request v fault w)))
 
-  -- The words were answered: what they ask for was done, with this status; or the user was told of the fault for which it was not, and the status is the fault's.
+  -- The words were answered: what they ask for was done, with this status; or why it was not is said.
   abbrev pub IsAnswered : List (List ℕ) → World S I → ℕ → World S I → Type 0
-  IsAnswered words v status w = IsObeyed words v status w
-      ⊎ ((fault : Fault) × (u : World S I) × IsDisobeyed words v fault u × (status ≡ fault_status fault) × IsPut u.error w.error (fault_text fault) × (w ≡ record u { error = w.error }))
+  IsAnswered words v status w = IsObeyed words v status w ⊎ ((fault : Fault) × (u : World S I) × IsDisobeyed words v fault u × IsSaid fault u.output u.error status w.output w.error
+      × (w ≡ record u { output = w.output; error = w.error }))

@@ -2,9 +2,10 @@
 ghost use Rattle.std.specs.Prelude.{◌≡◌, [], MatchResult, map};
 ghost use Rattle.std.specs.Option.{option_map};
 ghost use Rattle.words.specs.Sinks.{IsPut, TookPart};
+ghost use Rattle.texts.specs.Puts.{Puts};
 ghost use Rattle.render.specs.Statuses.{IsReported};
 ghost use Rattle.requests.specs.NamedFiles.{page_of, IsUnbegunIf};
-ghost use Rattle.simulate.specs.Answered.{IsUnreadyOf, IsReadyOf, IsWritten, IsCarried, IsMadeOf, IsUnmadeOf, IsServed, IsUnserved, IsObeyed, IsDisobeyed, IsAnswered};
+ghost use Rattle.simulate.specs.Answered.{IsUnreadyOf, IsReadyOf, IsWritten, IsCarried, IsMadeOf, IsUnmadeOf, IsServed, IsUnserved, IsObeyed, IsDisobeyed, IsSaid, IsAnswered};
 ghost use Rattle.requests.specs.Faults.{fault_status, fault_text};
 ghost use Rattle.requests.specs.declared.fault.Fault.{Fault as TheFault};
 ghost use Rattle.requests.specs.declared.fault.Fault.TheVariants.{Unwritten};
@@ -15,14 +16,14 @@ use debugger::LineInput;
 use render::is_report;
 use requests::begin::check_run;
 use requests::files::{
-    close, file_of, make_image, page_of, read, read_if_any, schedule_of, sheet_for,
+    close, file_of, make_image, page_of, read, read_if_any, schedule_of, sheet_for, spare_inputs,
 };
 use requests::{Fault, Live, Outcome, Page, Store};
 use std::alloc::Global;
 use std::sync::Wait;
 use std::thread::Threads;
 use timeline::Chart;
-use words::Sink;
+use words::{Sink, SinkFault};
 
 /// Answers the words of a command line, the program's name first: reads the files that they name, has the request carried out, and makes the
 /// file that it asks for. What it prints goes into `out`, and what the user is told into `error`. The lines of an input debug a program, each asked
@@ -38,14 +39,35 @@ pub fn answer<R: Threads + Wait + Sync, S: Store, I: LineInput, P: Live, O: Page
     out: &mut O,
     error: &mut E,
 ) -> u8
-    ensures { IsAnswered S.reads S.refuses S.begins S.ends S.Page.state I.gives prompt.now (map (λ w. w.now) words.now)
+    ensures { IsAnswered S.joins S.reads S.refuses S.begins S.ends S.Page.state I.gives prompt.now (map (λ w. w.now) words.now)
         (record { store = store.old; input = input.old; output = O.state out.old; error = E.state error.old }) result
         (record { store = store.new; input = input.new; output = O.state out.new; error = E.state error.new }) }
 {
     match obey(rt, alloc, words, store, input, prompt, progress, out, error) {
         Ok(status) => status,
-        Err(fault) => fault.tell(error),
+        Err(fault) => say(&fault, out, error),
     }
+}
+
+/// Prints what clap was asked for, and tells the user of any other fault. It answers the status.
+fn say<O: Page, E: Sink>(fault: &Fault<'_>, out: &mut O, error: &mut E) -> u8
+    ensures { IsSaid fault.now (O.state out.old) (E.state error.old) result (O.state out.new) (E.state error.new) }
+{
+    match fault {
+        Fault::Asked(_) => match print(fault, out) {
+            Ok(()) => 0,
+            Err(_) => Fault::Unwritten.tell(error),
+        },
+        _ => fault.tell(error),
+    }
+}
+
+/// Prints what there is to say of a fault.
+fn print<O: Page>(fault: &Fault<'_>, out: &mut O) -> Result<(), SinkFault>
+    ensures { Puts (O.state out.old) (O.state out.new) (fault_text fault.now) result }
+{
+    fault.put(out)?;
+    out.flush()
 }
 
 /// Answers the words, without telling of a fault that [`carry_out`] doesn't meet.
@@ -61,14 +83,15 @@ fn obey<'a, R: Threads + Wait + Sync, S: Store, I: LineInput, P: Live, O: Page, 
     error: &mut E,
 ) -> Result<u8, Fault<'a>>
     ensures { MatchResult result
-        (λ status. IsObeyed S.reads S.refuses S.begins S.ends S.Page.state I.gives prompt.now (map (λ w. w.now) words.entry.now)
+        (λ status. IsObeyed S.joins S.reads S.refuses S.begins S.ends S.Page.state I.gives prompt.now (map (λ w. w.now) words.entry.now)
         (record { store = store.old; input = input.old; output = O.state out.old; error = E.state error.old }) status
         (record { store = store.new; input = input.new; output = O.state out.new; error = E.state error.new }))
-        (λ fault. IsDisobeyed S.reads S.refuses S.begins S.ends S.Page.state I.gives prompt.now (map (λ w. w.now) words.entry.now)
+        (λ fault. IsDisobeyed S.joins S.reads S.refuses S.begins S.ends S.Page.state I.gives prompt.now (map (λ w. w.now) words.entry.now)
         (record { store = store.old; input = input.old; output = O.state out.old; error = E.state error.old }) fault
         (record { store = store.new; input = input.new; output = O.state out.new; error = E.state error.new })) }
 {
     let request = parse(alloc, words)?;
+    spare_inputs(store, &request)?;
     serve(
         rt, alloc, &request, store, input, prompt, progress, out, error,
     )
@@ -87,10 +110,10 @@ fn serve<'a, R: Threads + Wait + Sync, S: Store, I: LineInput, P: Live, O: Page,
     error: &mut E,
 ) -> Result<u8, Fault<'a>>
     ensures { MatchResult result
-        (λ status. IsServed S.reads S.refuses S.begins S.ends S.Page.state I.gives prompt.now request.now
+        (λ status. IsServed S.joins S.reads S.refuses S.begins S.ends S.Page.state I.gives prompt.now request.now
         (record { store = store.old; input = input.old; output = O.state out.old; error = E.state error.old }) status
         (record { store = store.new; input = input.new; output = O.state out.new; error = E.state error.new }))
-        (λ fault. IsUnserved S.reads S.refuses S.begins S.ends S.Page.state I.gives prompt.now request.now
+        (λ fault. IsUnserved S.joins S.reads S.refuses S.begins S.ends S.Page.state I.gives prompt.now request.now
         (record { store = store.old; input = input.old; output = O.state out.old; error = E.state error.old }) fault
         (record { store = store.new; input = input.new; output = O.state out.new; error = E.state error.new })) }
 {
@@ -140,10 +163,10 @@ fn make<'a, R: Threads + Wait + Sync, S: Store, I: LineInput, P: Live, O: Page, 
     error: &mut E,
 ) -> Result<u8, Fault<'a>>
     ensures { MatchResult result
-        (λ status. IsMadeOf S.reads S.refuses S.begins S.ends S.Page.state I.gives prompt.now request.now file.now list.now
+        (λ status. IsMadeOf S.joins S.reads S.refuses S.begins S.ends S.Page.state I.gives prompt.now request.now file.now list.now
         (record { store = store.old; input = input.old; output = O.state out.old; error = E.state error.old }) status
         (record { store = store.new; input = input.new; output = O.state out.new; error = E.state error.new }))
-        (λ fault. IsUnmadeOf S.reads S.refuses S.begins S.ends S.Page.state I.gives prompt.now request.now file.now list.now
+        (λ fault. IsUnmadeOf S.joins S.reads S.refuses S.begins S.ends S.Page.state I.gives prompt.now request.now file.now list.now
         (record { store = store.old; input = input.old; output = O.state out.old; error = E.state error.old }) fault
         (record { store = store.new; input = input.new; output = O.state out.new; error = E.state error.new })) }
 {
@@ -170,7 +193,7 @@ fn carry<'a, R: Threads + Wait + Sync, S: Store, I: LineInput, P: Live, O: Page,
     error: &mut E,
 ) -> Result<Outcome, Fault<'a>>
     ensures { MatchResult result
-        (λ o. IsCarried S.reads S.refuses S.begins S.ends S.Page.state I.gives prompt.now request.now file.now list.now
+        (λ o. IsCarried S.joins S.reads S.refuses S.begins S.ends S.Page.state I.gives prompt.now request.now file.now list.now
         (record { store = store.old; input = input.old; output = O.state out.old; error = E.state error.old }) o.status (option_map (λ image. image.items) o.image)
         (record { store = store.new; input = input.new; output = O.state out.new; error = E.state error.new }))
         (λ fault. IsUnbegunIf S.refuses store.old (page_of request.now) fault × (store.new ≡ store.old) × (input.new ≡ input.old) × (out.new ≡ out.old) × (error.new ≡ error.old)) }

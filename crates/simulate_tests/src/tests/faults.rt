@@ -41,7 +41,9 @@ fn faults_of_a_command_line_have_their_texts(rt: HostRuntime) -> Result<(), Allo
         check_text(&rt, &fault, text)?;
     }
     let said = format!(in rt.alloc(); "a usage")?;
-    check_text(&rt, &OrderFault::Refused(said), "a usage")
+    check_text(&rt, &OrderFault::Refused(said), "a usage")?;
+    let said = format!(in rt.alloc(); "a version")?;
+    check_text(&rt, &OrderFault::Asked(said), "a version")
 }
 
 #[test]
@@ -73,7 +75,9 @@ fn faults_of_the_options_have_their_texts(rt: HostRuntime) -> Result<(), AllocEr
         check_text(&rt, &fault, text)?;
     }
     let said = format!(in rt.alloc(); "a usage")?;
-    check_text(&rt, &Fault::Refused(said), "a usage")
+    check_text(&rt, &Fault::Refused(said), "a usage")?;
+    let said = format!(in rt.alloc(); "a version")?;
+    check_text(&rt, &Fault::Asked(said), "a version")
 }
 
 #[test]
@@ -83,6 +87,10 @@ fn faults_of_files_have_their_texts(rt: HostRuntime) -> Result<(), AllocError> {
         fault: AsmFault::Range,
     };
     for (fault, text) in [
+        (
+            Fault::Overwrites("a.s"),
+            "it would overwrite what it reads: a.s",
+        ),
         (Fault::Unread("a.s"), "cannot read a.s"),
         (Fault::TooLong("a.s"), "longer than 33554432 bytes: a.s"),
         (Fault::NotSource, "source is not text"),

@@ -23,5 +23,5 @@ returns-in-Some c =
 
 pub returns-in-Err : goal.returns-in-Err
 returns-in-Err c =
-    refused_words (map (λ w. w.now) c.args.words.now) (app_of c.in_ok-command.field-0) c.in-Err.error c.refusal.result
-    c.in_ok-command.ensures c.in-Err.ensures.kinds c.refusal.ensures.memory c.refusal.ensures.refused
+    refused_words (map (λ w. w.now) c.args.words.now) (app_of c.in_ok-command.field-0) c.in-Err.error c.told.result
+    c.in_ok-command.ensures c.in-Err.ensures.kinds c.told.ensures.memory c.told.ensures.told

@@ -9,7 +9,6 @@ returns-in-Err g c = inr (
   c.in-Err.fault,
   record { store = c.obey.new.store; input = c.obey.new.input; output = g.O.Sink.state c.obey.new.out; error = g.E.Sink.state c.obey.new.error },
   c.in-Err.ensures,
-  c.tell.ensures.status,
-  c.tell.ensures.told,
+  c.say.ensures,
   refl,
 )
