@@ -2,17 +2,19 @@
 use Rattle.std.specs.Prelude.{ℕ, ◌≡◌, ◌++◌, List}
 use Rattle.words.specs.Sinks.{TookAll}
 use Rattle.words.specs.declared.entry.Entry.{Entry}
-use Rattle.loader.specs.Programs.{Program}
 use Rattle.flat.specs.State.{Flat}
 use Rattle.flat.specs.Steps.{IsRun}
 use Rattle.flat.specs.Attempts.{IsAttempt, own_of, others_of}
-use Rattle.isolation.specs.Reasons.{HaveReasons}
+use Rattle.protocol.specs.Caches.{Geometry}
 use Rattle.command_line.specs.declared.request.Run.{Run}
-use Rattle.command_line.specs.declared.request.Setup.{Setup}
+use Rattle.command_line.specs.declared.request.Show.{Show}
+use Rattle.schedule.specs.Courses.{Behind}
+use Rattle.schedule.specs.Moments.{Moment, entries_of}
 use Rattle.requests.specs.Outputs.{Sinks}
-use Rattle.requests.specs.Runs.{IsReport}
-use Rattle.requests.specs.Sources.{IsProgramIn}
+use Rattle.requests.specs.Runs.{ComesBy, IsReport, addresses}
+use Rattle.requests.specs.Sources.{names_in}
 use Rattle.requests.specs.Starts.{flat_start}
+use Rattle.simulate.specs.Shown.{shown_texts}
 
 -- each transaction in a run is as if it ran alone: of the entries from its begin on, those of the other harts can all come first and then its own, and they end
 -- in the same state
@@ -20,16 +22,14 @@ abbrev pub AreSerial : Flat → List Entry → Type 0
 AreSerial start es = (before es_of_it after : List Entry) (i : ℕ) (u v : Flat) → es ≡ before ++ (es_of_it ++ after) → IsRun start before u → IsAttempt i u es_of_it v
     → IsRun u (others_of i es_of_it ++ own_of i es_of_it) v
 
--- the file has a program, and a run of the flat machine leads from where it begins to this state; each refusal and each abort for a conflict in it has its reason
-pub record IsReached (setup : Setup) (file : List ℕ) (f : Flat) : Type 0 where
-  pub program : Program
-  pub holds : IsProgramIn setup.file.now file program
-  pub entries : List Entry
-  pub run : IsRun (flat_start program setup) entries f
-  pub reasons : HaveReasons (flat_start program setup) entries
-  pub serial : AreSerial (flat_start program setup) entries
+-- the steps that a run is asked for, those of a list and what comes after it, have just these moments. Their entries are a run of the flat machine from where the file's program begins
+-- to this state, in which each refusal and each abort for a conflict has its reason; and each transaction among them is as if it ran alone
+pub record IsReached (g : Geometry) (run : Run) (behind : Behind) (file list : List ℕ) (moments : List Moment) (f : Flat) : Type 0 where
+  pub comes : ComesBy g run.setup behind file list run.steps moments f
+  pub serial : AreSerial (flat_start comes.program run.setup) (entries_of moments)
 
--- standard output took the report on such a state, and perhaps something before and behind it; and the status goes with the report
-abbrev pub IsPromised : Run → List ℕ → Sinks → Sinks → ℕ → Type 0
-IsPromised run file before after status = (f : Flat) × IsReached run.setup file f
-    × ((report : List ℕ) × IsReport f run.words.items report status × ((front back : List ℕ) × TookAll before.output after.output (front ++ (report ++ back))))
+-- standard output took what is shown of just these moments, such as their trace, with the report on the state that they lead to; and the status goes with the report
+module _ (g : Geometry) (run : Run) (behind : Behind) (show : Show) (file list : List ℕ) (before after : Sinks) where
+  abbrev pub IsPromised : ℕ → Type 0
+  IsPromised status = (moments : List Moment) × (f : Flat) × (reached : IsReached g run behind file list moments f) × ((report : List ℕ) × IsReport f run.words.items report status
+      × TookAll before.output after.output (shown_texts (names_in run.setup.file.now file) show g (addresses run.words.items) reached.comes.first moments report).output)

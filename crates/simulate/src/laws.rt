@@ -26,7 +26,8 @@ ghost use Rattle.command_line.specs.declared.request.Setup.{Setup};
 ghost use Rattle.command_line.specs.declared.request.Show.{Show};
 ghost use Rattle.command_line.specs.declared.request.Show.TheVariants.{Report};
 ghost use Rattle.schedule.specs.Courses.{Behind, IsTold};
-ghost use Rattle.schedule.specs.Courses.Behind.{Turns};
+ghost use Rattle.schedule.specs.Courses.Behind.{Chance, Turns};
+ghost use Rattle.schedule.specs.declared.choices.Choice.{Choice};
 ghost use Rattle.schedule.specs.Moments.{Moment, entries_of};
 ghost use Rattle.requests.specs.Ends.{search_start, AreEndsGiven};
 ghost use Rattle.requests.specs.Files.{IsListed, IsImageOf};
@@ -35,9 +36,9 @@ ghost use Rattle.requests.specs.Schedules.{HasSteps};
 ghost use Rattle.debugger.specs.Sure.{AreKnown, answers_surely};
 ghost use Rattle.simulate.specs.Debugging.{IsPlayedByHand};
 ghost use Rattle.simulate.specs.Given.{IsGiven};
-ghost use Rattle.simulate.specs.Kept.{IsGivenAndKept};
+ghost use Rattle.simulate.specs.Kept.{IsGivenAndKept, IsHistoryOf};
 ghost use Rattle.simulate.specs.Promise.{IsPromised};
-ghost use Rattle.simulate.specs.Threaded.{IsGivenInThreads, with_steps};
+ghost use Rattle.simulate.specs.Threaded.{IsGivenInThreads, history_text, with_steps};
 ghost use Rattle.requests.specs.Outputs.{Sinks, Texts, TakeAll};
 ghost use Rattle.requests.specs.Sources.{IsProgramIn, IsSourceOf, is_source};
 ghost use Rattle.requests.specs.Starts.{flat_start};
@@ -45,14 +46,21 @@ ghost use Rattle.requests.specs.Starts.{flat_start};
 use debugger::LineInput;
 
 /// The promise: of whatever a run shows, with status 0, 1 or 5, the report is one on a run of the flat machine: of one memory, in which each transaction is as
-/// if it ran alone, and each refusal and each abort for a conflict has its reason. The run begins where the file's program begins.
+/// if it ran alone, and each refusal and each abort for a conflict has its reason. The run begins where the file's program begins, and its entries are those
+/// of the steps that the request makes: of its schedule and then turns, of its seed, as its history says, or of the history of its threads. A trace that is
+/// shown has just those. Two promises of one request, whose choices are told, are of one text and one status.
 pub fn reports_are_of_the_flat_machine()
     ensures run { (g : Geometry) (run : Run) (behind : Behind) (show : Show) (file list : List ℕ) (before after : Sinks) (status : ℕ) →
-        IsGiven g run behind show file list before after status → IsPromised run file before after status }
+        IsGiven g run behind show file list before after status → IsPromised g run behind show file list before after status }
     ensures kept { (g : Geometry) (run : Run) (print : Print) (path : Bor (List ℕ)) (file list : List ℕ) (before after : Sinks) (status : ℕ) →
-        IsGivenAndKept g run print path file list before after status → IsPromised run file before after status }
+        IsGivenAndKept g run print path file list before after status → (chosen : List Choice) × ((history : List ℕ) × IsHistoryOf run.steps list chosen history
+        × TookAll before.file after.file history) × IsPromised g run (Chance (Some chosen)) (shown print) file list before after status }
     ensures threads { (g : Geometry) (run : Run) (history : Option (Bor (List ℕ))) (file : List ℕ) (before after : Sinks) (status : ℕ) →
-        IsGivenInThreads g run history file before after status → IsPromised run file before after status }
+        IsGivenInThreads g run history file before after status → (list : List ℕ) × (n : ℕ) × HasSteps list n × TookAll before.file after.file (history_text history list)
+        × IsPromised g (with_steps run n) Turns Report file list before after status }
+    ensures one { (g : Geometry) (run : Run) (behind : Behind) (show : Show) (file list : List ℕ) (before after earlier later : Sinks) (status other : ℕ) → IsTold behind →
+        IsPromised g run behind show file list before after status → IsPromised g run behind show file list earlier later other →
+        (other ≡ status) × ((text : List ℕ) × TookAll before.output after.output text × TookAll earlier.output later.output text) }
 {}
 
 /// Where a search ends with status 0, all ends are told: for every cache, and for every list of core, eviction and delivery steps from where the file's
