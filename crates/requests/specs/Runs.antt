@@ -20,7 +20,7 @@ use Rattle.render.specs.Statuses.{IsStatusOf}
 
 -- the file with this name and these bytes has a program; so many steps, those that a list chooses and then turns, or what chance chooses, lead from the machine that it begins in to
 -- another, or fewer if there are no more; these are their moments, and the entries that they gave lead as a run of the flat machine from the program's first state to this one.
--- Each refusal and each abort for a conflict among them has its reason
+-- Each refusal, each spill, each abort for a conflict or a full log and each SC that stores among them has its reason
 pub record ComesBy (g : Geometry) (setup : Setup) (behind : Behind) (file list : List ℕ) (steps : ℕ) (moments : List Moment) (f : Flat) : Type 0 where
   pub program : Program
   pub holds : IsProgramIn setup.file.now file program

@@ -23,7 +23,7 @@ AreSerial start es = (before es_of_it after : List Entry) (i : ℕ) (u v : Flat)
     → IsRun u (others_of i es_of_it ++ own_of i es_of_it) v
 
 -- the steps that a run is asked for, those of a list and what comes after it, have just these moments. Their entries are a run of the flat machine from where the file's program begins
--- to this state, in which each refusal and each abort for a conflict has its reason; and each transaction among them is as if it ran alone
+-- to this state, in which each refusal, each spill, each abort for a conflict or a full log and each SC that stores has its reason; and each transaction among them is as if it ran alone
 pub record IsReached (g : Geometry) (run : Run) (behind : Behind) (file list : List ℕ) (moments : List Moment) (f : Flat) : Type 0 where
   pub comes : ComesBy g run.setup behind file list run.steps moments f
   pub serial : AreSerial (flat_start comes.program run.setup) (entries_of moments)

@@ -46,9 +46,9 @@ ghost use Rattle.requests.specs.Starts.{flat_start};
 use debugger::LineInput;
 
 /// The promise: of whatever a run shows, with status 0, 1 or 5, the report is one on a run of the flat machine: of one memory, in which each transaction is as
-/// if it ran alone, and each refusal and each abort for a conflict has its reason. The run begins where the file's program begins, and its entries are those
-/// of the steps that the request makes: of its schedule and then turns, of its seed, as its history says, or of the history of its threads. A trace that is
-/// shown has just those. Two promises of one request, whose choices are told, are of one text and one status.
+/// if it ran alone, and each refusal, each spill, each abort for a conflict or a full log and each SC that stores has its reason. The run begins where the
+/// file's program begins, and its entries are those of the steps that the request makes: of its schedule and then turns, of its seed, as its history says,
+/// or of the history of its threads. A trace that is shown has just those. Two promises of one request, whose choices are told, are of one text and one status.
 pub fn reports_are_of_the_flat_machine()
     ensures run { (g : Geometry) (run : Run) (behind : Behind) (show : Show) (file list : List ℕ) (before after : Sinks) (status : ℕ) →
         IsGiven g run behind show file list before after status → IsPromised g run behind show file list before after status }
