@@ -2,9 +2,9 @@
 #![tactic(auto)]
 
 use debugger::{LineInput, Typed};
-use simulate::{Fault, HostFiles, Live, Meter, Outlet, answer};
+use simulate::{Fault, HostFiles, Live, Meter, Outlet, Steady, answer};
 use std::env;
-use std::io::{ErrorKind, IsTerminal, Lock, Read, Write};
+use std::io::{ErrorKind, IsTerminal, Lock, Read};
 use std::process::ExitCode;
 use std::rt::{Env, Files};
 use std::sync::Wait;
@@ -47,9 +47,12 @@ fn answer_all<
     R: Env + Files + Threads + Wait + Sync + AllocGlobal,
     I: LineInput,
     P: Live,
-    W: Write + Drop,
+    W: Steady + Drop,
     E: Sink,
->(rt: &R, input: &mut I, prompt: &str, progress: &mut P, out: W, error: &mut E) -> u8 {
+>(rt: &R, input: &mut I, prompt: &str, progress: &mut P, out: W, error: &mut E) -> u8
+where
+    R::File: Steady,
+{
     let arguments = match arguments(rt) {
         Ok(arguments) => arguments,
         Err(fault) => return fault.tell(error),

@@ -7,5 +7,6 @@ pub mod Refusing
 pub mod Performing
 pub mod Quoting
 pub mod Telling
+pub mod Buffering
 pub mod Determined
 pub mod Numbered

@@ -8,6 +8,7 @@ pub mod Unreadable
 pub mod Conclusions
 pub mod Starts
 pub mod Begins
+pub mod Buffers
 pub mod Files
 pub mod Ends
 pub mod ProgressLines
@@ -17,3 +18,4 @@ pub mod Outputs
 pub mod EndTexts
 pub mod FileRequests
 pub mod NamedFiles
+pub mod Outlets

@@ -1,7 +1,8 @@
 -- The files that a request names: which they are, and how they are read and made.
-use Rattle.std.specs.Prelude.{ℕ, ◌≡◌, ◌<◌, ◌≤◌, ◌+◌, ◌⊎◌, Bool, true, false, IfSome, List, [], length, Option, Some, None}
+use Rattle.std.specs.Prelude.{ℕ, ◌≡◌, ◌<◌, ◌≤◌, ◌+◌, ◌⊎◌, Bool, true, false, IfSome, IsOk, List, [], length, Option, Some, None, Result, Ok, Err}
 use Rattle.std.specs.Borrow.{Bor}
-use Rattle.words.specs.Sinks.{IsPut, SinkState, TookAll, TookPart}
+use Rattle.words.specs.Sinks.{SinkState, TookAll, TookPart}
+use Rattle.words.specs.declared.sink.SinkFault.{SinkFault}
 use Rattle.command_line.specs.declared.request.Request.{Request}
 use Rattle.command_line.specs.declared.request.Request.TheVariants as request
 use Rattle.command_line.specs.declared.request.Show.{Show}
@@ -114,36 +115,44 @@ abbrev pub IsUnbegunIf : {S : Type 0} → (S → List ℕ → Type 0) → S → 
 IsUnbegunIf refuses s None fault = ⊥
 IsUnbegunIf refuses s (Some path) fault = IsUnbegunAt refuses s path fault
 
-module _ {S P : Type 0} (begins : S → List ℕ → S → P → Type 0) (ends : S → P → S → Type 0) (state : P → SinkState) where
+module _ {S P : Type 0} (begins : S → List ℕ → S → P → Type 0) (ends : S → P → Result Unit SinkFault → S → Type 0) (state : P → SinkState) where
   -- a file was begun, where one is asked for
   abbrev pub IsSheetFor : Option (Bor (List ℕ)) → S → S → Sheet P → Type 0
   IsSheetFor None s t sheet = (t ≡ s) × (sheet ≡ Nowhere)
   IsSheetFor (Some path) s t sheet = (page : P) × begins s path.now t page × (sheet ≡ Made page)
 
-  -- what a file kept back was written out, if it could be, and it is done
-  abbrev pub IsClosed : S → Sheet P → S → Type 0
-  IsClosed s Nowhere t = t ≡ s
-  IsClosed s (Made page) t = (closed : P) × IsPut (state page) (state closed) [] × ends s closed t
+  -- where one was begun it is done, and what it kept back was written out
+  abbrev pub IsClosed : Option (Bor (List ℕ)) → S → Sheet P → S → Type 0
+  IsClosed None s sheet t = t ≡ s
+  IsClosed (Some path) s Nowhere t = t ≡ s
+  IsClosed (Some path) s (Made page) t = ends s page (Ok tt) t
+
+  -- or that failed: the fault names its path
+  abbrev pub IsUnclosed : Option (Bor (List ℕ)) → S → Sheet P → Fault → S → Type 0
+  IsUnclosed None s sheet fault t = ⊥
+  IsUnclosed (Some path) s Nowhere fault t = ⊥
+  IsUnclosed (Some path) s (Made page) fault t = (fault ≡ Unmade path) × ((failed : SinkFault) × ends s page (Err failed) t)
 
   -- a file with this path was made of these bytes
   pub record IsFileMade (path bytes : List ℕ) (s t : S) : Type 0 where
     pub opened : S
     pub page : P
     pub begun : begins s path opened page
-    pub closed : P
-    pub took : TookAll (state page) (state closed) bytes
-    pub done : ends opened closed t
+    pub left : P
+    pub took : TookAll (state page) (state left) bytes
+    pub done : ends opened left (Ok tt) t
 
-  -- or of a beginning of them
+  -- or not whole: a put of them failed, or what was kept back could not be written out
   pub record IsFileCut (path bytes : List ℕ) (s t : S) : Type 0 where
     pub opened : S
     pub page : P
     pub begun : begins s path opened page
-    pub closed : P
-    pub took : TookPart (state page) (state closed) bytes
-    pub done : ends opened closed t
+    pub left : P
+    pub result : Result Unit SinkFault
+    pub took : TookPart (state page) (state left) bytes ⊎ (TookAll (state page) (state left) bytes × (IsOk result → ⊥))
+    pub done : ends opened left result t
 
-module _ {S P : Type 0} (refuses : S → List ℕ → Type 0) (begins : S → List ℕ → S → P → Type 0) (ends : S → P → S → Type 0) (state : P → SinkState) where
+module _ {S P : Type 0} (refuses : S → List ℕ → Type 0) (begins : S → List ℕ → S → P → Type 0) (ends : S → P → Result Unit SinkFault → S → Type 0) (state : P → SinkState) where
   -- why a file of these bytes wasn't made: it couldn't be begun, or not all of them were written
   abbrev pub IsFileUnmade : Bor (List ℕ) → List ℕ → S → Fault → S → Type 0
   IsFileUnmade path bytes s fault t = (IsUnbegunAt refuses s path fault × (t ≡ s)) ⊎ ((fault ≡ Unmade path) × IsFileCut begins ends state path.now bytes s t)

@@ -6,7 +6,7 @@ ghost use Rattle.requests.specs.Sources.{IsSourceFault};
 
 use crate::fault::Fault;
 use crate::live::Live;
-use crate::page::Page;
+use crate::page::Buffered;
 use crate::search::find_ends;
 use crate::source::program_of_source;
 use command_line::Request;
@@ -25,7 +25,7 @@ pub struct Outcome {
 }
 
 /// Carries out a request that needs no machine.
-pub fn on_file<'a, P: Live, T: Page, O: Sink>(
+pub fn on_file<'a, P: Live, T: Buffered, O: Sink>(
     alloc: Global,
     request: &Request<'a>,
     file: &'a [u8],

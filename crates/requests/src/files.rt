@@ -2,15 +2,15 @@
 ghost use Rattle.std.specs.Prelude.{◌≡◌, MatchResult};
 ghost use Rattle.std.specs.Option.{option_map};
 ghost use Rattle.texts.specs.Puts.{Puts};
-ghost use Rattle.requests.specs.NamedFiles.{file_of, schedule_of, page_of, target_of, SparesInputs, IsOverwriting, IsReadAt, IsUnreadAt, IsReadIf, IsUnreadIf, IsUnbegunAt, IsUnbegunIf, IsSheetFor, IsClosed, IsFileMade, IsFileUnmade, IsImageMade, IsImageUnmade};
+ghost use Rattle.requests.specs.NamedFiles.{file_of, schedule_of, page_of, target_of, SparesInputs, IsOverwriting, IsReadAt, IsUnreadAt, IsReadIf, IsUnreadIf, IsUnbegunAt, IsUnbegunIf, IsSheetFor, IsClosed, IsUnclosed, IsFileMade, IsFileUnmade, IsImageMade, IsImageUnmade};
 
 use crate::fault::Fault;
 use crate::file_requests::Outcome;
-use crate::page::{Page, Sheet};
+use crate::page::Sheet;
 use crate::store::{Store, StoreFault};
 use command_line::{Request, Show, Way};
 use std::alloc::Global;
-use words::SinkFault;
+use words::{Sink, SinkFault};
 
 /// How many bytes a program, a source or a schedule may have: 32 MiB.
 const MOST_BYTES: usize = 33_554_432;
@@ -147,17 +147,22 @@ fn begin<'a, S: Store>(store: &mut S, path: &'a str) -> Result<S::Page, Fault<'a
     }
 }
 
-/// Has written out what a file kept back: where memory ran out, not all was written by then. And the file is done.
-pub fn close<S: Store>(store: &mut S, sheet: Sheet<S::Page>)
-    ensures { IsClosed S.begins S.ends S.Page.state store.old sheet store.new }
+/// A file at a path is done, where one was begun. It fails where what it kept back can't be written out.
+pub fn close<'a, S: Store>(
+    store: &mut S,
+    path: Option<&'a str>,
+    sheet: Sheet<S::Page>,
+) -> Result<(), Fault<'a>>
+    ensures { MatchResult result
+        (λ _. IsClosed S.begins S.ends S.Page.state path.entry store.old sheet store.new)
+        (λ fault. IsUnclosed S.begins S.ends S.Page.state path.entry store.old sheet fault store.new) }
 {
-    match sheet {
-        Sheet::Made(page) => {
-            let mut page = page;
-            let _ = page.flush();
-            store.end(page);
-        }
-        Sheet::Nowhere => {}
+    match (path, sheet) {
+        (Some(path), Sheet::Made(page)) => match store.end(page) {
+            Ok(()) => Ok(()),
+            Err(_) => Err(Fault::Unmade(path)),
+        },
+        _ => Ok(()),
     }
 }
 
@@ -184,18 +189,13 @@ fn make_file<'a, S: Store>(store: &mut S, path: &'a str, bytes: &[u8]) -> Result
         (λ fault. IsFileUnmade S.refuses S.begins S.ends S.Page.state path.entry bytes.now store.old fault store.new) }
 {
     let mut page = begin(store, path)?;
-    let written = put_whole(&mut page, bytes);
-    store.end(page);
-    match written {
-        Ok(()) => Ok(()),
+    let put = page.put(bytes);
+    let ended = store.end(page);
+    match put {
+        Ok(()) => match ended {
+            Ok(()) => Ok(()),
+            Err(_) => Err(Fault::Unmade(path)),
+        },
         Err(_) => Err(Fault::Unmade(path)),
     }
-}
-
-/// Puts bytes, and has them written out.
-fn put_whole<P: Page>(page: &mut P, bytes: &[u8]) -> Result<(), SinkFault>
-    ensures { Puts (P.state page.old) (P.state page.new) bytes.now result }
-{
-    page.put(bytes)?;
-    page.flush()
 }

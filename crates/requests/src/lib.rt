@@ -23,5 +23,5 @@ pub use fault::{Fault, RefusedLine, put_line};
 pub use file_requests::{Outcome, on_file};
 pub use live::Live;
 pub use meter::Meter;
-pub use page::{Outlet, Page, Sheet};
+pub use page::{Buffered, Outlet, Sheet, Steady};
 pub use store::{HostFiles, Store, StoreFault};

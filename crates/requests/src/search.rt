@@ -1,17 +1,18 @@
 //! The search of all ends of a program.
-ghost use Rattle.std.specs.Prelude.{◌≡◌, ◌<◌, ℕ, List, MatchResult, length};
+ghost use Rattle.std.specs.Prelude.{◌≡◌, ◌<◌, ℕ, List, MatchResult, OnOk, length};
 ghost use Rattle.std.specs.Option.{option_map};
 ghost use Rattle.outcomes.specs.Searches.{setting_at, IsSearch};
 ghost use Rattle.render.specs.Reports.{AllReadable};
 ghost use Rattle.texts.specs.Puts.{Puts};
 ghost use Rattle.outcomes.specs.Ends.{AreEndsOf};
+ghost use Rattle.requests.specs.Buffers.{IsHandedOn};
 ghost use Rattle.requests.specs.Ends.{search_status, states_told, end_numbered, lines_of, IsSearched, IsUnsearched, IsRunPut, IsRunUnput, IsWitnessed, IsUnwitnessed, AreEndsGiven, AreEndsNotGiven, AreEndsTold, AreEndsUntold};
 ghost use Rattle.requests.specs.Runs.{addresses};
 
 use crate::ends_text::put_ends;
 use crate::fault::Fault;
 use crate::live::{Live, StateGauge};
-use crate::page::Page;
+use crate::page::Buffered;
 use crate::readable::readable;
 use crate::source::program_in;
 use command_line::{Search, Witness};
@@ -30,7 +31,7 @@ struct Searched {
 
 /// Searches all ends of the program in a file, given its bytes, and puts the reports on them into `out`; and into `page` a run to one of them, if one is
 /// asked for. Progress is told on the way. It answers the status that the program ends with: 0 if these are all ends, 5 if there were more states than it may meet.
-pub(crate) fn find_ends<'a, P: Live, T: Page, O: Sink>(
+pub(crate) fn find_ends<'a, P: Live, T: Buffered, O: Sink>(
     alloc: Global,
     asked: &Search<'a>,
     file: &'a [u8],
@@ -52,7 +53,7 @@ pub(crate) fn find_ends<'a, P: Live, T: Page, O: Sink>(
 
 /// Puts the reports on all ends that a search found into `out`; and into `page` a run to one of them, if one is asked for. It answers the status that
 /// the program ends with.
-fn tell_ends<'a, T: Page, O: Sink>(
+fn tell_ends<'a, T: Buffered, O: Sink>(
     alloc: Global,
     asked: &Search<'a>,
     found: &Searched,
@@ -122,7 +123,7 @@ fn end_numbered(ends: &[End], number: u32) -> Option<&End>
 }
 
 /// Puts a run to an end, if one is asked for, and has it written out.
-fn put_witness<'a, T: Page>(
+fn put_witness<'a, T: Buffered>(
     alloc: Global,
     asked: Option<Witness<'a>>,
     outcomes: &Outcomes,
@@ -145,7 +146,7 @@ fn put_witness<'a, T: Page>(
 }
 
 /// Puts the lines of a run to the state at a place, and has them written out. If that fails, the fault names the path of the file.
-fn put_run<'a, T: Page>(
+fn put_run<'a, T: Buffered>(
     alloc: Global,
     outcomes: &Outcomes,
     place: usize,
@@ -167,8 +168,13 @@ fn put_run<'a, T: Page>(
 }
 
 /// Puts the lines of entries, and has them written out.
-fn put_lines<T: Page>(names: &Symbols<'_>, entries: &[Entry], page: &mut T) -> Result<(), SinkFault>
-    ensures { Puts (T.state page.old) (T.state page.new) (lines_of names.now entries.now) result }
+fn put_lines<T: Buffered>(
+    names: &Symbols<'_>,
+    entries: &[Entry],
+    page: &mut T,
+) -> Result<(), SinkFault>
+    ensures lines { Puts (T.state page.old) (T.state page.new) (lines_of names.now entries.now) result }
+    ensures written { OnOk result (IsHandedOn (T.handed page.new) (T.kept page.new) (T.state page.new)) }
 {
     put_entries(names, entries, page)?;
     page.flush()

@@ -1,14 +1,19 @@
 //! The files that the program reads and makes, by their paths.
-ghost use Rattle.std.specs.Prelude.{◌≡◌, ⊤, ℕ, Bool, List, OnErr, MatchResult};
+ghost use Rattle.std.specs.Prelude.{◌≡◌, ⊤, ℕ, Bool, List, Result, [], OnErr, OnOk, IfOk, IfSome, MatchResult, take};
+ghost use Rattle.words.specs.declared.sink.SinkFault.{SinkFault as PutFault};
+ghost use Rattle.texts.specs.Puts.{Puts};
+ghost use Rattle.requests.specs.Buffers.{IsHandedOn};
 ghost use Rattle.requests.specs.Stored.{IsRefusedIf};
 
-use crate::page::{Outlet, Page};
+use crate::page::{Buffered, Outlet, Steady};
+use std::alloc::Global;
 use std::fs::File;
 use std::io::{ErrorKind, Read};
 use std::os::unix::fs::MetadataExt;
 use std::rt::Files;
 use std::{fs, io};
 use thiserror::Error;
+use words::SinkFault;
 
 /// Why a file was not read, or not begun.
 #[derive(Clone, Copy, Debug, PartialEq, Eq, Error)]
@@ -23,7 +28,7 @@ pub enum StoreFault {
 /// Files by their paths: those that the program reads, and those that it makes.
 pub trait Store {
     /// A file that is being made.
-    type Page: Page + Drop;
+    type Page: Buffered + Drop;
 
     /// From the file with a path so many bytes are read at most, and these were.
     ghost reads: { Self → List ℕ → ℕ → List ℕ → Type 0 };
@@ -37,8 +42,8 @@ pub trait Store {
     /// A file with a path was begun.
     ghost begins: { Self → List ℕ → Self → Self.Page → Type 0 };
 
-    /// A file that was being made is done.
-    ghost ends: { Self → Self.Page → Self → Type 0 };
+    /// A file that was being made is done, once what it kept back was written out, or that failed.
+    ghost ends: { Self → Self.Page → Result Unit PutFault → Self → Type 0 };
 
     /// Reads a file, and so many bytes of it at most.
     fn read(&self, path: &str, most: usize) -> Result<Vec<u8>, StoreFault>
@@ -53,9 +58,14 @@ pub trait Store {
         ensures begun { MatchResult result (begins self.old path.now self.new) (IsRefusedIf (refuses self.old path.now)) }
         ensures stays { OnErr result (self.new ≡ self.old) };
 
-    /// A file is done.
-    fn end(&mut self, page: Self::Page)
-        ensures { ends self.old page self.new };
+    /// A file is done: what it kept back is written out. The error is that it couldn't be.
+    fn end(&mut self, page: Self::Page) -> Result<(), SinkFault>
+        ensures { ends self.old page result self.new };
+
+    /// Of a file that is done nothing is kept back, unless writing it out failed.
+    ghost written: { (before after : Self) (page : Self.Page) (result : Result Unit PutFault) → ends before page result after
+        → (closed : Self.Page) × Puts (Self.Page.state page) (Self.Page.state closed) [] result
+        × OnOk result (IsHandedOn (Self.Page.handed closed) (Self.Page.kept closed) (Self.Page.state closed)) };
 }
 
 /// The host's files. What they hold, no clause can say.
@@ -64,7 +74,12 @@ pub struct HostFiles<'r, R> {
     pub host: &'r R,
 }
 
-impl<R: Files + AllocGlobal> Store for HostFiles<'_, R> {
+impl<R: Files + AllocGlobal> Store for HostFiles<'_, R>
+where
+    R::File: Steady,
+{
+    ghost use Rattle.requests.specs.Outlets.{IsFlushed};
+
     type Page = Outlet<R::File>;
 
     ghost reads = { λ _ _ _ _. ⊤ };
@@ -75,7 +90,9 @@ impl<R: Files + AllocGlobal> Store for HostFiles<'_, R> {
 
     ghost begins = { λ s _ t _. t ≡ s };
 
-    ghost ends = { λ s _ t. t ≡ s };
+    ghost ends = { λ s page result t. (t ≡ s) × IsFlushed R.File.contents page result };
+
+    ghost written = { λ _ _ _ _ done. done.1 };
 
     fn read(&self, path: &str, most: usize) -> Result<Vec<u8>, StoreFault> {
         match read_beginning(self.host, path, most) {
@@ -105,7 +122,10 @@ impl<R: Files + AllocGlobal> Store for HostFiles<'_, R> {
         }
     }
 
-    fn end(&mut self, _page: Outlet<R::File>) {}
+    fn end(&mut self, page: Outlet<R::File>) -> Result<(), SinkFault> {
+        let mut page = page;
+        page.flush()
+    }
 }
 
 /// Why the host did not let a file be.
@@ -117,15 +137,21 @@ fn fault_of(error: &io::Error) -> StoreFault {
     }
 }
 
-/// The first bytes of a file, which may have no end.
+/// The first bytes of a file.
 fn read_beginning<R: Files + AllocGlobal>(
     host: &R,
     path: &str,
     most: usize,
 ) -> io::Result<Vec<u8>> {
-    let mut bytes = Vec::new(host.alloc());
-    File::open(host, path)?
-        .take(most as u64)
-        .read_to_end(&mut bytes)?;
+    let file = File::open(host, path)?;
+    first_bytes(host.alloc(), file, most)
+}
+
+/// The first bytes that a reader gives, which may have no end.
+fn first_bytes<F: Read + Drop>(alloc: Global, reader: F, most: usize) -> io::Result<Vec<u8>>
+    ensures { IfOk result (λ bytes. IfSome (F.remaining reader) (λ left. bytes.items ≡ take most left)) }
+{
+    let mut bytes = Vec::new(alloc);
+    reader.take(most as u64).read_to_end(&mut bytes)?;
     Ok(bytes)
 }

@@ -1,6 +1,7 @@
 -- What comes of the words of a command line: what is read and made of files, put into standard output and told, and the status.
-use Rattle.std.specs.Prelude.{ℕ, ◌≡◌, ◌⊎◌, Bool, List, [], Option}
+use Rattle.std.specs.Prelude.{ℕ, ◌≡◌, ◌⊎◌, Bool, List, [], Option, Result}
 use Rattle.words.specs.Sinks.{IsPut, SinkState, TookAll, TookPart}
+use Rattle.words.specs.declared.sink.SinkFault.{SinkFault}
 use Rattle.command_line.specs.Reading.{IsRequestOf, IsFaultOf}
 use Rattle.command_line.specs.declared.fault.OrderFault.{OrderFault}
 use Rattle.command_line.specs.declared.request.Request.{Request}
@@ -10,7 +11,7 @@ use Rattle.render.specs.Statuses.{IsReported}
 use Rattle.simulate.specs.Carried.{IsCarriedOut}
 use Rattle.requests.specs.Begins.{CanShow, IsUnready}
 use Rattle.requests.specs.Faults.{fault_status, fault_text, of_order}
-use Rattle.requests.specs.NamedFiles.{file_of, schedule_of, page_of, SparesInputs, IsOverwriting, IsReadAt, IsUnreadAt, IsReadIf, IsUnreadIf, IsUnbegunIf, IsSheetFor, IsClosed, IsImageMade, IsImageUnmade}
+use Rattle.requests.specs.NamedFiles.{file_of, schedule_of, page_of, SparesInputs, IsOverwriting, IsReadAt, IsUnreadAt, IsReadIf, IsUnreadIf, IsUnbegunIf, IsSheetFor, IsClosed, IsUnclosed, IsImageMade, IsImageUnmade}
 use Rattle.requests.specs.Sheets.{state_of}
 use Rattle.requests.specs.declared.fault.Fault.{Fault}
 use Rattle.requests.specs.declared.fault.Fault.TheVariants.{Asked, Unwritten}
@@ -52,27 +53,38 @@ abbrev pub IsSaid : Fault → SinkState → SinkState → ℕ → SinkState → 
 IsSaid (Asked text) output error status printed told = IsPrinted (fault_text (Asked text)) output error status printed told
 IsSaid fault output error status printed told = IsTold fault error status told × (printed ≡ output)
 
-module _ {S I P : Type 0} (joins : S → List ℕ → List ℕ → Bool → Type 0) (reads : S → List ℕ → ℕ → List ℕ → Type 0) (refuses : S → List ℕ → Type 0) (begins : S → List ℕ → S → P → Type 0) (ends : S → P → S → Type 0)
+module _ {S I P : Type 0} (joins : S → List ℕ → List ℕ → Bool → Type 0) (reads : S → List ℕ → ℕ → List ℕ → Type 0) (refuses : S → List ℕ → Type 0) (begins : S → List ℕ → S → P → Type 0) (ends : S → P → Result Unit SinkFault → S → Type 0)
     (state : P → SinkState) (gives : Giving I) (prompt : List ℕ) where
   module _ (request : Request) (file list : List ℕ) where
-    -- it was carried out, with the file of a view, a history or a run begun before and done behind it
-    abbrev pub IsCarried : World S I → ℕ → Option (List ℕ) → World S I → Type 0
-    IsCarried v status image w = (opened : S) × (sheet left : Sheet P) × IsSheetFor begins ends state (page_of request) v.store opened sheet
+    -- it was carried out, with the file of a view, a history or a run begun before; this is that file as it was left
+    abbrev pub IsCarriedTo : World S I → ℕ → Option (List ℕ) → S → Sheet P → World S I → Type 0
+    IsCarriedTo v status image opened left w = (sheet : Sheet P) × IsSheetFor begins ends state (page_of request) v.store opened sheet
         × IsCarriedOut gives file list prompt v.input w.input (record { output = v.output; file = state_of state sheet }) (record { output = w.output; file = state_of state left })
         v.error w.error request status image
-        × IsClosed begins ends state opened left w.store
+
+    -- and the file was written out, unless the status is no report's
+    abbrev pub IsCarried : World S I → ℕ → Option (List ℕ) → World S I → Type 0
+    IsCarried v status image w = (opened : S) × (left : Sheet P) × IsCarriedTo v status image opened left w
+        × (IsClosed begins ends state (page_of request) opened left w.store
+        ⊎ ((fault : Fault) × IsUnclosed begins ends state (page_of request) opened left fault w.store × (IsReported status → ⊥)))
+
+    -- or it could not be written out after a report
+    abbrev pub IsUnfinished : World S I → Fault → World S I → Type 0
+    IsUnfinished v fault w = (status : ℕ) × (image : Option (List ℕ)) × (opened : S) × (left : Sheet P) × IsCarriedTo v status image opened left w
+        × IsUnclosed begins ends state (page_of request) opened left fault w.store × IsReported status
 
     -- all was made, with this status
     abbrev pub IsMadeOf : World S I → ℕ → World S I → Type 0
     IsMadeOf v status w = (image : Option (List ℕ)) × (u x : World S I) × IsCarried v status image u × IsWrittenOut u status x
         × IsImageMade refuses begins ends state request image x.store w.store × (w ≡ record x { store = w.store })
 
-    -- or not: a file couldn't be begun, and nothing was made; or standard output could not be written behind a report; or the file that is asked for could not be made
+    -- or not: a file couldn't be begun, and nothing was made; or it couldn't be written out after a report; or standard output could not be written behind a report; or the file that is asked for could not be made
     abbrev pub IsUnmadeOf : World S I → Fault → World S I → Type 0
     IsUnmadeOf v fault w = (IsUnbegunIf refuses v.store (page_of request) fault × (w ≡ v))
+        ⊎ (IsUnfinished v fault w
         ⊎ ((status : ℕ) × (image : Option (List ℕ)) × (u : World S I) × IsCarried v status image u
         × (((fault ≡ Unwritten) × IsReported status × TookPart u.output w.output [] × (w ≡ record u { output = w.output }))
-        ⊎ ((x : World S I) × IsWrittenOut u status x × IsImageUnmade refuses begins ends state request image x.store fault w.store × (w ≡ record x { store = w.store }))))
+        ⊎ ((x : World S I) × IsWrittenOut u status x × IsImageUnmade refuses begins ends state request image x.store fault w.store × (w ≡ record x { store = w.store })))))
 
   -- the user is told why a run couldn't begin even if its schedule were read, and the status is that fault's
   abbrev pub IsToldUnready : Request → List ℕ → World S I → ℕ → World S I → Type 0

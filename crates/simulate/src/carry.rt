@@ -11,7 +11,7 @@ use crate::steps::run_by_steps;
 use crate::threads::run_in_threads;
 use command_line::{Cache, Request, Run, Way};
 use debugger::LineInput;
-use requests::{Fault, Live, Outcome, Page, on_file};
+use requests::{Buffered, Fault, Live, Outcome, on_file};
 use schedule::Turns;
 use std::alloc::Global;
 use std::sync::Wait;
@@ -24,7 +24,7 @@ use words::Sink;
 /// `input`, and asks for each line by a prompt. The progress of a run by turns is told while it goes on, unless its trace goes into `out`.
 ///
 /// Memory may run out at any time, which gives 6: no clause says when.
-pub fn carry_out<R: Threads + Wait + Sync, I: LineInput, P: Live, T: Page, O: Sink, E: Sink>(
+pub fn carry_out<R: Threads + Wait + Sync, I: LineInput, P: Live, T: Buffered, O: Sink, E: Sink>(
     rt: &R,
     alloc: Global,
     request: &Request<'_>,
@@ -54,7 +54,15 @@ pub fn carry_out<R: Threads + Wait + Sync, I: LineInput, P: Live, T: Page, O: Si
 }
 
 /// Carries out a request, without telling of a fault.
-fn try_carry_out<'a, R: Threads + Wait + Sync, I: LineInput, P: Live, T: Page, O: Sink, E: Sink>(
+fn try_carry_out<
+    'a,
+    R: Threads + Wait + Sync,
+    I: LineInput,
+    P: Live,
+    T: Buffered,
+    O: Sink,
+    E: Sink,
+>(
     rt: &R,
     alloc: Global,
     request: &Request<'a>,
@@ -111,7 +119,17 @@ fn cache_of(request: &Request<'_>) -> Option<Cache>
 }
 
 /// Carries out a request on a machine with caches of SETS sets of WAYS ways.
-fn on_machine<'a, const SETS: usize, const WAYS: usize, R, I, P: Live, T: Page, O: Sink, E: Sink>(
+fn on_machine<
+    'a,
+    const SETS: usize,
+    const WAYS: usize,
+    R,
+    I,
+    P: Live,
+    T: Buffered,
+    O: Sink,
+    E: Sink,
+>(
     rt: &R,
     alloc: Global,
     request: &Request<'a>,
@@ -155,7 +173,7 @@ where
 }
 
 /// Makes a run in its way.
-fn make_run<'a, const SETS: usize, const WAYS: usize, R, P: Live, T: Page, O: Sink>(
+fn make_run<'a, const SETS: usize, const WAYS: usize, R, P: Live, T: Buffered, O: Sink>(
     rt: &R,
     alloc: Global,
     run: &Run<'a>,

@@ -1,11 +1,12 @@
 //! The words of a command line, answered.
-ghost use Rattle.std.specs.Prelude.{◌≡◌, [], MatchResult, map};
+ghost use Rattle.std.specs.Prelude.{◌≡◌, ◌⊎◌, [], IfOk, MatchResult, OnOk, map};
 ghost use Rattle.std.specs.Option.{option_map};
 ghost use Rattle.words.specs.Sinks.{IsPut, TookPart};
 ghost use Rattle.texts.specs.Puts.{Puts};
 ghost use Rattle.render.specs.Statuses.{IsReported};
+ghost use Rattle.requests.specs.Buffers.{IsHandedOn};
 ghost use Rattle.requests.specs.NamedFiles.{page_of, IsUnbegunIf};
-ghost use Rattle.simulate.specs.Answered.{IsUnreadyOf, IsReadyOf, IsWritten, IsCarried, IsMadeOf, IsUnmadeOf, IsServed, IsUnserved, IsObeyed, IsDisobeyed, IsSaid, IsAnswered};
+ghost use Rattle.simulate.specs.Answered.{IsUnreadyOf, IsReadyOf, IsWritten, IsCarried, IsUnfinished, IsMadeOf, IsUnmadeOf, IsServed, IsUnserved, IsObeyed, IsDisobeyed, IsSaid, IsAnswered};
 ghost use Rattle.requests.specs.Faults.{fault_status, fault_text};
 ghost use Rattle.requests.specs.declared.fault.Fault.{Fault as TheFault};
 ghost use Rattle.requests.specs.declared.fault.Fault.TheVariants.{Unwritten};
@@ -18,7 +19,7 @@ use requests::begin::check_run;
 use requests::files::{
     close, file_of, make_image, page_of, read, read_if_any, schedule_of, sheet_for, spare_inputs,
 };
-use requests::{Fault, Live, Outcome, Page, Store};
+use requests::{Buffered, Fault, Live, Outcome, Store};
 use std::alloc::Global;
 use std::sync::Wait;
 use std::thread::Threads;
@@ -28,7 +29,7 @@ use words::{Sink, SinkFault};
 /// Answers the words of a command line, the program's name first: reads the files that they name, has the request carried out, and makes the
 /// file that it asks for. What it prints goes into `out`, and what the user is told into `error`. The lines of an input debug a program, each asked
 /// for by a prompt. It gives the status that the program ends with.
-pub fn answer<R: Threads + Wait + Sync, S: Store, I: LineInput, P: Live, O: Page, E: Sink>(
+pub fn answer<R: Threads + Wait + Sync, S: Store, I: LineInput, P: Live, O: Buffered, E: Sink>(
     rt: &R,
     alloc: Global,
     words: &[&str],
@@ -39,9 +40,11 @@ pub fn answer<R: Threads + Wait + Sync, S: Store, I: LineInput, P: Live, O: Page
     out: &mut O,
     error: &mut E,
 ) -> u8
-    ensures { IsAnswered S.joins S.reads S.refuses S.begins S.ends S.Page.state I.gives prompt.now (map (λ w. w.now) words.now)
+    ensures answered { IsAnswered S.joins S.reads S.refuses S.begins S.ends S.Page.state I.gives prompt.now (map (λ w. w.now) words.now)
         (record { store = store.old; input = input.old; output = O.state out.old; error = E.state error.old }) result
         (record { store = store.new; input = input.new; output = O.state out.new; error = E.state error.new }) }
+    // With the status of a report, standard output keeps nothing back.
+    ensures handed_on { IsReported result → IsHandedOn (O.handed out.new) (O.kept out.new) (O.state out.new) }
 {
     match obey(rt, alloc, words, store, input, prompt, progress, out, error) {
         Ok(status) => status,
@@ -50,8 +53,9 @@ pub fn answer<R: Threads + Wait + Sync, S: Store, I: LineInput, P: Live, O: Page
 }
 
 /// Prints what clap was asked for, and tells the user of any other fault. It answers the status.
-fn say<O: Page, E: Sink>(fault: &Fault<'_>, out: &mut O, error: &mut E) -> u8
-    ensures { IsSaid fault.now (O.state out.old) (E.state error.old) result (O.state out.new) (E.state error.new) }
+fn say<O: Buffered, E: Sink>(fault: &Fault<'_>, out: &mut O, error: &mut E) -> u8
+    ensures said { IsSaid fault.now (O.state out.old) (E.state error.old) result (O.state out.new) (E.state error.new) }
+    ensures handed_on { IsReported result → IsHandedOn (O.handed out.new) (O.kept out.new) (O.state out.new) }
 {
     match fault {
         Fault::Asked(_) => match print(fault, out) {
@@ -63,15 +67,16 @@ fn say<O: Page, E: Sink>(fault: &Fault<'_>, out: &mut O, error: &mut E) -> u8
 }
 
 /// Prints what there is to say of a fault.
-fn print<O: Page>(fault: &Fault<'_>, out: &mut O) -> Result<(), SinkFault>
-    ensures { Puts (O.state out.old) (O.state out.new) (fault_text fault.now) result }
+fn print<O: Buffered>(fault: &Fault<'_>, out: &mut O) -> Result<(), SinkFault>
+    ensures puts { Puts (O.state out.old) (O.state out.new) (fault_text fault.now) result }
+    ensures handed_on { OnOk result (IsHandedOn (O.handed out.new) (O.kept out.new) (O.state out.new)) }
 {
     fault.put(out)?;
     out.flush()
 }
 
 /// Answers the words, without telling of a fault that [`carry_out`] doesn't meet.
-fn obey<'a, R: Threads + Wait + Sync, S: Store, I: LineInput, P: Live, O: Page, E: Sink>(
+fn obey<'a, R: Threads + Wait + Sync, S: Store, I: LineInput, P: Live, O: Buffered, E: Sink>(
     rt: &R,
     alloc: Global,
     words: &'a [&'a str],
@@ -82,13 +87,14 @@ fn obey<'a, R: Threads + Wait + Sync, S: Store, I: LineInput, P: Live, O: Page, 
     out: &mut O,
     error: &mut E,
 ) -> Result<u8, Fault<'a>>
-    ensures { MatchResult result
+    ensures obeyed { MatchResult result
         (λ status. IsObeyed S.joins S.reads S.refuses S.begins S.ends S.Page.state I.gives prompt.now (map (λ w. w.now) words.entry.now)
         (record { store = store.old; input = input.old; output = O.state out.old; error = E.state error.old }) status
         (record { store = store.new; input = input.new; output = O.state out.new; error = E.state error.new }))
         (λ fault. IsDisobeyed S.joins S.reads S.refuses S.begins S.ends S.Page.state I.gives prompt.now (map (λ w. w.now) words.entry.now)
         (record { store = store.old; input = input.old; output = O.state out.old; error = E.state error.old }) fault
         (record { store = store.new; input = input.new; output = O.state out.new; error = E.state error.new })) }
+    ensures handed_on { IfOk result (λ status. IsReported status → IsHandedOn (O.handed out.new) (O.kept out.new) (O.state out.new)) }
 {
     let request = parse(alloc, words)?;
     spare_inputs(store, &request)?;
@@ -98,7 +104,7 @@ fn obey<'a, R: Threads + Wait + Sync, S: Store, I: LineInput, P: Live, O: Page, 
 }
 
 /// Reads the files that a request names, and makes what it asks for. It answers the status.
-fn serve<'a, R: Threads + Wait + Sync, S: Store, I: LineInput, P: Live, O: Page, E: Sink>(
+fn serve<'a, R: Threads + Wait + Sync, S: Store, I: LineInput, P: Live, O: Buffered, E: Sink>(
     rt: &R,
     alloc: Global,
     request: &Request<'a>,
@@ -109,13 +115,14 @@ fn serve<'a, R: Threads + Wait + Sync, S: Store, I: LineInput, P: Live, O: Page,
     out: &mut O,
     error: &mut E,
 ) -> Result<u8, Fault<'a>>
-    ensures { MatchResult result
+    ensures served { MatchResult result
         (λ status. IsServed S.joins S.reads S.refuses S.begins S.ends S.Page.state I.gives prompt.now request.now
         (record { store = store.old; input = input.old; output = O.state out.old; error = E.state error.old }) status
         (record { store = store.new; input = input.new; output = O.state out.new; error = E.state error.new }))
         (λ fault. IsUnserved S.joins S.reads S.refuses S.begins S.ends S.Page.state I.gives prompt.now request.now
         (record { store = store.old; input = input.old; output = O.state out.old; error = E.state error.old }) fault
         (record { store = store.new; input = input.new; output = O.state out.new; error = E.state error.new })) }
+    ensures handed_on { IfOk result (λ status. IsReported status → IsHandedOn (O.handed out.new) (O.kept out.new) (O.state out.new)) }
 {
     let file = read(store, file_of(request))?;
     match read_if_any(alloc, store, schedule_of(request)) {
@@ -135,9 +142,10 @@ fn tell_unready<'a, E: Sink>(
     unread: Fault<'a>,
     error: &mut E,
 ) -> Result<u8, Fault<'a>>
-    ensures { MatchResult result
+    ensures told { MatchResult result
         (λ status. (why : TheFault) × IsUnreadyOf request.now file.now why × (status ≡ fault_status why) × IsPut (E.state error.old) (E.state error.new) (fault_text why))
         (λ fault. (fault ≡ unread.entry) × IsReadyOf request.now file.now × (error.new ≡ error.old)) }
+    ensures unreported { IfOk result (λ status. IsReported status → ⊥) }
 {
     let Request::Run(run) = request else {
         return Err(unread);
@@ -149,7 +157,7 @@ fn tell_unready<'a, E: Sink>(
 }
 
 /// Makes what a request asks for, given the bytes of its file and of its schedule. It answers the status.
-fn make<'a, R: Threads + Wait + Sync, S: Store, I: LineInput, P: Live, O: Page, E: Sink>(
+fn make<'a, R: Threads + Wait + Sync, S: Store, I: LineInput, P: Live, O: Buffered, E: Sink>(
     rt: &R,
     alloc: Global,
     request: &Request<'a>,
@@ -162,13 +170,14 @@ fn make<'a, R: Threads + Wait + Sync, S: Store, I: LineInput, P: Live, O: Page, 
     out: &mut O,
     error: &mut E,
 ) -> Result<u8, Fault<'a>>
-    ensures { MatchResult result
+    ensures made { MatchResult result
         (λ status. IsMadeOf S.joins S.reads S.refuses S.begins S.ends S.Page.state I.gives prompt.now request.now file.now list.now
         (record { store = store.old; input = input.old; output = O.state out.old; error = E.state error.old }) status
         (record { store = store.new; input = input.new; output = O.state out.new; error = E.state error.new }))
         (λ fault. IsUnmadeOf S.joins S.reads S.refuses S.begins S.ends S.Page.state I.gives prompt.now request.now file.now list.now
         (record { store = store.old; input = input.old; output = O.state out.old; error = E.state error.old }) fault
         (record { store = store.new; input = input.new; output = O.state out.new; error = E.state error.new })) }
+    ensures handed_on { IfOk result (λ status. IsReported status → IsHandedOn (O.handed out.new) (O.kept out.new) (O.state out.new)) }
 {
     let outcome = carry(
         rt, alloc, request, file, list, store, input, prompt, progress, out, error,
@@ -178,8 +187,9 @@ fn make<'a, R: Threads + Wait + Sync, S: Store, I: LineInput, P: Live, O: Page, 
     Ok(outcome.status)
 }
 
-/// Has a request carried out, with the file of a view, of a history or of a run begun before. The error is that this file could not be begun.
-fn carry<'a, R: Threads + Wait + Sync, S: Store, I: LineInput, P: Live, O: Page, E: Sink>(
+/// Has a request carried out, with the file of a view, of a history or of a run begun before and done after it. The error is that this file could not
+/// be begun; or, after a report, that what it kept back could not be written out.
+fn carry<'a, R: Threads + Wait + Sync, S: Store, I: LineInput, P: Live, O: Buffered, E: Sink>(
     rt: &R,
     alloc: Global,
     request: &Request<'a>,
@@ -196,24 +206,39 @@ fn carry<'a, R: Threads + Wait + Sync, S: Store, I: LineInput, P: Live, O: Page,
         (λ o. IsCarried S.joins S.reads S.refuses S.begins S.ends S.Page.state I.gives prompt.now request.now file.now list.now
         (record { store = store.old; input = input.old; output = O.state out.old; error = E.state error.old }) o.status (option_map (λ image. image.items) o.image)
         (record { store = store.new; input = input.new; output = O.state out.new; error = E.state error.new }))
-        (λ fault. IsUnbegunIf S.refuses store.old (page_of request.now) fault × (store.new ≡ store.old) × (input.new ≡ input.old) × (out.new ≡ out.old) × (error.new ≡ error.old)) }
+        (λ fault. (IsUnbegunIf S.refuses store.old (page_of request.now) fault × (store.new ≡ store.old) × (input.new ≡ input.old) × (out.new ≡ out.old) × (error.new ≡ error.old))
+        ⊎ IsUnfinished S.joins S.reads S.refuses S.begins S.ends S.Page.state I.gives prompt.now request.now file.now list.now
+        (record { store = store.old; input = input.old; output = O.state out.old; error = E.state error.old }) fault
+        (record { store = store.new; input = input.new; output = O.state out.new; error = E.state error.new })) }
 {
-    let mut chart = Chart::new(sheet_for(store, page_of(request))?);
-    if matches!(request, Request::Debug(_)) {
-        out.write_at_once();
-    }
+    let path = page_of(request);
+    let mut chart = Chart::new(sheet_for(store, path)?);
+    print_at_once(request, out);
     let outcome = carry_out(
         rt, alloc, request, file, list, input, prompt, progress, &mut chart, out, error,
     );
-    close(store, chart.into_sink());
-    Ok(outcome)
+    match close(store, path, chart.into_sink()) {
+        Ok(()) => Ok(outcome),
+        Err(unmade) if is_report(outcome.status) => Err(unmade),
+        Err(_) => Ok(outcome),
+    }
 }
 
-/// Has written out what standard output kept back. It fails only behind a report.
-fn write_out<'a, O: Page>(status: u8, out: &mut O) -> Result<(), Fault<'a>>
-    ensures { MatchResult result
+/// Has what a session prints written at once, so that it precedes the next prompt.
+fn print_at_once<O: Buffered>(request: &Request<'_>, out: &mut O)
+    ensures { O.state out.new ≡ O.state out.old }
+{
+    if matches!(request, Request::Debug(_)) {
+        out.write_at_once();
+    }
+}
+
+/// Has written out what standard output kept back. It fails only after a report.
+fn write_out<'a, O: Buffered>(status: u8, out: &mut O) -> Result<(), Fault<'a>>
+    ensures written { MatchResult result
         (λ _. IsWritten status (O.state out.old) (O.state out.new))
         (λ fault. (fault ≡ Unwritten) × IsReported status × TookPart (O.state out.old) (O.state out.new) []) }
+    ensures handed_on { OnOk result (IsReported status → IsHandedOn (O.handed out.new) (O.kept out.new) (O.state out.new)) }
 {
     match out.flush() {
         Ok(()) => Ok(()),

@@ -1,5 +1,5 @@
 //! A run by chance, and one whose history is written.
-ghost use Rattle.std.specs.Prelude.{◌≡◌, ◌<◌, ◌*◌, ◌^◌, ◌++◌, MatchResult, None, take};
+ghost use Rattle.std.specs.Prelude.{◌≡◌, ◌<◌, ◌*◌, ◌^◌, ◌++◌, MatchResult, None, OnOk, take};
 ghost use Rattle.words.specs.Sinks.{TookAll};
 ghost use Rattle.command_line.specs.Runs.{shown};
 ghost use Rattle.machine.specs.States.{geometry};
@@ -7,6 +7,7 @@ ghost use Rattle.schedule.specs.Courses as behind;
 ghost use Rattle.schedule.specs.Written.{text_of};
 ghost use Rattle.texts.specs.Puts.{Puts};
 ghost use Rattle.requests.specs.Begins.{IsUnbegun};
+ghost use Rattle.requests.specs.Buffers.{IsHandedOn};
 ghost use Rattle.requests.specs.Conclusions.{IsHistoryUnput};
 ghost use Rattle.requests.specs.Schedules.{AreChosenBy};
 ghost use Rattle.simulate.specs.Given.{IsGiven, IsNotGiven};
@@ -16,7 +17,7 @@ use crate::steps::run_by_steps;
 use command_line::{Chance as Asked, Mix as Weights, Print, Run, Show};
 use machine::Progress;
 use requests::begin::{Begun, begin};
-use requests::{Fault, Page};
+use requests::{Buffered, Fault};
 use schedule::{Chance, Choice, History, KeptChance, Mix, put_choices, put_history};
 use std::alloc::Global;
 use timeline::Chart;
@@ -43,7 +44,7 @@ pub(crate) fn run_by_chance<
     const SETS: usize,
     const WAYS: usize,
     P: Progress,
-    T: Page,
+    T: Buffered,
     O: Sink,
 >(
     alloc: Global,
@@ -73,7 +74,14 @@ pub(crate) fn run_by_chance<
 
 /// Runs the program in a file by chance behind its schedule, and puts what is shown of it into `out`; then the history of the run into `chart`, whose
 /// sink stands for the file at a path. It answers the status that the program ends with.
-pub(crate) fn run_and_keep<'a, const SETS: usize, const WAYS: usize, P: Progress, T: Page, O: Sink>(
+pub(crate) fn run_and_keep<
+    'a,
+    const SETS: usize,
+    const WAYS: usize,
+    P: Progress,
+    T: Buffered,
+    O: Sink,
+>(
     alloc: Global,
     run: &Run<'a>,
     asked: Asked,
@@ -143,7 +151,7 @@ fn show_of<'a>(print: Print) -> Show<'a>
 
 /// Puts the choices of a list, so many at most, and those of a history behind them, and has them written out. If that fails, the fault names the path
 /// of their file.
-fn keep<'a, T: Page>(
+fn keep<'a, T: Buffered>(
     choices: &[Choice],
     steps: u32,
     history: &History,
@@ -160,13 +168,14 @@ fn keep<'a, T: Page>(
     }
 }
 
-fn put_both<T: Page>(
+fn put_both<T: Buffered>(
     choices: &[Choice],
     steps: u32,
     history: &History,
     page: &mut T,
 ) -> Result<(), SinkFault>
-    ensures { Puts (T.state page.old) (T.state page.new) (text_of (take steps choices.now ++ history.now.choices)) result }
+    ensures puts { Puts (T.state page.old) (T.state page.new) (text_of (take steps choices.now ++ history.now.choices)) result }
+    ensures written { OnOk result (IsHandedOn (T.handed page.new) (T.kept page.new) (T.state page.new)) }
 {
     put_choices(page, first(choices, steps))?;
     put_history(page, history)?;

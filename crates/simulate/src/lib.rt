@@ -22,6 +22,6 @@ pub use laws::{
     threaded_reports_are_one, told_ends_are_one, told_ends_are_reached,
 };
 pub use requests::{
-    Fault, HostFiles, Live, Meter, Outcome, Outlet, Page, RefusedLine, Store, StoreFault, readable,
-    source,
+    Buffered, Fault, HostFiles, Live, Meter, Outcome, Outlet, RefusedLine, Steady, Store,
+    StoreFault, readable, source,
 };

@@ -1,10 +1,11 @@
 //! A run by turns or by chance: its steps, what is shown of them, and its report.
-ghost use Rattle.std.specs.Prelude.{◌≡◌, ◌<◌, ◌*◌, ◌^◌, MatchResult};
+ghost use Rattle.std.specs.Prelude.{◌≡◌, ◌<◌, ◌*◌, ◌^◌, MatchResult, OnOk};
 ghost use Rattle.machine.specs.States.{geometry, setting_of};
 ghost use Rattle.schedule.specs.Courses.{IsUnbegun, course, forgotten};
 ghost use Rattle.command_line.specs.declared.request.Show.TheVariants as shows;
 ghost use Rattle.command_line.specs.declared.request.View.TheVariants.{Trace, Timeline, Picture, Page};
 ghost use Rattle.render.specs.Reports.{AllReadable};
+ghost use Rattle.requests.specs.Buffers.{IsHandedOn};
 ghost use Rattle.simulate.specs.Counted.{IsEnded, IsHalfEnded};
 ghost use Rattle.simulate.specs.Given.{IsGiven, IsNotGiven};
 ghost use Rattle.simulate.specs.Shown.{IsShown, IsCutShort, IsViewed, IsViewCut, IsViewFault};
@@ -17,7 +18,7 @@ use pages::put_page;
 use requests::begin::{Begun, begin};
 use requests::conclude::conclude;
 use requests::source::names_in;
-use requests::{Fault, Page};
+use requests::{Buffered, Fault};
 use schedule::{Choice, Chooser, Halt};
 use std::alloc::Global;
 use timeline::{Chart, put_picture, put_timeline};
@@ -33,7 +34,7 @@ pub(crate) fn run_by_steps<
     const WAYS: usize,
     C: Chooser<SETS, WAYS>,
     P: Progress,
-    T: Page,
+    T: Buffered,
     O: Sink,
 >(
     alloc: Global,
@@ -89,7 +90,7 @@ fn put_end<'a, const SETS: usize, const WAYS: usize, O: Sink>(
 }
 
 /// Makes the steps of a run, and puts what is shown of them before the report. It answers their counts, where these are shown.
-fn play<'a, const SETS: usize, const WAYS: usize, C, P: Progress, T: Page, O: Sink>(
+fn play<'a, const SETS: usize, const WAYS: usize, C, P: Progress, T: Buffered, O: Sink>(
     alloc: Global,
     names: &Symbols<'_>,
     machine: &mut Machine<SETS, WAYS>,
@@ -131,7 +132,14 @@ where
 }
 
 /// Makes the steps of a run, puts a view of them, and has it written out. If that fails, the fault names the path of the file.
-fn put_view<'a, const SETS: usize, const WAYS: usize, C: Chooser<SETS, WAYS>, P: Progress, T: Page>(
+fn put_view<
+    'a,
+    const SETS: usize,
+    const WAYS: usize,
+    C: Chooser<SETS, WAYS>,
+    P: Progress,
+    T: Buffered,
+>(
     alloc: Global,
     names: &Symbols<'_>,
     machine: &mut Machine<SETS, WAYS>,
@@ -145,9 +153,10 @@ fn put_view<'a, const SETS: usize, const WAYS: usize, C: Chooser<SETS, WAYS>, P:
     chart: &mut Chart<T>,
 ) -> Result<(), Fault<'a>>
     requires { IsUnbegun (C.behind chooser.old) }
-    ensures { MatchResult result
+    ensures viewed { MatchResult result
         (λ _. IsViewed names.now view (geometry SETS WAYS) words.now (course choices.now (C.behind chooser.new)) steps machine.old machine.new (T.state chart.old.sink) (T.state chart.new.sink))
         (IsViewFault names.now view (geometry SETS WAYS) words.now (course choices.now (forgotten (C.behind chooser.new))) steps machine.old machine.new (T.state chart.old.sink) (T.state chart.new.sink) path.entry) }
+    ensures written { OnOk result (IsHandedOn (T.handed chart.new.sink) (T.kept chart.new.sink) (T.state chart.new.sink)) }
 {
     match put_form(
         alloc, names, machine, choices, words, steps, view, chooser, progress, chart,

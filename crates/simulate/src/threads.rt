@@ -1,11 +1,12 @@
 //! A run whose harts are in threads of the host: all but reading and writing files.
-ghost use Rattle.std.specs.Prelude.{◌≡◌, ◌<◌, ◌*◌, ◌^◌, None, Some, ℕ, List, MatchResult};
+ghost use Rattle.std.specs.Prelude.{◌≡◌, ◌<◌, ◌*◌, ◌^◌, None, Some, ℕ, List, MatchResult, OnOk};
 ghost use Rattle.words.specs.Sinks.{SinkState, TookAll};
 ghost use Rattle.table.specs.Slots.{AreWordsOf};
 ghost use Rattle.machine.specs.States.{geometry, setting_of};
 ghost use Rattle.board.specs.Histories.{no_step};
 ghost use Rattle.schedule.specs.Written.{text_of};
 ghost use Rattle.texts.specs.Puts.{Puts};
+ghost use Rattle.requests.specs.Buffers.{IsHandedOn};
 ghost use Rattle.requests.specs.Conclusions.{IsConcluded, IsHistoryUnput, IsHalfPut};
 ghost use Rattle.render.specs.Reports.{AllReadable};
 ghost use Rattle.requests.specs.Sources.{IsProgramIn, IsProgramFault};
@@ -18,7 +19,7 @@ use loader::Program;
 use requests::conclude::conclude;
 use requests::readable::readable;
 use requests::source::program_in;
-use requests::{Fault, Page};
+use requests::{Buffered, Fault};
 use schedule::{History, put_history, written_choices_are_read};
 use std::alloc::Global;
 use std::sync::Wait;
@@ -37,7 +38,7 @@ pub(crate) fn run_in_threads<
     const SETS: usize,
     const WAYS: usize,
     R: Threads + Wait + Sync,
-    T: Page,
+    T: Buffered,
     O: Sink,
 >(
     rt: &R,
@@ -88,7 +89,14 @@ fn run_unkept<'a, const SETS: usize, const WAYS: usize, R: Threads + Wait + Sync
 }
 
 /// Runs a decoded program, and puts its history before the report.
-fn run_kept<'a, const SETS: usize, const WAYS: usize, R: Threads + Wait + Sync, T: Page, O: Sink>(
+fn run_kept<
+    'a,
+    const SETS: usize,
+    const WAYS: usize,
+    R: Threads + Wait + Sync,
+    T: Buffered,
+    O: Sink,
+>(
     rt: &R,
     alloc: Global,
     run: &Run<'a>,
@@ -115,7 +123,7 @@ fn run_kept<'a, const SETS: usize, const WAYS: usize, R: Threads + Wait + Sync, 
 }
 
 /// Puts the history of a run, and has it written out, and then puts the report. It answers the status.
-fn keep_and_conclude<'a, const SETS: usize, const WAYS: usize, T: Page, O: Sink>(
+fn keep_and_conclude<'a, const SETS: usize, const WAYS: usize, T: Buffered, O: Sink>(
     end: &Finished<'_, SETS, WAYS, History>,
     addrs: &[Addr],
     path: &'a str,
@@ -191,7 +199,7 @@ fn make_ready<'p, 'a, const SETS: usize, const WAYS: usize, J: Journal<SETS, WAY
 }
 
 /// Puts a history, and has it written out. If that fails, the fault names the path of its file.
-fn keep<'a, T: Page>(history: &History, path: &'a str, page: &mut T) -> Result<(), Fault<'a>>
+fn keep<'a, T: Buffered>(history: &History, path: &'a str, page: &mut T) -> Result<(), Fault<'a>>
     ensures { MatchResult result
         (λ _. TookAll (T.state page.old) (T.state page.new) (text_of history.now.choices))
         (IsHistoryUnput (text_of history.now.choices) path.entry (T.state page.old) (T.state page.new)) }
@@ -203,8 +211,9 @@ fn keep<'a, T: Page>(history: &History, path: &'a str, page: &mut T) -> Result<(
 }
 
 /// Puts a history, and has it written out.
-fn put_whole<T: Page>(history: &History, page: &mut T) -> Result<(), SinkFault>
-    ensures { Puts (T.state page.old) (T.state page.new) (text_of history.now.choices) result }
+fn put_whole<T: Buffered>(history: &History, page: &mut T) -> Result<(), SinkFault>
+    ensures puts { Puts (T.state page.old) (T.state page.new) (text_of history.now.choices) result }
+    ensures written { OnOk result (IsHandedOn (T.handed page.new) (T.kept page.new) (T.state page.new)) }
 {
     put_history(page, history)?;
     page.flush()

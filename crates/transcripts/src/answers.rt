@@ -1,7 +1,7 @@
 use crate::echo::Echoed;
 use debugger::{LineInput, Typed};
 use machine::Silent;
-use simulate::{HostFiles, Outlet, answer};
+use simulate::{HostFiles, Outlet, Steady, answer};
 use std::io::Read;
 use std::rt::Files;
 use std::sync::Wait;
@@ -24,7 +24,10 @@ pub(crate) fn answered<R: Files + Threads + Wait + Sync + AllocGlobal + Print>(
     rt: &R,
     command: &str,
     telling: Telling,
-) -> io::Result<u8> {
+) -> io::Result<u8>
+where
+    R::File: Steady,
+{
     if let Some(path) = command.strip_prefix("cat ") {
         return show_file(rt, path);
     }
@@ -48,7 +51,10 @@ fn answered_at_once<R: Files + Threads + Wait + Sync + AllocGlobal + Print>(
     rt: &R,
     command: &str,
     typed: &[u8],
-) -> io::Result<u8> {
+) -> io::Result<u8>
+where
+    R::File: Steady,
+{
     let mut input = Typed {
         bytes: typed.bytes(),
         failed: 0,
@@ -69,7 +75,10 @@ fn answered_apart<R: Files + Threads + Wait + Sync + AllocGlobal + Print>(
     rt: &R,
     command: &str,
     typed: &[u8],
-) -> io::Result<u8> {
+) -> io::Result<u8>
+where
+    R::File: Steady,
+{
     let mut error = Taken {
         bytes: Vec::new(rt.alloc()),
         failed: 0,
@@ -85,7 +94,10 @@ fn answered_aloud<R: Files + Threads + Wait + Sync + AllocGlobal + Print, E: Sin
     command: &str,
     typed: &[u8],
     error: &mut E,
-) -> io::Result<u8> {
+) -> io::Result<u8>
+where
+    R::File: Steady,
+{
     let mut input = Echoed {
         input: Typed {
             bytes: typed.bytes(),
@@ -124,7 +136,10 @@ fn status_of<R: Files + Threads + Wait + Sync + AllocGlobal + Print, I: LineInpu
     command: &str,
     input: &mut I,
     error: &mut E,
-) -> io::Result<u8> {
+) -> io::Result<u8>
+where
+    R::File: Steady,
+{
     let words = command.split(' ').collect::<Vec<&str>>(rt.alloc())?;
     let mut out = Outlet::new(rt.alloc(), io::writer(rt))?;
     Ok(answer(

@@ -1,4 +1,5 @@
 use crate::answers::{Telling, answered};
+use simulate::Steady;
 use std::rt::Files;
 use std::sync::Wait;
 use std::thread::Threads;
@@ -42,7 +43,10 @@ pub(crate) fn play<R: Files + Threads + Wait + Sync + AllocGlobal + Print>(
     rt: &R,
     list: &str,
     telling: Telling,
-) -> io::Result<()> {
+) -> io::Result<()>
+where
+    R::File: Steady,
+{
     let text = fs::read_to_string(rt, list)?;
     let mut made = Made {
         path: "",
@@ -59,7 +63,10 @@ fn play_line<'a, R: Files + Threads + Wait + Sync + AllocGlobal + Print>(
     line: &'a str,
     made: &mut Made<'a>,
     telling: Telling,
-) -> io::Result<()> {
+) -> io::Result<()>
+where
+    R::File: Steady,
+{
     match read(line) {
         Line::Comment => println!(rt; "{line}"),
         Line::File(path) => {

@@ -1,7 +1,7 @@
 //! A sink that fails.
-ghost use Rattle.std.specs.Prelude.{None};
+ghost use Rattle.std.specs.Prelude.{None, [], refl};
 
-use simulate::Page;
+use simulate::Buffered;
 use std::alloc::Global;
 use words::{Sink, SinkFault};
 
@@ -71,7 +71,13 @@ impl Sink for Paper {
     }
 }
 
-impl Page for Paper {
+impl Buffered for Paper {
+    ghost handed = { λ _. None };
+
+    ghost kept = { λ _. [] };
+
+    ghost in_order = { λ _. refl };
+
     fn flush(&mut self) -> Result<(), SinkFault> {
         if self.flushes {
             return Ok(());

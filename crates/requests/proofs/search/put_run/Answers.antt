@@ -10,7 +10,7 @@ returns-in-Ok g c =
     ap (λ (t : Table). lines_of t c.deref.result.now) c.none-names.ensures ∙ ap (lines_of no_symbols) c.deref.ensures.value in (
       c.in_ok-entries.entries.items,
       c.in_ok-entries.ensures,
-      subst (λ (l : List ℕ). TookAll (g.T.Sink.state c.args.page.now) (g.T.Sink.state c.put_lines.new.page) l) text (record { whole = c.in-Ok.ensures.whole; clean = c.in-Ok.ensures.clean }),
+      subst (λ (l : List ℕ). TookAll (g.T.Sink.state c.args.page.now) (g.T.Sink.state c.put_lines.new.page) l) text (record { whole = c.in-Ok.ensures.lines.whole; clean = c.in-Ok.ensures.lines.clean }),
     )
 
 pub returns : goal.returns
@@ -22,6 +22,6 @@ returns g c =
       (
         c.in_ok-entries.entries.items,
         c.in_ok-entries.ensures,
-        subst (λ (l : List ℕ). TookPart (g.T.Sink.state c.args.page.now) (g.T.Sink.state c.put_lines.new.page) l) text (record { part = c.in-Err.ensures.part; fault = c.in-Err.ensures.fault }),
+        subst (λ (l : List ℕ). TookPart (g.T.Sink.state c.args.page.now) (g.T.Sink.state c.put_lines.new.page) l) text (record { part = c.in-Err.ensures.lines.part; fault = c.in-Err.ensures.lines.fault }),
       ),
     )

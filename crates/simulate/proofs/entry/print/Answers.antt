@@ -3,5 +3,5 @@ use Rattle.texts.proofs.Putting.{puts-both, puts-same}
 use Rattle.requests.specs.Faults.{fault_text}
 use Rattle.simulate.proofs.entry.print.Goals as goal
 
-pub returns : goal.returns
-returns g c = puts-same (append-nil (fault_text c.args.fault.now)) (puts-both c.in_ok-put.ensures c.flush.ensures)
+pub returns-clause-puts : goal.returns-clause-puts
+returns-clause-puts g c = puts-same (append-nil (fault_text c.args.fault.now)) (puts-both c.in_ok-put.ensures c.flush.ensures.puts)

@@ -10,12 +10,12 @@ one_text : (first taken kept : List Choice) → first ≡ taken → text_of firs
 one_text first taken kept is =
     ap (λ (l : List Choice). text_of l ++ (text_of kept ++ [])) is ∙ ap (λ (l : List ℕ). text_of taken ++ l) (append-nil (text_of kept)) ∙ sym (flat_map-append (λ (c : Choice). line_of c ++ codes "\n") taken kept)
 
-pub returns-in_err-put_history : goal.returns-in_err-put_history
-returns-in_err-put_history g c =
+pub returns-in_err-put_history-clause-puts : goal.returns-in_err-put_history-clause-puts
+returns-in_err-put_history-clause-puts g c =
     puts-same (one_text c.first.result.now (take c.args.steps c.args.choices.now) c.args.history.now.choices c.first.ensures)
     (puts-both c.in_ok-put_choices.ensures (puts-cut [] c.in_err-put_history.was c.put_history.ensures c.from_residual-in_err-put_history.ensures.0))
 
-pub returns : goal.returns
-returns g c =
+pub returns-clause-puts : goal.returns-clause-puts
+returns-clause-puts g c =
     puts-same (one_text c.first.result.now (take c.args.steps c.args.choices.now) c.args.history.now.choices c.first.ensures)
-    (puts-both c.in_ok-put_choices.ensures (puts-both c.in_ok-put_history.ensures c.flush.ensures))
+    (puts-both c.in_ok-put_choices.ensures (puts-both c.in_ok-put_history.ensures c.flush.ensures.puts))
