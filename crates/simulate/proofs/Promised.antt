@@ -26,7 +26,7 @@ use Rattle.simulate.specs.Threaded.{IsGivenInThreads, history_text, with_steps}
 use Rattle.simulate.proofs.OneReport.{texts_once}
 
 module _ (g : Geometry) (run : Run) (behind : Behind) (show : Show) (file list : List ℕ) where
-  reached : (ms : List Moment) (f : Flat) → ComesBy g run.setup behind file list run.steps ms f → IsReached g run behind file list ms f
+  abbrev reached : (ms : List Moment) (f : Flat) → ComesBy g run.setup behind file list run.steps ms f → IsReached g run behind file list ms f
   reached ms f comes = record {
     comes = comes;
     serial = λ before its after i u v is runs attempt. as_if_alone (flat_start comes.program run.setup).setting comes.program.entry before i u v its runs attempt;
