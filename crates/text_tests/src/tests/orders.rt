@@ -358,7 +358,7 @@ fn wants_memory(fault: &OrderFault<'_>) -> bool {
         OrderFault::Value(..) => false,
         OrderFault::TwoViews | OrderFault::LongPicture | OrderFault::LongPage => false,
         OrderFault::ThreadsAlone | OrderFault::MixAlone | OrderFault::TwoFiles => false,
-        OrderFault::Refused(_) => false,
+        OrderFault::Asked(_) | OrderFault::Refused(_) => false,
     }
 }
 
@@ -401,6 +401,7 @@ fn is_fault_with(fault: &OrderFault<'_>, part: &str) -> bool {
         OrderFault::TwoViews | OrderFault::LongPicture | OrderFault::LongPage => false,
         OrderFault::ThreadsAlone | OrderFault::MixAlone | OrderFault::TwoFiles => false,
         OrderFault::Value(_argument, value) => *value == part,
+        OrderFault::Asked(_) => false,
         OrderFault::Refused(text) => text.contains(part),
     }
 }
